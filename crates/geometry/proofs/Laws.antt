@@ -1,0 +1,218 @@
+-- Where sectors stand, as the crates above may know it: laws over the whole drive first, and the volumes' as corollaries.
+-- Each is a law of Counting, met through the equations of Inside; nothing here depends on what B is.
+use Prim.Native.Nat.{ℕ, _+_, _-_, _*_, _/_, _%_, _≤_, _<_}
+use mathlib.Core.Logic.{by-cases, if-neg, if-pos}
+use mathlib.Core.Path.{_≡_, refl, sym, ap, _∙_}
+use native.Mathlib.Decide.{decLt}
+use native.Mathlib.Nat.{add-assoc, add-sub-cancel-left, add-zero, mul-le-mul, mul-le-mul-left, mul-le-mul-right}
+use native.Mathlib.Omega.{arith}
+use lib.Arith.{digits-div}
+use Rattle.geometry.specs.declared.Address.{Address}
+use Rattle.geometry.specs.declared.Geometry.{Geometry}
+use Rattle.geometry.specs.declared.VolumeNumber.{VolumeNumber}
+use Rattle.geometry.specs.declared.VolumeNumber.the-variants.{Zero, One}
+use Rattle.geometry.specs.Drive.{B, C, N, S, driveHeads, driveSectors, end, marksAt, need, start, table11, volume, volumeSectors}
+use Rattle.geometry.specs.Drive.Inside.{driveSectors-is, marksAt-is, need-is, volumeSectors-is}
+use Rattle.geometry.specs.Limits.{Has, Present, VolumesWithin, Within}
+use Rattle.geometry.specs.Sectors.{InVolume, OnDrive, address, addressOf, firstByte, markByte, next, numberOf, placeOf}
+use Rattle.geometry.specs.Sectors.Inside.{addressOf-is, firstByte-is, markByte-is, next-is, numberOf-is, placeOf-is}
+use Rattle.geometry.proofs.Counting.{Digits, counted-back, counted-below, counted-once, cylinder-back, digits-of, head-back, sector-back}
+use Rattle.geometry.proofs.Ends.{end-present, end-reached, heads-of-within, heads-reached}
+
+-- ---- over the whole drive
+
+module _ (g : Geometry) where
+  -- A sector of the drive has a place inside the drive.
+  pub place-inside : (a : Address) → OnDrive g a → placeOf g a < driveSectors g
+  place-inside a on =
+      rw (placeOf-is, driveSectors-is)
+      (counted-below (driveHeads g) (S g) (C g) (a .cylinder) (a .head) (a .sector) (on .cylinder) (on .head) (on .sector))
+
+  -- Two different addresses have two different places.
+  pub places-differ : (a b : Address) → OnDrive g a → OnDrive g b → placeOf g a ≡ placeOf g b → a ≡ b
+  places-differ a b on-a on-b same =
+      let d =
+      counted-once (driveHeads g) (S g) (a .cylinder) (a .head) (a .sector) (b .cylinder) (b .head) (b .sector)
+      (on-a .head) (on-a .sector) (on-b .head) (on-b .sector)
+      (sym (placeOf-is g a) ∙ same ∙ placeOf-is g b) in
+      λ i. address (d .0 i) (d .1 .0 i) (d .1 .1 i)
+
+  -- The bytes of a place inside the drive lie before the marks.
+  pub bytes-inside : (p : ℕ) → p < driveSectors g → firstByte g p + B g ≤ marksAt g
+  bytes-inside p inside = rw (firstByte-is, marksAt-is) (omega (arith, mul-le-mul-right (B g) inside))
+
+  -- Its mark lies among the marks, inside what the image needs.
+  pub mark-inside : (p : ℕ) → p < driveSectors g → (marksAt g ≤ markByte g p) × (markByte g p < need g)
+  mark-inside p inside = rw (markByte-is, need-is) (omega arith)
+
+  -- The rest of a track is consecutive in the image.
+  pub track-consecutive : (c h s k : ℕ) → placeOf g (address c h (s + k)) ≡ placeOf g (address c h s) + k
+  track-consecutive c h s k = omega (arith, placeOf-is g (address c h (s + k)), placeOf-is g (address c h s))
+
+  -- Two places whose sectors share a byte are one place.
+  pub bytes-differ : (p q i j : ℕ) → i < B g → j < B g → firstByte g p + i ≡ firstByte g q + j → p ≡ q
+  bytes-differ p q i j i< j< same =
+      sym (digits-div p i<) ∙ ap (λ (n : ℕ). n / B g) (rw (firstByte-is, firstByte-is) at same) ∙ digits-div q j<
+
+-- ---- the volumes
+
+module _ (g : Geometry) (v : VolumeNumber) where
+  abbrev Nv : ℕ
+  Nv = N (volume g v)
+
+  -- The number that a physical address has leads back to that address.
+  pub number-leads-back :
+      (c h s : ℕ) → h < Nv → s < S g → addressOf g v (numberOf g v c h s) ≡ address c (start (volume g v) + h) s
+  number-leads-back c h s h< s< =
+      rw (
+        numberOf-is,
+        addressOf-is,
+        cylinder-back Nv (S g) c h s h< s<,
+        head-back Nv (S g) c h s h< s<,
+        sector-back Nv (S g) c h s s<,
+      )
+
+  leads-to :
+      (m c h s : ℕ) → h < Nv → s < S g → m ≡ (c * Nv + h) * S g + s → addressOf g v m ≡ address c (start (volume g v) + h) s
+  leads-to m c h s h< s< is = rw (is ∙ sym (numberOf-is g v c h s)) (number-leads-back c h s h< s<)
+
+  pub number-inside : (c h s : ℕ) → InVolume g v c h s → numberOf g v c h s < volumeSectors g v
+  number-inside c h s in-it =
+      rw (numberOf-is, volumeSectors-is)
+      (counted-below Nv (S g) (C g) c h s (in-it .cylinder) (in-it .head) (in-it .sector))
+
+  module _ (n : ℕ) (inside : n < volumeSectors g v) where
+    abbrev cyl : ℕ
+    cyl = n / (S g * Nv)
+
+    abbrev hd : ℕ
+    hd = n / S g % Nv
+
+    abbrev sec : ℕ
+    sec = n % S g
+
+    digits : Digits Nv (S g) (C g) n
+    digits = digits-of Nv (S g) (C g) n (rw volumeSectors-is at inside)
+
+    number-of-digits : numberOf g v cyl hd sec ≡ n
+    number-of-digits = numberOf-is g v cyl hd sec ∙ counted-back Nv (S g) n
+
+    -- A number of a volume leads to an address on the drive.
+    pub address-on-drive : OnDrive g (addressOf g v n)
+    address-on-drive =
+        rw addressOf-is (omega (arith, digits, end-present (volume g v) (digits .heads), end-reached g v))
+
+    -- It is one of the volume's: its head is one of the volume's heads.
+    pub address-in-volume : Has (volume g v) (addressOf g v n .head)
+    unfolding Has
+    address-in-volume = rw addressOf-is (omega (arith, digits))
+
+    -- The address that a number leads to has that number.
+    pub address-leads-back :
+        numberOf g v (addressOf g v n .cylinder) (addressOf g v n .head - start (volume g v)) (addressOf g v n .sector) ≡ n
+    address-leads-back = rw (addressOf-is, add-sub-cancel-left) number-of-digits
+
+    next-track : (sec + 1 < S g → ⊥) → hd + 1 < Nv → addressOf g v (n + 1) ≡ address cyl (start (volume g v) + hd + 1) 0
+    next-track at-end more =
+        rw add-assoc
+        (leads-to (n + 1) cyl (hd + 1) 0 more (digits .sectors) (omega (arith, digits, counted-back Nv (S g) n)))
+
+    next-cylinder :
+        (sec + 1 < S g → ⊥) → (hd + 1 < Nv → ⊥) → addressOf g v (n + 1) ≡ address (cyl + 1) (start (volume g v)) 0
+    next-cylinder at-end at-last =
+        let full : hd + 1 ≡ Nv = omega (arith, digits) in
+        leads-to (n + 1) (cyl + 1) 0 0 (digits .heads) (digits .sectors)
+        (omega (arith, digits, counted-back Nv (S g) n, ap (λ (x : ℕ). x * S g) full))
+        ∙ simp add-zero
+
+    -- Consecutive numbers go by sector, head, cylinder.
+    pub numbers-consecutive : addressOf g v (n + 1) ≡ next g v (addressOf g v n)
+    numbers-consecutive =
+        let last = end-present (volume g v) (digits .heads) in
+        let on-track = decLt (sec + 1) (S g) in
+        let on-cylinder = decLt (start (volume g v) + hd + 1) (end (volume g v)) in
+        rw (next-is, addressOf-is g v n)
+        (by-cases on-track
+        (λ s<.
+        leads-to (n + 1) cyl hd (sec + 1) (digits .head) s< (omega (arith, counted-back Nv (S g) n))
+        ∙ sym (if-pos on-track s< _ _))
+        (λ at-end.
+        by-cases on-cylinder
+        (λ h<. next-track at-end (omega arith) ∙ sym (if-pos on-cylinder h< _ _))
+        (λ at-last. next-cylinder at-end (λ h<. at-last (omega arith)) ∙ sym (if-neg on-cylinder at-last _ _))
+        ∙ sym (if-neg on-track at-end _ _)))
+
+    -- The rest of a track is consecutive in the volume.
+    pub track-numbers :
+        (k : ℕ) → addressOf g v n .sector + k < S g →
+        addressOf g v (n + k) ≡
+        address (addressOf g v n .cylinder) (addressOf g v n .head) (addressOf g v n .sector + k)
+    track-numbers k rest =
+        let back = counted-back Nv (S g) n in
+        rw (addressOf-is g v n)
+        (leads-to (n + k) cyl hd (sec + k) (digits .head) (rw addressOf-is at rest) (omega arith))
+
+    pub track-inside : (k : ℕ) → addressOf g v n .sector + k < S g → n + k < volumeSectors g v
+    track-inside k rest =
+        let more : sec + k < S g = rw addressOf-is at rest in
+        let is : n + k ≡ numberOf g v cyl hd (sec + k) =
+        omega (arith, numberOf-is g v cyl hd (sec + k), counted-back Nv (S g) n) in
+        rw is (number-inside cyl hd (sec + k) (omega (arith, digits)))
+
+    pub track-places :
+        (k : ℕ) → addressOf g v n .sector + k < S g → placeOf g (addressOf g v (n + k)) ≡ placeOf g (addressOf g v n) + k
+    track-places k rest = rw (track-numbers k rest) (track-consecutive g _ _ _ k)
+
+  -- Two different numbers of a volume have two different places.
+  pub numbers-differ :
+      (n m : ℕ) → n < volumeSectors g v → m < volumeSectors g v →
+      placeOf g (addressOf g v n) ≡ placeOf g (addressOf g v m) → n ≡ m
+  numbers-differ n m n-in m-in same =
+      let a = places-differ g _ _ (address-on-drive n n-in) (address-on-drive m m-in) same in
+      sym (address-leads-back n n-in)
+      ∙ ap (λ (x : Address). numberOf g v (x .cylinder) (x .head - start (volume g v)) (x .sector)) a
+      ∙ address-leads-back m m-in
+
+  -- A volume has no more sectors than the drive.
+  pub volume-in-drive : volumeSectors g v ≤ driveSectors g
+  volume-in-drive =
+      rw (volumeSectors-is, driveSectors-is)
+      (mul-le-mul-right (S g) (mul-le-mul-left (C g) (heads-reached g v)))
+
+-- Sectors of two volumes have different places.
+pub volumes-differ :
+    (g : Geometry) → VolumesWithin g → (n m : ℕ) → n < volumeSectors g Zero → m < volumeSectors g One →
+    placeOf g (addressOf g Zero n) ≡ placeOf g (addressOf g One m) → ⊥
+unfolding Has Present
+volumes-differ g w n m n-in m-in same =
+    let a = places-differ g _ _ (address-on-drive g Zero n n-in) (address-on-drive g One m m-in) same in
+    let in0 = address-in-volume g Zero n n-in in
+    let in1 = rw (← a) at (address-in-volume g One m m-in) in
+    w .apart (omega arith) (addressOf g Zero n .head) in0 in1
+
+-- ---- at the limits
+
+-- An image needs at most 273,871,011,840 bytes.
+pub need-at-most : (g : Geometry) → Within g → need g ≤ 273871011840
+need-at-most g w =
+    let tracks = mul-le-mul (w .cylinders .1) (heads-of-within g (w .volumes)) in
+    let both : B g + 1 ≤ 4097 = omega (arith, w .bytes) in
+    let all : driveSectors g * (B g + 1) ≤ 4096 * 64 * 255 * 4097 =
+    rw driveSectors-is (mul-le-mul (mul-le-mul tracks (w .sectors .1)) both) in
+    omega (arith, need-is g, marksAt-is g, all)
+
+-- The default is inside the limits.
+pub default-within : Within table11
+unfolding Has Present
+default-within =
+    record {
+      cylinders = omega arith;
+      sectors = omega arith;
+      bytes = omega arith;
+      volumes =
+          record {
+            one-head = omega arith;
+            ends = λ v. elim v [ Zero ↦ λ p. omega arith | One ↦ λ p. omega arith ];
+            apart = λ p. omega arith;
+          };
+    }

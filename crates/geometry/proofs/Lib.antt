@@ -1,0 +1,5 @@
+pub mod Answers
+pub mod Counting
+pub mod Ends
+pub mod Laws
+pub mod Outcomes

@@ -1,0 +1,26 @@
+use mathlib.Core.Path.{refl}
+use Prim.Native.Nat.{_*_}
+use native.Mathlib.Nat.{mul-le-mul}
+use native.Mathlib.Omega.{arith}
+use Rattle.wire.proofs.Numbers.{product-below}
+use borrow.Author.Needs.{needs}
+use Rattle.geometry.proofs.sizes.product.Statement.{statement}
+use Rattle.geometry.proofs.sizes.product.Tie as tie
+use Rattle.geometry.proofs.sizes.product.Reads as reads
+use Rattle.geometry.proofs.sizes.product.Lts as lts
+
+-- src/sizes.rt:12:5
+mul-result : tie.Need-mul-result
+mul-result c = record { fits = product-below _ _ 65535 65535 _ (omega arith) (omega arith) tt }
+
+-- src/sizes.rt:12:5
+mul-result-2 : tie.Need-mul-result-2
+mul-result-2 c = record { fits = product-below _ _ (65535 * 65535) 65535 _ (mul-le-mul {n₂ = 65535} {m₂ = 65535} (omega arith) (omega arith)) (omega arith) tt }
+
+-- src/sizes.rt:9:1
+returns : tie.Need-returns
+returns c =
+    (refl, product-below _ _ (65535 * 65535) 65535 _ (mul-le-mul {n₂ = 65535} {m₂ = 65535} (omega arith) (omega arith)) (omega arith) tt)
+
+pub product-spec : {M : Type 1} → statement M
+product-spec = tie.close (tie.spec mul-result mul-result-2 returns)

@@ -1,0 +1,3 @@
+pub mod Drive
+pub mod Limits
+pub mod Sectors

@@ -1,0 +1,41 @@
+-- Each promise of this crate leaves one result, read off the contracts as the source states them.
+-- Each is an equation with a definition, or an answer about a statement, which is true in one case and false in the other.
+use mathlib.Core.Path.{_∙_, sym}
+use Rattle.wire.specs.Promise.{OneResult}
+use Rattle.wire.proofs.Promises.{says-once}
+use Rattle.unit.proofs.Record.counts_as_initialized.Reads as counts-as-initialized
+use Rattle.unit.proofs.Record.cylinder.Reads as cylinder
+use Rattle.unit.proofs.Record.geometry.Reads as geometry
+use Rattle.unit.proofs.Record.initialized.Reads as initialized
+use Rattle.unit.proofs.Record.land.Reads as land
+use Rattle.unit.proofs.Record.land_track.Reads as land-track
+use Rattle.unit.proofs.Record.moved_to.Reads as moved-to
+use Rattle.unit.proofs.Record.new.Reads as new
+use Rattle.unit.proofs.Record.number.Reads as number
+
+counts-as-initialized-once : OneResult counts-as-initialized.Post
+counts-as-initialized-once κ a e x y p q = says-once x y _ p q
+
+cylinder-once : OneResult cylinder.Post
+cylinder-once κ a e x y p q = p ∙ sym q
+
+geometry-once : OneResult geometry.Post
+geometry-once κ a e x y p q = p ∙ sym q
+
+initialized-once : OneResult initialized.Post
+initialized-once κ a e x y p q = p ∙ sym q
+
+land-once : OneResult land.Post
+land-once κ a e x y p q = p ∙ sym q
+
+land-track-once : OneResult land-track.Post
+land-track-once κ a e x y p q = p ∙ sym q
+
+moved-to-once : OneResult moved-to.Post
+moved-to-once κ a e x y p q = p ∙ sym q
+
+new-once : OneResult new.Post
+new-once κ a e x y p q = p ∙ sym q
+
+number-once : OneResult number.Post
+number-once κ a e x y p q = p ∙ sym q

@@ -1,0 +1,133 @@
+// The unit record: when it counts as initialized, and where a request lands on it.
+// It is the one door to where a sector stands, so that an order of tracks or a table of spares can come in behind it.
+// It moves no data and sees no image; a record goes in and comes back by value.
+use geometry::Address;
+use geometry::Found;
+use geometry::Geometry;
+use geometry::Number;
+use geometry::Place;
+use geometry::VolumeNumber;
+ghost use mathlib.Core.Bool.{true};
+ghost use mathlib.Core.Path.{_≡_};
+ghost use Rattle.unit.specs.Landing.{landing, landingAt, numberOn, trackLanding};
+ghost use Rattle.unit.specs.Standing.{CountsAsInitialized, recordOf};
+ghost use Rattle.wire.specs.Promise.{Says};
+
+// A unit's record, of any contents: what it says of itself is judged by `counts_as_initialized`.
+pub struct Record {
+    initialized: bool,
+    geometry: Geometry,
+    cylinder: u16,
+}
+
+// Where a sector stands: its cylinder, its place in the image, and how many sectors there are from it to the end of its
+// track, itself counted, which follow one another in the image.
+pub struct Spot {
+    pub cylinder: u16,
+    pub place: u64,
+    pub rest: u16,
+}
+
+// Where a request lands, if the drive has what it names.
+pub enum Landing {
+    At(Spot),
+    Outside,
+}
+
+impl Record {
+    pub fn new(initialized: bool, geometry: Geometry, cylinder: u16) -> Record
+        ensures { λ r. ⌜ r ≡ recordOf initialized geometry cylinder ⌝ }
+    {
+        Record {
+            initialized,
+            geometry,
+            cylinder,
+        }
+    }
+
+    // What the record says of itself.
+    pub fn initialized(self) -> bool
+        ensures { λ r. ⌜ r ≡ self .initialized ⌝ }
+    {
+        self.initialized
+    }
+
+    pub fn geometry(self) -> Geometry
+        ensures { λ r. ⌜ r ≡ self .geometry ⌝ }
+    {
+        self.geometry
+    }
+
+    // The cylinder that the heads stand on.
+    pub fn cylinder(self) -> u16
+        ensures { λ r. ⌜ r ≡ self .cylinder ⌝ }
+    {
+        self.cylinder
+    }
+
+    // The record once its heads stand on another cylinder.
+    pub fn moved_to(self, cylinder: u16) -> Record
+        ensures { λ r. ⌜ r ≡ recordOf (self .initialized) (self .geometry) cylinder ⌝ }
+    {
+        let geometry = self.geometry;
+        Record {
+            initialized: self.initialized,
+            geometry,
+            cylinder,
+        }
+    }
+
+    // Whether it counts as initialized.
+    pub fn counts_as_initialized(self) -> bool
+        ensures { λ r. ⌜ Says r (CountsAsInitialized self) ⌝ }
+    {
+        if !self.initialized {
+            return false;
+        }
+        if !self.geometry.is_within() {
+            return false;
+        }
+        self.cylinder < self.geometry.cylinders()
+    }
+
+    // The number in a volume of a physical address, whose head is counted from the volume's start head.
+    pub fn number(self, v: VolumeNumber, cylinder: u16, head: u16, sector: u16) -> Number
+        ensures { λ r. ⌜ r ≡ numberOn self v cylinder head sector ⌝ }
+    {
+        self.geometry.number(v, cylinder, head, sector)
+    }
+
+    // Where the sector with a number in a volume lands.
+    pub fn land(self, v: VolumeNumber, number: u64) -> Landing
+        ensures { λ r. ⌜ r ≡ landing self v number ⌝ }
+    {
+        match self.geometry.address(v, number) {
+            Found::At(a) => self.land_at(a),
+            Found::Outside => Landing::Outside,
+        }
+    }
+
+    // Where the first sector of a track lands, its head counted over the whole drive.
+    pub fn land_track(self, cylinder: u16, head: u16) -> Landing
+        ensures { λ r. ⌜ r ≡ trackLanding self cylinder head ⌝ }
+    {
+        self.land_at(Address {
+            cylinder,
+            head,
+            sector: 0,
+        })
+    }
+
+    fn land_at(self, a: Address) -> Landing
+        ensures { λ r. ⌜ r ≡ landingAt (self .geometry) a ⌝ }
+    {
+        match self.geometry.place(a) {
+            Place::At(place) => Landing::At(Spot {
+                cylinder: a.cylinder,
+                place,
+                rest: self.geometry.sectors_a_track() - a.sector,
+            }),
+            Place::Outside => Landing::Outside,
+        }
+    }
+}

@@ -1,0 +1,4 @@
+pub mod Laws
+pub mod Numbers
+pub mod Outcomes
+pub mod Promises

@@ -1,0 +1,47 @@
+-- How a yes or no that was computed comes to speak of a statement.
+-- Each law takes the answer's two values apart.
+use Prim.Native.Nat.{ℕ, _<_, _≤_}
+use mathlib.Core.Bool.{Bool, true, false, not, false≢true, true≢false}
+use mathlib.Core.Path.{_≡_, refl}
+use native.Mathlib.Omega.{arith}
+use borrow.Author.Tests.{leb-false, leb-true}
+use lib.Dec.{leb}
+use Rattle.wire.specs.Promise.{Says}
+
+-- What `cc` makes of an equation between two different answers, which no answer meets.
+pub never : _≡_ {A = ℕ} 0 1 → ⊥
+never e = omega arith
+
+-- A comparison says what follows from each of its outcomes.
+pub says-leb : (a b : ℕ) (P : Type 0) → (a ≤ b → P) → (b < a → P → ⊥) → Says (leb a b) P
+says-leb a b P yes-is no-is = by-value (leb a b) refl
+  where
+    by-value : (t : Bool) → leb a b ≡ t → Says t P
+    by-value true e = yes-is (leb-true a b e)
+    by-value false e = no-is (leb-false a b e)
+
+-- An answer about one statement is an answer about another that holds in the same cases.
+pub says-same : (t : Bool) (P Q : Type 0) → (P → Q) → (Q → P) → Says t P → Says t Q
+says-same true P Q to from s = to s
+says-same false P Q to from s = λ q. s (from q)
+
+-- What a branch on the negated answer knows.
+pub granted : (t : Bool) (P : Type 0) → not t ≡ false → Says t P → P
+granted true P e s = s
+granted false P e s = absurd (true≢false e)
+
+pub denied : (t : Bool) (P : Type 0) → not t ≡ true → Says t P → P → ⊥
+denied true P e s = absurd (false≢true e)
+denied false P e s = s
+
+-- A flag says of itself that it is set.
+pub says-set : (t : Bool) → Says t (t ≡ true)
+says-set true = refl
+says-set false = false≢true
+
+-- Two answers about one statement are equal.
+pub says-once : (t u : Bool) (P : Type 0) → Says t P → Says u P → t ≡ u
+says-once true true P s r = refl
+says-once true false P s r = absurd (r s)
+says-once false true P s r = absurd (s r)
+says-once false false P s r = refl

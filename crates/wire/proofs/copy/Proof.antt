@@ -1,0 +1,85 @@
+use Prim.Native.Nat.{_≤_, _-_}
+use mathlib.Core.Path.{_≡_, refl}
+use native.Mathlib.Omega.{arith}
+use lib.ListN.{length, drop, length-set}
+use Rattle.wire.proofs.Laws.{copied-more}
+use lib.Seq.{paste-zero}
+use Rattle.wire.specs.Copy.{copied}
+use Rattle.wire.proofs.copy.Statement.{statement}
+use Rattle.wire.proofs.copy.Tie as tie
+use Rattle.wire.proofs.copy.Reads as reads
+use Rattle.wire.proofs.copy.Lts as lts
+
+abbrev Inv-loop : tie.InvT-loop
+Inv-loop bytes from into₀ to n i₀ into i = (i ≤ n) × ((into ≡ copied bytes from into₀ to i) × (length into ≡ length into₀))
+
+abbrev μ-loop : tie.MeasureT-loop
+μ-loop bytes from into₀ to n i₀ into i = n - i
+
+-- src/lib.rt:53:5
+loop-holds : tie.Need-loop-holds Inv-loop μ-loop
+loop-holds c = (omega arith, (paste-zero (c .args .into .now) (c .args .to) (drop (c .args .from) (c .args .bytes .now)), refl))
+
+-- src/lib.rt:54:30
+add-into : tie.Need-add-into Inv-loop μ-loop
+add-into c = omega arith
+
+-- src/lib.rt:54:24
+shared-slice-read-into : tie.Need-shared-slice-read-into Inv-loop μ-loop
+shared-slice-read-into c = omega arith
+
+-- src/lib.rt:54:14
+add-into-2 : tie.Need-add-into-2 Inv-loop μ-loop
+add-into-2 c = omega arith
+
+-- src/lib.rt:54:9
+slice-write-into : tie.Need-slice-write-into Inv-loop μ-loop
+slice-write-into c = omega arith
+
+-- src/lib.rt:55:9
+add-i : tie.Need-add-i Inv-loop μ-loop
+add-i c = omega arith
+
+-- src/lib.rt:53:5
+loop-less : tie.Need-loop-less Inv-loop μ-loop
+loop-less c = omega arith
+
+-- src/lib.rt:53:5
+loop-again : tie.Need-loop-again Inv-loop μ-loop
+loop-again c =
+    let a = c .before .before .before .args in
+    let at-loop = c .before .before .loop in (
+      omega arith,
+      (
+        rw (at-loop .inv .1 .0)
+            (copied-more (a .bytes .now) (a .into .now) (a .from) (a .to) (at-loop .i) (omega arith) (omega arith)),
+        simp length-set (at-loop .inv .1 .1),
+      ),
+    )
+
+-- src/lib.rt:48:1
+same-length : tie.Need-same-length Inv-loop μ-loop
+same-length c = omega arith
+
+-- src/lib.rt:48:1
+returns : tie.Need-returns Inv-loop μ-loop
+returns c =
+    let done : c .before .loop .i ≡ c .before .before .args .n = omega arith in
+    rw done at (c .before .loop .inv .1 .0)
+
+pub copy-spec : {M : Type 1} → statement M
+copy-spec =
+    tie.close
+    (tie.spec
+    Inv-loop
+    μ-loop
+    loop-holds
+    add-into
+    shared-slice-read-into
+    add-into-2
+    slice-write-into
+    add-i
+    loop-less
+    loop-again
+    same-length
+    returns)
