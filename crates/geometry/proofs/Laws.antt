@@ -195,10 +195,10 @@ volumes-differ g w n m n-in m-in same =
 -- An image needs at most 273,871,011,840 bytes.
 pub need-at-most : (g : Geometry) → Within g → need g ≤ 273871011840
 need-at-most g w =
-    let tracks = mul-le-mul (w .cylinders .1) (heads-of-within g (w .volumes)) in
-    let both : B g + 1 ≤ 4097 = omega (arith, w .bytes) in
+    let tracks = mul-le-mul (w .sizes .cylinders .1) (heads-of-within g (w .volumes)) in
+    let both : B g + 1 ≤ 4097 = omega (arith, w .sizes .bytes) in
     let all : driveSectors g * (B g + 1) ≤ 4096 * 64 * 255 * 4097 =
-    rw driveSectors-is (mul-le-mul (mul-le-mul tracks (w .sectors .1)) both) in
+    rw driveSectors-is (mul-le-mul (mul-le-mul tracks (w .sizes .sectors .1)) both) in
     omega (arith, need-is g, marksAt-is g, all)
 
 -- The default is inside the limits.
@@ -206,9 +206,7 @@ pub default-within : Within table11
 unfolding Has Present
 default-within =
     record {
-      cylinders = omega arith;
-      sectors = omega arith;
-      bytes = omega arith;
+      sizes = omega arith;
       volumes =
           record {
             one-head = omega arith;

@@ -15,7 +15,16 @@ Present v = 1 ≤ N v
 unfoldable pub Has : Volume → ℕ → Type 0
 Has v head = (start v ≤ head) × (head < start v + N v)
 
--- What the limits say of the two volumes.
+-- What the limits say of the sizes.
+pub record SizesWithin (g : Geometry) : Type 0 where
+  -- "cylinders C 1 to 4,096"
+  pub cylinders : (1 ≤ C g) × (C g ≤ 4096)
+  -- "sectors a track S 1 to 255"
+  pub sectors : (1 ≤ S g) × (S g ≤ 255)
+  -- "bytes a sector B even, 64 to 4,096"
+  pub bytes : (B g % 2 ≡ 0) × ((64 ≤ B g) × (B g ≤ 4096))
+
+-- What they say of the two volumes.
 pub record VolumesWithin (g : Geometry) : Type 0 where
   -- "volume 0 has at least one head"
   pub one-head : Present (volume g Zero)
@@ -26,10 +35,5 @@ pub record VolumesWithin (g : Geometry) : Type 0 where
 
 -- A geometry inside the limits.
 pub record Within (g : Geometry) : Type 0 where
-  -- "cylinders C 1 to 4,096"
-  pub cylinders : (1 ≤ C g) × (C g ≤ 4096)
-  -- "sectors a track S 1 to 255"
-  pub sectors : (1 ≤ S g) × (S g ≤ 255)
-  -- "bytes a sector B even, 64 to 4,096"
-  pub bytes : (B g % 2 ≡ 0) × ((64 ≤ B g) × (B g ≤ 4096))
+  pub sizes : SizesWithin g
   pub volumes : VolumesWithin g

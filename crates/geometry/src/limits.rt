@@ -1,12 +1,21 @@
 // Whether a geometry is inside its limits: the one test of them.
 use crate::Geometry;
-ghost use Rattle.geometry.specs.Limits.{VolumesWithin, Within};
+ghost use Rattle.geometry.specs.Limits.{SizesWithin, VolumesWithin, Within};
 ghost use Rattle.wire.specs.Promise.{Says};
 
 impl Geometry {
     // Every number that a record or a UIB can hold gets its answer.
     pub fn is_within(self) -> bool
         ensures { λ r. ⌜ Says r (Within self) ⌝ }
+    {
+        if !self.sizes_are_within() {
+            return false;
+        }
+        self.volumes_are_within()
+    }
+
+    fn sizes_are_within(self) -> bool
+        ensures { λ r. ⌜ Says r (SizesWithin self) ⌝ }
     {
         if self.cylinders < Geometry::CYLINDERS_LEAST {
             return false;
@@ -29,7 +38,7 @@ impl Geometry {
         if Geometry::BYTES_MOST < self.bytes_a_sector {
             return false;
         }
-        self.volumes_are_within()
+        true
     }
 
     // An end of 0 is an absent volume's: it passes the limit and touches no other volume.

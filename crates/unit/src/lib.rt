@@ -7,7 +7,6 @@ use geometry::Geometry;
 use geometry::Number;
 use geometry::Place;
 use geometry::VolumeNumber;
-ghost use mathlib.Core.Bool.{true};
 ghost use mathlib.Core.Path.{_≡_};
 ghost use Rattle.unit.specs.Landing.{landing, landingAt, numberOn, trackLanding};
 ghost use Rattle.unit.specs.Standing.{CountsAsInitialized, recordOf};
@@ -66,14 +65,14 @@ impl Record {
     }
 
     // The record once its heads stand on another cylinder.
-    pub fn moved_to(self, cylinder: u16) -> Record
-        ensures { λ r. ⌜ r ≡ recordOf (self .initialized) (self .geometry) cylinder ⌝ }
+    pub fn moved_to(self, to: u16) -> Record
+        ensures { λ r. ⌜ r ≡ recordOf (self .initialized) (self .geometry) to ⌝ }
     {
         let geometry = self.geometry;
         Record {
             initialized: self.initialized,
             geometry,
-            cylinder,
+            cylinder: to,
         }
     }
 

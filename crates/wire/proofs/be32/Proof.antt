@@ -1,41 +1,32 @@
+-- Two words of two bytes make one of four.
+-- That is the law of joined words.
 use mathlib.Core.Path.{sym}
-use Rattle.wire.proofs.Laws.{word-joins}
 use borrow.Author.Needs.{needs}
+use Rattle.wire.proofs.Laws.{word-joins}
 use Rattle.wire.proofs.be32.Statement.{statement}
 use Rattle.wire.proofs.be32.Tie as tie
-use Rattle.wire.proofs.be32.Reads as reads
-use Rattle.wire.proofs.be32.Lts as lts
-use Rattle.wire.proofs.be16.Reads as be16-reads
 
--- src/lib.rt:23:6
 be16-requires : tie.Need-be16-requires
 be16-requires c κs = search needs
 
--- src/lib.rt:23:6
 cast-result : tie.Need-cast-result
 cast-result c = search needs
 
--- src/lib.rt:23:5
 mul-result : tie.Need-mul-result
 mul-result c = search needs
 
--- src/lib.rt:23:53
 add-be16 : tie.Need-add-be16
 add-be16 c = search needs
 
--- src/lib.rt:23:41
 be16-requires-2 : tie.Need-be16-requires-2
 be16-requires-2 c κs = search needs
 
--- src/lib.rt:23:41
 cast-result-2 : tie.Need-cast-result-2
 cast-result-2 c = search needs
 
--- src/lib.rt:23:5
 add-result : tie.Need-add-result
 add-result c = search needs
 
--- src/lib.rt:19:1
 returns : tie.Need-returns
 returns c = rw (c .before .be16 .ensures, c .be162 .ensures) (sym (word-joins 2 2 _ _))
 

@@ -1,14 +1,14 @@
+-- After i turns the first i bytes are copied and nothing else has changed.
+-- A turn copies one byte more; after n turns all are copied.
 use Prim.Native.Nat.{_≤_, _-_}
 use mathlib.Core.Path.{_≡_, refl}
 use native.Mathlib.Omega.{arith}
 use lib.ListN.{length, drop, length-set}
-use Rattle.wire.proofs.Laws.{copied-more}
 use lib.Seq.{paste-zero}
-use Rattle.wire.specs.Copy.{copied}
+use Rattle.wire.proofs.Laws.{copied-more}
 use Rattle.wire.proofs.copy.Statement.{statement}
+use Rattle.wire.specs.Copy.{copied}
 use Rattle.wire.proofs.copy.Tie as tie
-use Rattle.wire.proofs.copy.Reads as reads
-use Rattle.wire.proofs.copy.Lts as lts
 
 abbrev Inv-loop : tie.InvT-loop
 Inv-loop bytes from into₀ to n i₀ into i = (i ≤ n) × ((into ≡ copied bytes from into₀ to i) × (length into ≡ length into₀))
@@ -16,35 +16,27 @@ Inv-loop bytes from into₀ to n i₀ into i = (i ≤ n) × ((into ≡ copied by
 abbrev μ-loop : tie.MeasureT-loop
 μ-loop bytes from into₀ to n i₀ into i = n - i
 
--- src/lib.rt:53:5
 loop-holds : tie.Need-loop-holds Inv-loop μ-loop
 loop-holds c = (omega arith, (paste-zero (c .args .into .now) (c .args .to) (drop (c .args .from) (c .args .bytes .now)), refl))
 
--- src/lib.rt:54:30
 add-into : tie.Need-add-into Inv-loop μ-loop
 add-into c = omega arith
 
--- src/lib.rt:54:24
 shared-slice-read-into : tie.Need-shared-slice-read-into Inv-loop μ-loop
 shared-slice-read-into c = omega arith
 
--- src/lib.rt:54:14
 add-into-2 : tie.Need-add-into-2 Inv-loop μ-loop
 add-into-2 c = omega arith
 
--- src/lib.rt:54:9
 slice-write-into : tie.Need-slice-write-into Inv-loop μ-loop
 slice-write-into c = omega arith
 
--- src/lib.rt:55:9
 add-i : tie.Need-add-i Inv-loop μ-loop
 add-i c = omega arith
 
--- src/lib.rt:53:5
 loop-less : tie.Need-loop-less Inv-loop μ-loop
 loop-less c = omega arith
 
--- src/lib.rt:53:5
 loop-again : tie.Need-loop-again Inv-loop μ-loop
 loop-again c =
     let a = c .before .before .before .args in
@@ -57,11 +49,9 @@ loop-again c =
       ),
     )
 
--- src/lib.rt:48:1
 same-length : tie.Need-same-length Inv-loop μ-loop
 same-length c = omega arith
 
--- src/lib.rt:48:1
 returns : tie.Need-returns Inv-loop μ-loop
 returns c =
     let done : c .before .loop .i ≡ c .before .before .args .n = omega arith in

@@ -1,38 +1,31 @@
+-- Two stores, the high byte first.
+-- They are the definition's, at a width of two.
 use native.Mathlib.Nat.{add-zero}
 use native.Mathlib.Omega.{arith}
 use lib.ListN.{length-set}
-use Rattle.wire.specs.Words.{stored}
 use borrow.Author.Needs.{needs}
 use Rattle.wire.proofs.put16.Statement.{statement}
+use Rattle.wire.specs.Words.{stored}
 use Rattle.wire.proofs.put16.Tie as tie
-use Rattle.wire.proofs.put16.Reads as reads
-use Rattle.wire.proofs.put16.Lts as lts
 
--- src/lib.rt:31:17
 cast-bytes : tie.Need-cast-bytes
 cast-bytes c = search needs
 
--- src/lib.rt:31:5
 slice-write-bytes : tie.Need-slice-write-bytes
 slice-write-bytes c = search needs
 
--- src/lib.rt:32:21
 cast-bytes-2 : tie.Need-cast-bytes-2
 cast-bytes-2 c = search needs
 
--- src/lib.rt:32:11
 add-bytes : tie.Need-add-bytes
 add-bytes c = search needs
 
--- src/lib.rt:32:5
 slice-write-bytes-2 : tie.Need-slice-write-bytes-2
 slice-write-bytes-2 c = simp length-set (omega arith)
 
--- src/lib.rt:27:1
 same-length : tie.Need-same-length
 same-length c = search needs
 
--- src/lib.rt:27:1
 returns : tie.Need-returns
 unfolding stored
 returns c = simp add-zero

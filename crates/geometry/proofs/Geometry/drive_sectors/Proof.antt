@@ -1,22 +1,17 @@
+-- The product of cylinders, heads and sectors is the definition's, once the heads are H.
+-- Three numbers of 16 bits keep it below 2 ^ 48.
 use native.Mathlib.Omega.{arith}
-use Rattle.geometry.specs.Drive.Inside.{driveSectors-is}
 use borrow.Author.Needs.{needs}
 use Rattle.geometry.proofs.Geometry.drive_sectors.Statement.{statement}
+use Rattle.geometry.specs.Drive.Inside.{driveSectors-is}
 use Rattle.geometry.proofs.Geometry.drive_sectors.Tie as tie
-use Rattle.geometry.proofs.Geometry.drive_sectors.Reads as reads
-use Rattle.geometry.proofs.Geometry.drive_sectors.Lts as lts
-use Rattle.geometry.proofs.Geometry.heads.Reads as heads-reads
-use Rattle.geometry.proofs.sizes.product.Reads as product-reads
 
--- src/sizes.rt:36:33
 heads-requires : tie.Need-heads-requires
 heads-requires c κs = search needs
 
--- src/sizes.rt:36:9
 product-requires : tie.Need-product-requires
 product-requires c κs = search needs
 
--- src/sizes.rt:33:5
 returns : tie.Need-returns
 returns c = (rw driveSectors-is (cc), omega arith)
 

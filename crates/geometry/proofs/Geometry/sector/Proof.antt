@@ -1,46 +1,38 @@
-use Rattle.geometry.specs.Drive.{driveSectors}
-use Rattle.geometry.specs.Drive.Inside.{marksAt-is}
-use Rattle.geometry.specs.Sectors.Inside.{firstByte-is, markByte-is}
+-- A place below the drive's sectors has its bytes below the marks, and all of that is below 2 ^ 64.
+-- Past the drive there is no sector.
 use Prim.Native.Nat.{_-_, _^_, _<_}
 use mathlib.Core.Path.{sym}
 use native.Mathlib.Omega.{arith}
+use borrow.Author.Needs.{needs}
 use Rattle.wire.proofs.Numbers.{product-below}
 use Rattle.geometry.proofs.Answers.{sectorAt-inside, sectorAt-outside}
-use borrow.Author.Needs.{needs}
 use Rattle.geometry.proofs.Geometry.sector.Statement.{statement}
+use Rattle.geometry.specs.Drive.Inside.{marksAt-is}
+use Rattle.geometry.specs.Drive.{driveSectors}
+use Rattle.geometry.specs.Sectors.Inside.{firstByte-is, markByte-is}
 use Rattle.geometry.proofs.Geometry.sector.Tie as tie
-use Rattle.geometry.proofs.Geometry.sector.Reads as reads
-use Rattle.geometry.proofs.Geometry.sector.Lts as lts
-use Rattle.geometry.proofs.Geometry.drive_sectors.Reads as drive-sectors-reads
 
--- src/sectors.rt:78:13
 drive-sectors-requires : tie.Need-drive-sectors-requires
 drive-sectors-requires c κs = search needs
 
--- src/sectors.rt:80:13
 returns : tie.Need-returns
 returns c = sym (sectorAt-outside _ _ (omega arith))
 
--- src/sectors.rt:82:21
 cast-bytes : tie.Need-cast-bytes
 cast-bytes c = search needs
 
--- src/sectors.rt:84:20
 mul-t6 : tie.Need-mul-t6
 mul-t6 c = record { fits = product-below _ _ (2 ^ 48) 65535 _ (omega arith) (omega arith) tt }
 
--- src/sectors.rt:85:19
 mul-t7 : tie.Need-mul-t7
 mul-t7 c = record { fits = product-below _ _ (2 ^ 48) 65535 _ (omega arith) (omega arith) tt }
 
--- src/sectors.rt:85:19
 add-t8 : tie.Need-add-t8
 add-t8 c =
     let all = c .before .before .drive-sectors .result in
     let bytes = c .before .before .before .args .self .«bytes_a_sector» in
     omega (arith, product-below all bytes (2 ^ 48 - 1) 65535 (2 ^ 64 - 2 ^ 48) (omega arith) (omega arith) tt)
 
--- src/sectors.rt:75:5
 returns-2 : tie.Need-returns-2
 returns-2 c =
     let a = c .before .before .before .args in

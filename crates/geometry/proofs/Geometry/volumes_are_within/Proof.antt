@@ -1,49 +1,39 @@
-use native.Mathlib.Omega.{arith}
+-- The ends that the calls gave tell the limits: Ends has each case.
+-- The last test decides between two volumes that stand aside and two that share the higher start head.
 use mathlib.Core.Logic.{inl, inr}
-use Rattle.geometry.specs.declared.VolumeNumber.the-variants.{Zero, One}
-use Rattle.geometry.proofs.Ends.{low-of-within, not-aside, some-of-within, within-of-ends}
-use Rattle.geometry.specs.Limits.{VolumesWithin}
-use Rattle.wire.proofs.Promises.{says-leb}
+use native.Mathlib.Omega.{arith}
 use borrow.Author.Needs.{needs}
+use Rattle.wire.proofs.Promises.{says-leb}
+use Rattle.geometry.proofs.Ends.{low-of-within, not-aside, some-of-within, within-of-ends}
 use Rattle.geometry.proofs.Geometry.volumes_are_within.Statement.{statement}
+use Rattle.geometry.specs.Limits.{VolumesWithin}
+use Rattle.geometry.specs.declared.VolumeNumber.the-variants.{Zero, One}
 use Rattle.geometry.proofs.Geometry.volumes_are_within.Tie as tie
-use Rattle.geometry.proofs.Geometry.volumes_are_within.Reads as reads
-use Rattle.geometry.proofs.Geometry.volumes_are_within.Lts as lts
-use Rattle.geometry.proofs.Volume.end.Reads as end-reads
 
--- src/limits.rt:39:13
 end-requires : tie.Need-end-requires
 end-requires c κs = search needs
 
--- src/limits.rt:40:13
 end-requires-2 : tie.Need-end-requires-2
 end-requires-2 c κs = search needs
 
--- src/limits.rt:42:13
 returns : tie.Need-returns
 returns c = λ w. omega (arith, some-of-within (c .before .before .before .args .self) w)
 
--- src/limits.rt:45:13
 returns-2 : tie.Need-returns-2
 returns-2 c = λ w. omega (arith, low-of-within (c .before .before .before .before .args .self) w Zero)
 
--- src/limits.rt:48:13
 returns-3 : tie.Need-returns-3
 returns-3 c = λ w. omega (arith, low-of-within (c .before .before .before .before .before .args .self) w One)
 
--- src/limits.rt:50:21
 cast-if4 : tie.Need-cast-if4
 cast-if4 c = search needs
 
--- src/limits.rt:51:13
 returns-4 : tie.Need-returns-4
 returns-4 c = within-of-ends (c .before .before .before .before .before .before .before .args .self) (omega arith) (omega arith) (omega arith) (inl (omega arith))
 
--- src/limits.rt:53:18
 cast-result : tie.Need-cast-result
 cast-result c = search needs
 
--- src/limits.rt:36:5
 returns-5 : tie.Need-returns-5
 returns-5 c =
     let g = (c .before .before .before .before .before .before .before .before .args .self) in

@@ -1,12 +1,11 @@
+-- A number is above 0 or it is not.
+-- That is what being present says of the heads.
 use native.Mathlib.Omega.{arith}
-use Rattle.geometry.specs.Limits.{Present}
 use Rattle.wire.proofs.Promises.{says-leb}
 use Rattle.geometry.proofs.Volume.is_present.Statement.{statement}
+use Rattle.geometry.specs.Limits.{Present}
 use Rattle.geometry.proofs.Volume.is_present.Tie as tie
-use Rattle.geometry.proofs.Volume.is_present.Reads as reads
-use Rattle.geometry.proofs.Volume.is_present.Lts as lts
 
--- src/lib.rt:78:5
 returns : tie.Need-returns
 unfolding Present
 returns c = let v = c .before .args .self in says-leb 1 (v .heads) (Present v) (λ h. h) (λ h p. omega arith)

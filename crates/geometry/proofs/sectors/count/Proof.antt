@@ -1,24 +1,21 @@
+-- Five numbers of 16 bits make a track below 2 ^ 33 and a count below 2 ^ 50.
+-- So no step wraps, and the result is the sum as it is written.
 use Prim.Native.Nat.{_+_, _*_, _^_, _≤_}
 use native.Mathlib.Omega.{arith}
-use Rattle.wire.proofs.Numbers.{product-below}
 use borrow.Author.Needs.{needs}
+use Rattle.wire.proofs.Numbers.{product-below}
 use Rattle.geometry.proofs.sectors.count.Statement.{statement}
 use Rattle.geometry.proofs.sectors.count.Tie as tie
-use Rattle.geometry.proofs.sectors.count.Reads as reads
-use Rattle.geometry.proofs.sectors.count.Lts as lts
 
--- src/sectors.rt:16:6
 mul-result : tie.Need-mul-result
 mul-result c = record { fits = product-below _ _ 65535 65535 _ (omega arith) (omega arith) tt }
 
--- src/sectors.rt:16:6
 track : (c : tie.Start) → c .args .cylinder * c .args .heads + c .args .head ≤ 2 ^ 33
 track c = omega (arith, product-below (c .args .cylinder) (c .args .heads) 65535 65535 (2 ^ 32) (omega arith) (omega arith) tt)
 
 add-result : tie.Need-add-result
 add-result c = omega (arith, track c)
 
--- src/sectors.rt:16:5
 mul-result-2 : tie.Need-mul-result-2
 mul-result-2 c = record { fits = product-below _ _ (2 ^ 33) 65535 _ (track c) (omega arith) tt }
 
@@ -26,7 +23,6 @@ add-result-2 : tie.Need-add-result-2
 add-result-2 c =
     omega (arith, product-below (c .args .cylinder * c .args .heads + c .args .head) (c .args .sectors) (2 ^ 33) 65535 (2 ^ 49) (track c) (omega arith) tt)
 
--- src/sectors.rt:13:1
 returns : tie.Need-returns
 returns c = search needs
 

@@ -1,34 +1,27 @@
+-- Each refusal denies one field of the statement.
+-- Past both, the record counts exactly where its cylinder is below C.
 use Prim.Native.Nat.{suc}
-use Rattle.unit.specs.Standing.{CountsAsInitialized}
 use native.Mathlib.Omega.{arith}
-use Rattle.wire.proofs.Promises.{denied, granted, says-leb, says-set}
 use borrow.Author.Needs.{needs}
+use Rattle.wire.proofs.Promises.{denied, granted, says-leb, says-set}
 use Rattle.unit.proofs.Record.counts_as_initialized.Statement.{statement}
+use Rattle.unit.specs.Standing.{CountsAsInitialized}
 use Rattle.unit.proofs.Record.counts_as_initialized.Tie as tie
-use Rattle.unit.proofs.Record.counts_as_initialized.Reads as reads
-use Rattle.unit.proofs.Record.counts_as_initialized.Lts as lts
-use Rattle.geometry.proofs.Geometry.cylinders.Reads as cylinders-reads
-use Rattle.geometry.proofs.Geometry.is_within.Reads as is-within-reads
 
--- src/lib.rt:85:13
 returns : tie.Need-returns
 returns c =
     let t = c .before .before .args .self .initialized in
     λ w. denied t _ (c .if1 .taken) (says-set t) (w .said)
 
--- src/lib.rt:87:13
 is-within-requires : tie.Need-is-within-requires
 is-within-requires c κs = search needs
 
--- src/lib.rt:88:13
 returns-2 : tie.Need-returns-2
 returns-2 c = λ w. denied (c .before .is-within .result) _ (c .if2 .taken) (c .before .is-within .ensures) (w .within)
 
--- src/lib.rt:90:25
 cylinders-requires : tie.Need-cylinders-requires
 cylinders-requires c κs = search needs
 
--- src/lib.rt:81:5
 returns-3 : tie.Need-returns-3
 returns-3 c =
     let u = c .before .before .before .before .before .before .args .self in
