@@ -45,6 +45,11 @@ module _ (g : Geometry) where
   pub mark-inside : (p : ℕ) → p < driveSectors g → (marksAt g ≤ markByte g p) × (markByte g p < need g)
   mark-inside p inside = rw (markByte-is, need-is) (omega arith)
 
+  -- So both lie inside an image that is long enough.
+  pub sector-in-image :
+      (length p : ℕ) → need g ≤ length → p < driveSectors g → (firstByte g p + B g ≤ length) × (markByte g p < length)
+  sector-in-image length p long inside = omega (arith, bytes-inside p inside, mark-inside p inside, need-is g)
+
   -- The rest of a track is consecutive in the image.
   pub track-consecutive : (c h s k : ℕ) → placeOf g (address c h (s + k)) ≡ placeOf g (address c h s) + k
   track-consecutive c h s k = omega (arith, placeOf-is g (address c h (s + k)), placeOf-is g (address c h s))
