@@ -1,5 +1,6 @@
 pub mod Answers
 pub mod Counting
+pub mod Decided
 pub mod Ends
 pub mod Laws
 pub mod Outcomes

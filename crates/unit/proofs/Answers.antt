@@ -1,7 +1,7 @@
 -- What the unit answers, from what the geometry answered, by cases.
 -- An answer of the geometry tells whether the sector is on the drive, and that picks the side of each definition.
 use Prim.Native.Nat.{ℕ, _-_, _<_, _≤_}
-use mathlib.Core.Logic.{if-neg, if-pos}
+use mathlib.Core.Logic.{by-cases, if-neg, if-pos}
 use mathlib.Core.Path.{_≡_, sym, ap, _∙_}
 use native.Mathlib.Decide.{decLt}
 use native.Mathlib.Omega.{arith}
@@ -15,7 +15,9 @@ use Rattle.geometry.specs.Sectors.{OnDrive, address, found, onDrive?, placed}
 use Rattle.geometry.proofs.Answers.{at-found, at-placed, no-address, no-place}
 use Rattle.geometry.proofs.Laws.{address-on-drive}
 use Rattle.unit.specs.declared.Landing.{Landing}
+use Rattle.wire.proofs.Promises.{never}
 use Rattle.unit.specs.declared.Record.{Record}
+use Rattle.unit.specs.declared.Spot.{Spot}
 use Rattle.unit.specs.Landing.{landing, landingAt, spotAt, spotOf, trackLanding, trackOf}
 use Rattle.unit.specs.Landing.Behind.{spotAt-is, spotOf-is, trackOf-is}
 
@@ -64,3 +66,31 @@ found-lands u v n a is =
 pub not-found-lands :
     (u : Record) (v : VolumeNumber) (n : ℕ) → found (u .geometry) v n ≡ Found.Outside → Landing.Outside ≡ landing u v n
 not-found-lands u v n is = sym (landing-outside u v n (no-address (u .geometry) v n is))
+
+-- ---- the other way: an answer tells which case it is
+
+pub at-landing :
+    (u : Record) (v : VolumeNumber) (n : ℕ) (s : Spot) →
+    landing u v n ≡ Landing.At s → (n < volumeSectors (u .geometry) v) × (s ≡ spotOf u v n)
+at-landing u v n s is =
+    by-cases (decLt n (volumeSectors (u .geometry) v)) (λ inside. (inside, cc (landing-inside u v n inside)))
+    (λ out. absurd (never (cc (landing-outside u v n (omega arith)))))
+
+pub no-landing : (u : Record) (v : VolumeNumber) (n : ℕ) → landing u v n ≡ Landing.Outside → volumeSectors (u .geometry) v ≤ n
+no-landing u v n is =
+    by-cases (decLt n (volumeSectors (u .geometry) v)) (λ inside. absurd (never (cc (landing-inside u v n inside))))
+    (λ out. omega arith)
+
+pub at-track :
+    (u : Record) (c h : ℕ) (s : Spot) →
+    trackLanding u c h ≡ Landing.At s → OnDrive (u .geometry) (address c h 0) × (s ≡ trackOf u c h)
+unfolding trackLanding
+at-track u c h s is =
+    by-cases (onDrive? (u .geometry) (address c h 0))
+    (λ on. (on, cc (if-pos (onDrive? (u .geometry) (address c h 0)) on (Landing.At (trackOf u c h)) Landing.Outside)))
+    (λ out. absurd (never (cc (if-neg (onDrive? (u .geometry) (address c h 0)) out (Landing.At (trackOf u c h)) Landing.Outside))))
+
+pub no-track : (u : Record) (c h : ℕ) → trackLanding u c h ≡ Landing.Outside → OnDrive (u .geometry) (address c h 0) → ⊥
+unfolding trackLanding
+no-track u c h is on =
+    never (cc (if-pos (onDrive? (u .geometry) (address c h 0)) on (Landing.At (trackOf u c h)) Landing.Outside))

@@ -1,3 +1,4 @@
 pub mod Answers
+pub mod Decided
 pub mod Laws
 pub mod Outcomes

@@ -1,3 +1,4 @@
+pub mod Decided
 pub mod Laws
 pub mod Numbers
 pub mod Outcomes

@@ -1,11 +1,12 @@
 -- How a yes or no that was computed comes to speak of a statement.
 -- Each law takes the answer's two values apart.
-use Prim.Native.Nat.{ℕ, _<_, _≤_}
-use mathlib.Core.Bool.{Bool, true, false, not, false≢true, true≢false}
+use Prim.Native.Nat.{ℕ, suc, _<_, _≤_}
+use mathlib.Core.Bool.{Bool, true, false, not, _&&_, false≢true, true≢false}
 use mathlib.Core.Path.{_≡_, refl}
 use native.Mathlib.Omega.{arith}
-use borrow.Author.Tests.{leb-false, leb-true}
-use lib.Dec.{leb}
+use borrow.Author.Tests.{eqb-false, eqb-true, leb-false, leb-true}
+use lib.Dec.{eqb, leb}
+use Rattle.wire.proofs.Decided.{all-more}
 use Rattle.wire.specs.Promise.{Says}
 
 -- What `cc` makes of an equation between two different answers, which no answer meets.
@@ -20,12 +21,35 @@ says-leb a b P yes-is no-is = by-value (leb a b) refl
     by-value true e = yes-is (leb-true a b e)
     by-value false e = no-is (leb-false a b e)
 
+pub says-eqb : (a b : ℕ) (P : Type 0) → (a ≡ b → P) → ((a ≡ b → ⊥) → P → ⊥) → Says (eqb a b) P
+says-eqb a b P yes-is no-is = by-value (eqb a b) refl
+  where
+    by-value : (t : Bool) → eqb a b ≡ t → Says t P
+    by-value true e = yes-is (eqb-true a b e)
+    by-value false e = no-is (eqb-false a b e)
+
+-- Two answers, about what holds below a bound and at it, make one about what holds up to it.
+pub says-all-more :
+    (s t : Bool) (P : ℕ → Type 0) (n : ℕ) →
+    Says s ((i : ℕ) → i < n → P i) → Says t (P n) → Says (s && t) ((i : ℕ) → i < suc n → P i)
+says-all-more true true P n each last = all-more P n each last
+says-all-more true false P n each last = λ all. last (all n (omega arith))
+says-all-more false t P n each last = λ all. each (λ i h. all i (omega arith))
+
 -- An answer about one statement is an answer about another that holds in the same cases.
 pub says-same : (t : Bool) (P Q : Type 0) → (P → Q) → (Q → P) → Says t P → Says t Q
 says-same true P Q to from s = to s
 says-same false P Q to from s = λ q. s (from q)
 
--- What a branch on the negated answer knows.
+-- What a branch on an answer knows, and one on the negated answer.
+pub says-yes : (t : Bool) (P : Type 0) → t ≡ true → Says t P → P
+says-yes true P e s = s
+says-yes false P e s = absurd (false≢true e)
+
+pub says-no : (t : Bool) (P : Type 0) → t ≡ false → Says t P → P → ⊥
+says-no true P e s = absurd (true≢false e)
+says-no false P e s = s
+
 pub granted : (t : Bool) (P : Type 0) → not t ≡ false → Says t P → P
 granted true P e s = s
 granted false P e s = absurd (true≢false e)

@@ -1,0 +1,32 @@
+-- Each promise of this crate leaves one result, read off the contracts as the source states them.
+-- Each is an equation with a definition, so two results are equal to the same thing.
+use mathlib.Core.Path.{_∙_, sym}
+use Rattle.wire.specs.Promise.{OneResult}
+use Rattle.iopb.proofs.ask.request.Reads as request
+use Rattle.iopb.proofs.Block.read.Reads as block-read
+use Rattle.iopb.proofs.Element.read.Reads as element-read
+use Rattle.iopb.proofs.error_byte.Reads as error-byte
+use Rattle.iopb.proofs.identity.Reads as identity
+use Rattle.iopb.proofs.Options.of.Reads as options-of
+use Rattle.iopb.proofs.uib.Reads as uib
+
+block-read-once : OneResult block-read.Post
+block-read-once κ a e x y p q = p ∙ sym q
+
+element-read-once : OneResult element-read.Post
+element-read-once κ a e x y p q = p ∙ sym q
+
+error-byte-once : OneResult error-byte.Post
+error-byte-once κ a e x y p q = p ∙ sym q
+
+identity-once : OneResult identity.Post
+identity-once κ a e x y p q = p ∙ sym q
+
+options-of-once : OneResult options-of.Post
+options-of-once κ a e x y p q = p ∙ sym q
+
+request-once : OneResult request.Post
+request-once κ a e x y p q = p ∙ sym q
+
+uib-once : OneResult uib.Post
+uib-once κ a e x y p q = p ∙ sym q

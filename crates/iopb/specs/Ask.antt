@@ -1,0 +1,82 @@
+-- The request that a block makes (01, The block, One run).
+use Prim.Native.Nat.{ℕ, _+_, _%_, _≤_}
+use mathlib.Core.Bool.{Bool, true, false, cond}
+use mathlib.Core.List.{List}
+use mathlib.Core.Logic.{ite, Dec·and}
+use mathlib.Core.Path.{_≡_}
+use native.Mathlib.Decide.{decLe, map-dec, ℕ-discrete}
+use lib.Dec.{eqb}
+use lib.ListN.{length}
+use Rattle.geometry.specs.declared.VolumeNumber.{VolumeNumber}
+use Rattle.request.specs.declared.Buffer.{Buffer}
+use Rattle.request.specs.declared.Move.{Move}
+use Rattle.request.specs.declared.Request.{Request}
+use Rattle.request.specs.declared.Shape.{Shape}
+use Rattle.request.specs.declared.Start.{Start}
+use Rattle.request.specs.declared.Target.{Target}
+use Rattle.request.specs.declared.Task.{Task}
+use Rattle.request.specs.declared.Track.{Track}
+use Rattle.request.specs.declared.UnitNumber.{UnitNumber}
+use Rattle.iopb.specs.declared.Block.{Block}
+use Rattle.iopb.specs.Layout.{uibAt}
+
+-- UN and VO
+abbrev pub unitOf : Block → UnitNumber
+unitOf b = cond (b .options .unit) UnitNumber.One UnitNumber.Zero
+
+abbrev pub volumeOf : Block → VolumeNumber
+volumeOf b = cond (b .options .volume) VolumeNumber.One VolumeNumber.Zero
+
+-- "With XL set, words 2 and 3 are one 32-bit logical sector number in the volume."
+abbrev pub startOf : Block → Start
+startOf b = cond (b .options .logical) (Start.Logical (b .number)) (Start.Physical (b .cylinder) (b .head) (b .sector))
+
+abbrev pub targetOf : Block → Target
+targetOf b = record { volume = volumeOf b; start = startOf b }
+
+-- "A1 and A2 have a list's address there"
+abbrev pub listOf : Block → Buffer
+listOf b = Buffer.List (b .address) (b .elements)
+
+abbrev pub moveOf : Block → Bool → Buffer → Move
+moveOf b to-host buffer =
+    record { «to_host» = to-host; «past_marks» = b .options .disable; target = targetOf b; count = b .count; buffer = buffer }
+
+-- 8C "ignores VO, XL, sector and count; its head is counted over the whole drive"
+abbrev pub trackOf : Block → Track
+trackOf b = record { cylinder = b .cylinder; head = b .head; buffer = b .address }
+
+-- A UIB can be read at an even address, wholly in host memory; it is "misplaced" where check 12 says "UIB address odd or UIB
+-- not wholly in host memory".
+pub record Readable (host : List ℕ) (at : ℕ) : Type 0 where
+  pub even : at % 2 ≡ 0
+  pub inside : at + 18 ≤ length host
+
+pub readable? : (host : List ℕ) (at : ℕ) → Dec (Readable host at)
+readable? host at =
+    map-dec (λ d. record { even = d .0; inside = d .1 }) (λ r. (r .even, r .inside))
+    (Dec·and (ℕ-discrete (at % 2) 0) (decLe (at + 18) (length host)))
+
+unfoldable pub shapeAt : List ℕ → ℕ → Shape
+shapeAt host at = ite (readable? host at) (Shape.Given (uibAt host at)) Shape.Misplaced
+
+-- What each command asks, by its code: "81 read, 82 write, 86 handshake, 87 initialize, 89 restore, 8A seek, 8C format with
+-- data, A1 scatter, A2 gather (hex)" (01, What the board answers for).
+abbrev on : ℕ → ℕ → Task → Task → Task
+on command code this others = cond (eqb command code) this others
+
+unfoldable pub taskOf : List ℕ → Block → Task
+taskOf host b =
+    on (b .command) 0x81 (Task.Move (moveOf b true (Buffer.Piece (b .address))))
+    (on (b .command) 0x82 (Task.Move (moveOf b false (Buffer.Piece (b .address))))
+    (on (b .command) 0x86 Task.Handshake
+    (on (b .command) 0x87 (Task.Initialize (shapeAt host (b .address)))
+    (on (b .command) 0x89 Task.Restore
+    (on (b .command) 0x8a (Task.Seek (targetOf b))
+    (on (b .command) 0x8c (Task.Format (trackOf b))
+    (on (b .command) 0xa1 (Task.Move (moveOf b true (listOf b)))
+    (on (b .command) 0xa2 (Task.Move (moveOf b false (listOf b)))
+    Task.Unknown))))))))
+
+abbrev pub requestOf : List ℕ → Block → Request
+requestOf host b = record { unit = unitOf b; task = taskOf host b }

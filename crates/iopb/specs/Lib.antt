@@ -1,0 +1,4 @@
+pub mod Ask
+pub mod Errors
+pub mod Identity
+pub mod Layout

@@ -1,0 +1,134 @@
+// The request that a block makes, free of its layout.
+use crate::Block;
+use crate::uib;
+use geometry::VolumeNumber;
+use request::Buffer;
+use request::Move;
+use request::Request;
+use request::Shape;
+use request::Start;
+use request::Target;
+use request::Task;
+use request::Track;
+use request::UnitNumber;
+ghost use mathlib.Core.Path.{_≡_};
+ghost use Rattle.iopb.specs.Ask.{listOf, moveOf, requestOf, shapeAt, startOf, targetOf, taskOf, trackOf};
+
+// The request of a block; for command 87 its UIB is read, where it can be.
+pub fn request(b: Block, host: &[u8]) -> Request
+    ensures { λ r. ⌜ r ≡ requestOf (now (host .entry)) b ⌝ }
+{
+    let options = b.options;
+    let task = task(b, host);
+    if options.unit {
+        Request {
+            unit: UnitNumber::One,
+            task,
+        }
+    } else {
+        Request {
+            unit: UnitNumber::Zero,
+            task,
+        }
+    }
+}
+
+fn task(b: Block, host: &[u8]) -> Task
+    ensures { λ r. ⌜ r ≡ taskOf (now (host .entry)) b ⌝ }
+{
+    let command = b.command;
+    match command {
+        0x81 => Task::Move(moving(b, true, Buffer::Piece(b.address))),
+        0x82 => Task::Move(moving(b, false, Buffer::Piece(b.address))),
+        0x86 => Task::Handshake,
+        0x87 => Task::Initialize(shape(host, b.address)),
+        0x89 => Task::Restore,
+        0x8A => Task::Seek(target(b)),
+        0x8C => Task::Format(track(b)),
+        0xA1 => Task::Move(moving(b, true, list(b))),
+        0xA2 => Task::Move(moving(b, false, list(b))),
+        _ => Task::Unknown,
+    }
+}
+
+fn moving(b: Block, to_host: bool, buffer: Buffer) -> Move
+    ensures { λ r. ⌜ r ≡ moveOf b «to_host» buffer ⌝ }
+{
+    let options = b.options;
+    let target = target(b);
+    Move {
+        to_host,
+        past_marks: options.disable,
+        target,
+        count: b.count,
+        buffer,
+    }
+}
+
+fn target(b: Block) -> Target
+    ensures { λ r. ⌜ r ≡ targetOf b ⌝ }
+{
+    let options = b.options;
+    let start = start(b);
+    if options.volume {
+        Target {
+            volume: VolumeNumber::One,
+            start,
+        }
+    } else {
+        Target {
+            volume: VolumeNumber::Zero,
+            start,
+        }
+    }
+}
+
+fn start(b: Block) -> Start
+    ensures { λ r. ⌜ r ≡ startOf b ⌝ }
+{
+    let options = b.options;
+    if options.logical {
+        Start::Logical(b.number)
+    } else {
+        Start::Physical {
+            cylinder: b.cylinder,
+            head: b.head as u16,
+            sector: b.sector as u16,
+        }
+    }
+}
+
+fn list(b: Block) -> Buffer
+    ensures { λ r. ⌜ r ≡ listOf b ⌝ }
+{
+    Buffer::List {
+        at: b.address,
+        elements: b.elements,
+    }
+}
+
+fn track(b: Block) -> Track
+    ensures { λ r. ⌜ r ≡ trackOf b ⌝ }
+{
+    Track {
+        cylinder: b.cylinder,
+        head: b.head as u16,
+        buffer: b.address,
+    }
+}
+
+fn shape(host: &[u8], address: u32) -> Shape
+    ensures { λ r. ⌜ r ≡ shapeAt (now (host .entry)) address ⌝ }
+{
+    let at = address as usize;
+    if at % 2 != 0 {
+        return Shape::Misplaced;
+    }
+    if host.len() < 18 {
+        return Shape::Misplaced;
+    }
+    if host.len() - 18 < at {
+        return Shape::Misplaced;
+    }
+    Shape::Given(uib(host, at))
+}

@@ -1,0 +1,21 @@
+-- A list of checks in order, and the first of them that is given (01, Answer numbers: "Block answers, in order").
+use mathlib.Core.List.{List, [], _∷_}
+use mathlib.Core.Logic.{ite}
+use Rattle.answers.specs.declared.Refusal.{Refusal}
+use Rattle.judge.specs.declared.Verdict.{Verdict}
+
+-- A check: its answer, the case in which that answer is given, and the decision of the case.
+pub record Check : Type 1 where
+  pub answer : Refusal
+  pub Given : Type 0
+  pub given? : Dec Given
+
+-- The answer of the first check that is given, or what is said where none is.
+unfoldable pub first : List Check → Verdict → Verdict
+first [] otherwise = otherwise
+first (k ∷ ks) otherwise = ite (k .given?) (Verdict.Refused (k .answer)) (first ks otherwise)
+
+-- None of the checks is given.
+unfoldable pub None : List Check → Type 0
+None [] = Unit {0}
+None (k ∷ ks) = (k .Given → ⊥) × None ks

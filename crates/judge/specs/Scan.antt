@@ -1,0 +1,26 @@
+-- What one pass over a list finds, between the code and the checks 18 and 19.
+use Prim.Native.Nat.{ℕ, _<_}
+use mathlib.Core.List.{List}
+use mathlib.Core.Path.{_≡_}
+use Rattle.judge.specs.declared.memory.Listed.{Listed}
+use Rattle.judge.specs.declared.memory.Listed.the-variants.{Bad, Misplaced, Good}
+use Rattle.judge.specs.declared.memory.Seen.{Seen}
+use Rattle.judge.specs.Given.{GoodCount, InMemory, ListGood, elementOf, total}
+use Rattle.wire.specs.Promise.{Says}
+
+abbrev pub Counts : List ℕ → ℕ → ℕ → Type 0
+Counts host at n = (i : ℕ) → i < n → GoodCount (elementOf host at i .bytes)
+
+abbrev pub Ranges : List ℕ → ℕ → ℕ → Type 0
+Ranges host at n = (i : ℕ) → i < n → InMemory host (elementOf host at i .address) (elementOf host at i .bytes)
+
+pub record Scanned (host : List ℕ) (at n : ℕ) (s : Seen) : Type 0 where
+  pub counts : Says (s .counts) (Counts host at n)
+  pub ranges : Says (s .ranges) (Ranges host at n)
+  pub sum : s .sum ≡ total host at n
+
+-- The two checks of a list, in their order.
+abbrev pub Listing : List ℕ → ℕ → ℕ → ℕ → Listed → Type 0
+Listing host at n bytes Bad = ListGood host at n bytes → ⊥
+Listing host at n bytes Misplaced = ListGood host at n bytes × (Ranges host at n → ⊥)
+Listing host at n bytes Good = ListGood host at n bytes × Ranges host at n

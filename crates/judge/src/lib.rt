@@ -1,0 +1,271 @@
+// Checks 10 to 19 on a request, its unit's standing and the host memory: a refusal, or what is to be done.
+// Everything that can be refused is refused here, before anything is touched; the first check that fails gives the answer.
+// It changes nothing, holds for every input, and knows no block.
+use answers::Refusal;
+use geometry::Geometry;
+use geometry::Number;
+use geometry::VolumeNumber;
+use request::Buffer;
+use request::Move;
+use request::Request;
+use request::Shape;
+use request::Start;
+use request::Target;
+use request::Task;
+use request::Track;
+use unit::Landing;
+use unit::Record;
+use unit::Spot;
+ghost use mathlib.Core.Path.{_≡_};
+ghost use Prim.Native.Nat.{_<_};
+ghost use Rattle.geometry.specs.Drive.{B, need, volume, volumeSectors};
+ghost use Rattle.geometry.specs.Limits.{Present};
+ghost use Rattle.judge.specs.Given.{asked, numberOf};
+ghost use Rattle.judge.specs.Verdict.{Begins, from, jobOf, verdict};
+ghost use Rattle.judge.specs.declared.Plan.{Plan};
+ghost use Rattle.judge.specs.declared.Verdict.{Verdict};
+ghost use Rattle.request.specs.declared.Task.{Task};
+ghost use Rattle.wire.specs.Promise.{Says};
+
+mod memory;
+
+use memory::Listed;
+use memory::holds;
+use memory::list;
+
+// What is judged of a unit beside the request: its record, and how long its image is.
+pub struct Standing {
+    pub record: Record,
+    pub image: usize,
+}
+
+// Sectors to move: from which number of which volume on, how many, which way, and where the data lies.
+pub struct Job {
+    pub to_host: bool,
+    pub past_marks: bool,
+    pub volume: VolumeNumber,
+    pub first: u64,
+    pub count: u16,
+    pub buffer: Buffer,
+}
+
+// What an accepted block does.
+pub enum Plan {
+    Report,
+    Initialize(Geometry),
+    Heads(u16),
+    Format(Spot, u32),
+    Move(Job),
+}
+
+pub enum Verdict {
+    Refused(Refusal),
+    Do(Plan),
+}
+
+// The verdict on a request.
+pub fn judge(r: Request, standing: Standing, host: &[u8]) -> Verdict
+    ensures { λ v. ⌜ v ≡ verdict (asked (r .task) standing (now (host .entry))) ⌝ }
+{
+    let task = r.task;
+    match task {
+        Task::Unknown => Verdict::Refused(Refusal::CommandUnknown),
+        Task::Move(m) => judge_move(m, standing, host),
+        Task::Handshake => Verdict::Do(Plan::Report),
+        Task::Initialize(s) => judge_shape(s, standing, host),
+        Task::Restore => judge_restore(standing, host),
+        Task::Seek(t) => judge_seek(t, standing, host),
+        Task::Format(k) => judge_format(k, standing, host),
+    }
+}
+
+fn judge_shape(s: Shape, standing: Standing, host: &[u8]) -> Verdict
+    ensures { λ v. ⌜ v ≡ verdict (asked (Task.Initialize s) standing (now (host .entry))) ⌝ }
+{
+    match s {
+        Shape::Misplaced => Verdict::Refused(Refusal::UibMisplaced),
+        Shape::Given(g) => {
+            if g.is_within() {
+                Verdict::Do(Plan::Initialize(g))
+            } else {
+                Verdict::Refused(Refusal::UibOutsideLimits)
+            }
+        }
+    }
+}
+
+fn judge_restore(standing: Standing, host: &[u8]) -> Verdict
+    ensures { λ v. ⌜ v ≡ verdict (asked Task.Restore standing (now (host .entry))) ⌝ }
+{
+    let u = standing.record;
+    if u.counts_as_initialized() {
+        Verdict::Do(Plan::Heads(0))
+    } else {
+        Verdict::Refused(Refusal::NotInitialized)
+    }
+}
+
+// What the checks ask of a unit's geometry.
+fn has_volume(u: Record, v: VolumeNumber) -> bool
+    ensures { λ r. ⌜ Says r (Present (volume (u .geometry) v)) ⌝ }
+{
+    u.geometry().volume(v).is_present()
+}
+
+fn sectors_of(u: Record, v: VolumeNumber) -> u64
+    ensures { λ r. ⌜ r ≡ volumeSectors (u .geometry) v ⌝ }
+{
+    u.geometry().volume_sectors(v)
+}
+
+fn sector_bytes(u: Record) -> u64
+    ensures { λ r. ⌜ (r ≡ B (u .geometry)) × (r < 65536) ⌝ }
+{
+    u.geometry().bytes_a_sector() as u64
+}
+
+fn is_short(s: Standing) -> bool
+    ensures { λ r. ⌜ Says r (s .image < need (s .record .geometry)) ⌝ }
+{
+    let u = s.record;
+    (s.image as u64) < u.geometry().need()
+}
+
+// The number of a request's first sector in its volume.
+fn number(u: Record, v: VolumeNumber, start: Start) -> Number
+    ensures { λ n. ⌜ n ≡ numberOf u v start ⌝ }
+{
+    match start {
+        Start::Logical(n) => Number::Is(n as u64),
+        Start::Physical {
+            cylinder,
+            head,
+            sector,
+        } => u.number(v, cylinder, head, sector),
+    }
+}
+
+fn judge_seek(t: Target, standing: Standing, host: &[u8]) -> Verdict
+    ensures { λ v. ⌜ v ≡ verdict (asked (Task.Seek t) standing (now (host .entry))) ⌝ }
+{
+    let u = standing.record;
+    let volume = t.volume;
+    let start = t.start;
+    if !u.counts_as_initialized() {
+        return Verdict::Refused(Refusal::NotInitialized);
+    }
+    if !has_volume(u, volume) {
+        return Verdict::Refused(Refusal::VolumeAbsent);
+    }
+    match number(u, volume, start) {
+        Number::Is(n) => match u.land(volume, n) {
+            Landing::At(spot) => Verdict::Do(Plan::Heads(spot.cylinder)),
+            Landing::Outside => Verdict::Refused(Refusal::SectorOutside),
+        },
+        Number::Outside => Verdict::Refused(Refusal::SectorOutside),
+    }
+}
+
+fn judge_format(k: Track, standing: Standing, host: &[u8]) -> Verdict
+    ensures { λ v. ⌜ v ≡ verdict (asked (Task.Format k) standing (now (host .entry))) ⌝ }
+{
+    let u = standing.record;
+    if !u.counts_as_initialized() {
+        return Verdict::Refused(Refusal::NotInitialized);
+    }
+    match u.land_track(k.cylinder, k.head) {
+        Landing::At(spot) => {
+            if is_short(standing) {
+                return Verdict::Refused(Refusal::ImageShort);
+            }
+            if !holds(host, k.buffer, sector_bytes(u)) {
+                return Verdict::Refused(Refusal::DataMisplaced);
+            }
+            Verdict::Do(Plan::Format(spot, k.buffer))
+        }
+        Landing::Outside => Verdict::Refused(Refusal::SectorOutside),
+    }
+}
+
+// Checks 11, 14 and 15 of a transfer, and whether it begins anywhere.
+fn judge_move(m: Move, standing: Standing, host: &[u8]) -> Verdict
+    ensures { λ v. ⌜ v ≡ verdict (asked (Task.Move m) standing (now (host .entry))) ⌝ }
+{
+    let u = standing.record;
+    let target = m.target;
+    let volume = target.volume;
+    let start = target.start;
+    if !u.counts_as_initialized() {
+        return Verdict::Refused(Refusal::NotInitialized);
+    }
+    if !has_volume(u, volume) {
+        return Verdict::Refused(Refusal::VolumeAbsent);
+    }
+    if m.count == 0 {
+        return Verdict::Refused(Refusal::CountZero);
+    }
+    match number(u, volume, start) {
+        Number::Is(n) => judge_span(m, n, standing, host),
+        Number::Outside => Verdict::Refused(Refusal::SectorOutside),
+    }
+}
+
+// Checks 16 and 17 of a transfer that begins at a number: the last sector is compared by what the volume has left.
+fn judge_span(m: Move, n: u64, standing: Standing, host: &[u8]) -> Verdict
+    requires { ⌜ Begins (asked (Task.Move m) standing (now host)) m n ⌝ }
+    ensures { λ v. ⌜ v ≡ from 6 (asked (Task.Move m) standing (now (host .entry))) ⌝ }
+{
+    let u = standing.record;
+    let target = m.target;
+    let volume = target.volume;
+    let sectors = sectors_of(u, volume);
+    if sectors <= n {
+        return Verdict::Refused(Refusal::SectorOutside);
+    }
+    if sectors - n < (m.count as u64) {
+        return Verdict::Refused(Refusal::SectorOutside);
+    }
+    if is_short(standing) {
+        return Verdict::Refused(Refusal::ImageShort);
+    }
+    judge_buffer(m, n, standing, host)
+}
+
+// Checks 18 and 19 of a transfer.
+fn judge_buffer(m: Move, n: u64, standing: Standing, host: &[u8]) -> Verdict
+    requires { ⌜ Begins (asked (Task.Move m) standing (now host)) m n ⌝ }
+    ensures { λ v. ⌜ v ≡ from 8 (asked (Task.Move m) standing (now (host .entry))) ⌝ }
+{
+    let u = standing.record;
+    let bytes = (m.count as u64) * sector_bytes(u);
+    let buffer = m.buffer;
+    match buffer {
+        Buffer::Piece(at) => {
+            if !holds(host, at, bytes) {
+                return Verdict::Refused(Refusal::DataMisplaced);
+            }
+            accepted(m, n)
+        }
+        Buffer::List { at, elements } => match list(host, at, elements, bytes) {
+            Listed::Good => accepted(m, n),
+            Listed::Bad => Verdict::Refused(Refusal::ListBad),
+            Listed::Misplaced => Verdict::Refused(Refusal::DataMisplaced),
+        },
+    }
+}
+
+fn accepted(m: Move, n: u64) -> Verdict
+    ensures { λ v. ⌜ v ≡ Verdict.Do (Plan.Move (jobOf m n)) ⌝ }
+{
+    let target = m.target;
+    let volume = target.volume;
+    let buffer = m.buffer;
+    Verdict::Do(Plan::Move(Job {
+        to_host: m.to_host,
+        past_marks: m.past_marks,
+        volume,
+        first: n,
+        count: m.count,
+        buffer,
+    }))
+}
