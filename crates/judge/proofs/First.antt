@@ -5,25 +5,26 @@ use mathlib.Core.List.{List, [], _∷_}
 use mathlib.Core.Logic.{if-neg, if-pos}
 use mathlib.Core.Path.{_≡_, refl, sym, _∙_}
 use lib.ListN.{drop, take}
+use Rattle.judge.specs.declared.Plan.{Plan}
 use Rattle.judge.specs.declared.Verdict.{Verdict}
 use Rattle.judge.specs.Checks.{Check, None, first}
 use Rattle.judge.specs.Given.{Asked}
-use Rattle.judge.specs.Verdict.{accepted, checks, from, verdict}
+use Rattle.judge.specs.Verdict.{checks, from, planOf, verdict}
 
-pub first-after : (i : ℕ) (ks : List Check) (o : Verdict) → None (take i ks) → first ks o ≡ first (drop i ks) o
+pub first-after : (i : ℕ) (ks : List Check) (p : Plan) → None (take i ks) → first ks p ≡ first (drop i ks) p
 unfolding None first
-first-after zero ks o none = refl
-first-after (suc i) [] o none = refl
-first-after (suc i) (k ∷ ks) o none = if-neg (k .given?) (none .0) _ _ ∙ first-after i ks o (none .1)
+first-after zero ks p none = refl
+first-after (suc i) [] p none = refl
+first-after (suc i) (k ∷ ks) p none = if-neg (k .given?) (none .0) _ _ ∙ first-after i ks p (none .1)
 
-pub first-none : (ks : List Check) (o : Verdict) → None ks → first ks o ≡ o
+pub first-none : (ks : List Check) (p : Plan) → None ks → first ks p ≡ Verdict.Do p
 unfolding None first
-first-none [] o none = refl
-first-none (k ∷ ks) o none = if-neg (k .given?) (none .0) _ _ ∙ first-none ks o (none .1)
+first-none [] p none = refl
+first-none (k ∷ ks) p none = if-neg (k .given?) (none .0) _ _ ∙ first-none ks p (none .1)
 
-pub first-given : (k : Check) (ks : List Check) (o : Verdict) → k .Given → first (k ∷ ks) o ≡ Verdict.Refused (k .answer)
+pub first-given : (k : Check) (ks : List Check) (p : Plan) → k .Given → first (k ∷ ks) p ≡ Verdict.Refused (k .answer)
 unfolding first
-first-given k ks o given = if-pos (k .given?) given _ _
+first-given k ks p given = if-pos (k .given?) given _ _
 
 -- ---- the verdict
 
@@ -36,7 +37,7 @@ unfolding verdict from
 passed i a none = first-after i (checks a) _ none
 
 -- From the i-th check on, the next j are not given.
-pub from-after : (i j : ℕ) (a : Asked) → None (take j (drop i (checks a))) → from i a ≡ first (drop j (drop i (checks a))) (accepted (a .unit) (a .task))
+pub from-after : (i j : ℕ) (a : Asked) → None (take j (drop i (checks a))) → from i a ≡ first (drop j (drop i (checks a))) (planOf (a .unit) (a .task))
 unfolding from
 from-after i j a none = first-after j (drop i (checks a)) _ none
 
@@ -49,10 +50,10 @@ pub refused-at :
     drop i (checks a) ≡ k ∷ ks → None (take i (checks a)) → k .Given → verdict a ≡ Verdict.Refused (k .answer)
 refused-at i a k ks is none given = passed i a none ∙ refused-from i a k ks is given
 
-pub accepted-from : (i : ℕ) (a : Asked) → None (drop i (checks a)) → from i a ≡ accepted (a .unit) (a .task)
+pub accepted-from : (i : ℕ) (a : Asked) → None (drop i (checks a)) → from i a ≡ Verdict.Do (planOf (a .unit) (a .task))
 unfolding from
 accepted-from i a none = first-none (drop i (checks a)) _ none
 
-pub accepted-whole : (a : Asked) → None (checks a) → verdict a ≡ accepted (a .unit) (a .task)
+pub accepted-whole : (a : Asked) → None (checks a) → verdict a ≡ Verdict.Do (planOf (a .unit) (a .task))
 unfolding verdict
 accepted-whole a none = first-none (checks a) _ none

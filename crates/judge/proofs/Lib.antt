@@ -1,3 +1,4 @@
+pub mod Exactly
 pub mod First
-pub mod Lists
+pub mod Sectors
 pub mod Tasks

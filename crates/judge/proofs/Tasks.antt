@@ -22,8 +22,8 @@ use Rattle.judge.specs.declared.Plan.{Plan}
 use Rattle.judge.specs.declared.Standing.{Standing}
 use Rattle.judge.specs.declared.Verdict.{Verdict}
 use Rattle.judge.specs.Checks.{None, first}
-use Rattle.judge.specs.Given.{Asked, BadList, BadRange, Covers, HasTrack, InMemory, ListGood, asked, numberOf}
-use Rattle.judge.specs.Scan.{Ranges}
+use Rattle.judge.specs.Given.{Asked, BadList, BadRange, Covers, HasTrack, asked, numberOf}
+use Rattle.memory.specs.Lists.{InMemory, ListGood, Ranges}
 use Rattle.judge.specs.Verdict.{Begins, from, jobOf, verdict}
 use Rattle.judge.proofs.First.{accepted-from, accepted-whole, first-after, from-after, never, passed, refused-at, refused-from}
 

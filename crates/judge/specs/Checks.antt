@@ -2,6 +2,7 @@
 use mathlib.Core.List.{List, [], _∷_}
 use mathlib.Core.Logic.{ite}
 use Rattle.answers.specs.declared.Refusal.{Refusal}
+use Rattle.judge.specs.declared.Plan.{Plan}
 use Rattle.judge.specs.declared.Verdict.{Verdict}
 
 -- A check: its answer, the case in which that answer is given, and the decision of the case.
@@ -10,10 +11,10 @@ pub record Check : Type 1 where
   pub Given : Type 0
   pub given? : Dec Given
 
--- The answer of the first check that is given, or what is said where none is.
-unfoldable pub first : List Check → Verdict → Verdict
-first [] otherwise = otherwise
-first (k ∷ ks) otherwise = ite (k .given?) (Verdict.Refused (k .answer)) (first ks otherwise)
+-- The answer of the first check that is given, or, where none is, what is to be done.
+unfoldable pub first : List Check → Plan → Verdict
+first [] plan = Verdict.Do plan
+first (k ∷ ks) plan = ite (k .given?) (Verdict.Refused (k .answer)) (first ks plan)
 
 -- None of the checks is given.
 unfoldable pub None : List Check → Type 0

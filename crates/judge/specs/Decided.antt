@@ -1,10 +1,9 @@
 -- Each case of Given is decided. A decision proves itself: nothing here has to be believed.
-use Prim.Native.Nat.{ℕ, _+_, _-_, _*_, _%_, _≤_, _<_}
+use Prim.Native.Nat.{ℕ, _+_, _-_, _*_, _<_}
 use mathlib.Core.List.{List}
 use mathlib.Core.Logic.{Dec·and, Dec·not}
 use mathlib.Core.Path.{_≡_}
-use native.Mathlib.Decide.{decLe, decLt, map-dec, ℕ-discrete}
-use lib.ListN.{length}
+use native.Mathlib.Decide.{decLt, ℕ-discrete}
 use Rattle.geometry.specs.declared.Number.{Number}
 use Rattle.geometry.specs.declared.Number.the-variants.{Is, Outside}
 use Rattle.geometry.specs.declared.VolumeNumber.{VolumeNumber}
@@ -22,39 +21,16 @@ use Rattle.request.specs.declared.Task.the-variants.{Unknown, Move as Moves, Ha
 use Rattle.request.specs.declared.Track.{Track}
 use Rattle.unit.specs.declared.Record.{Record}
 use Rattle.unit.proofs.Decided.{counts?}
-use Rattle.wire.proofs.Decided.{all?}
-use Rattle.judge.specs.Given.{Asked, BadList, BadPlace, BadRange, BadShape, Covers, GoodCount, InMemory, ListGood, elementOf, given10, given11, given12, given13, given14, given15, given16, given17, given18, given19, numberOf, row, total}
+use Rattle.memory.proofs.Decided.{inMemory?, listGood?, ranges?}
+use Rattle.judge.specs.Given.{Asked, BadList, BadPlace, BadRange, BadShape, Covers, given10, given11, given12, given13, given14, given15, given16, given17, given18, given19, numberOf, row}
 
 never : Dec ⊥
 never = no (λ x. x)
 
-covers? : (u : Record) (v : VolumeNumber) (n : Number) (count : ℕ) → Dec (Covers u v n count)
+pub covers? : (u : Record) (v : VolumeNumber) (n : Number) (count : ℕ) → Dec (Covers u v n count)
 covers? u v (Is n) count =
     Dec·and (decLt n (volumeSectors (u .geometry) v)) (decLt (n + (count - 1)) (volumeSectors (u .geometry) v))
 covers? u v Outside count = never
-
-pub inMemory? : (host : List ℕ) (at bytes : ℕ) → Dec (InMemory host at bytes)
-inMemory? host at bytes =
-    map-dec (λ d. record { even = d .0; inside = d .1 }) (λ i. (i .even, i .inside))
-    (Dec·and (ℕ-discrete (at % 2) 0) (decLe (at + bytes) (length host)))
-
-goodCount? : (bytes : ℕ) → Dec (GoodCount bytes)
-goodCount? bytes =
-    map-dec (λ d. record { some = d .0; even = d .1 }) (λ g. (g .some, g .even))
-    (Dec·and (decLt 0 bytes) (ℕ-discrete (bytes % 2) 0))
-
-pub listGood? : (host : List ℕ) (at elements bytes : ℕ) → Dec (ListGood host at elements bytes)
-listGood? host at elements bytes =
-    map-dec
-    (λ d. record { some = d .0; most = d .1 .0; even = d .1 .1 .0; inside = d .1 .1 .1 .0; counts = d .1 .1 .1 .1 .0; sum = d .1 .1 .1 .1 .1 })
-    (λ l. (l .some, (l .most, (l .even, (l .inside, (l .counts, l .sum))))))
-    (Dec·and (decLe 1 elements)
-    (Dec·and (decLe elements 64)
-    (Dec·and (ℕ-discrete (at % 2) 0)
-    (Dec·and (decLe (at + 8 * elements) (length host))
-    (Dec·and
-    (all? _ (λ i. goodCount? (elementOf host at i .bytes)) elements)
-    (ℕ-discrete (total host at elements) bytes))))))
 
 badList? : (host : List ℕ) (b : Buffer) (bytes : ℕ) → Dec (BadList host b bytes)
 badList? host (Piece at) bytes = never
@@ -62,8 +38,7 @@ badList? host (Elements at n) bytes = Dec·not (listGood? host at n bytes)
 
 badRange? : (host : List ℕ) (b : Buffer) (bytes : ℕ) → Dec (BadRange host b bytes)
 badRange? host (Piece at) bytes = Dec·not (inMemory? host at bytes)
-badRange? host (Elements at n) bytes =
-    Dec·not (all? _ (λ i. inMemory? host (elementOf host at i .address) (elementOf host at i .bytes)) n)
+badRange? host (Elements at n) bytes = Dec·not (ranges? host at n)
 
 badPlace? : (s : Shape) → Dec (BadPlace s)
 badPlace? Misplaced = yes tt

@@ -1,16 +1,14 @@
 -- When each of the answers 10 to 19 is given (01, Answer numbers), in the paper's words, and for which commands.
-use Prim.Native.Nat.{ℕ, zero, suc, _+_, _-_, _*_, _%_, _≤_, _<_}
+use Prim.Native.Nat.{ℕ, _+_, _-_, _*_, _<_}
 use mathlib.Core.List.{List}
 use mathlib.Core.Path.{_≡_}
-use lib.ListN.{length}
 use Rattle.geometry.specs.declared.Number.{Number}
 use Rattle.geometry.specs.declared.Number.the-variants.{Is, Outside}
 use Rattle.geometry.specs.declared.VolumeNumber.{VolumeNumber}
 use Rattle.geometry.specs.Drive.{B, need, volume, volumeSectors}
 use Rattle.geometry.specs.Limits.{Present, Within}
 use Rattle.geometry.specs.Sectors.{OnDrive, address}
-use Rattle.iopb.specs.declared.Element.{Element}
-use Rattle.iopb.specs.Layout.{elementAt}
+use Rattle.memory.specs.Lists.{InMemory, ListGood, Ranges}
 use Rattle.request.specs.declared.Buffer.{Buffer}
 use Rattle.request.specs.declared.Buffer.the-variants.{Piece, List as Elements}
 use Rattle.request.specs.declared.Move.{Move}
@@ -37,7 +35,7 @@ pub record Asked : Type 0 where
 abbrev pub asked : Task → Standing → List ℕ → Asked
 asked t s host = record { task = t; unit = s .record; image = s .image; host = host }
 
--- Where a request begins: the number of its first sector in its volume, if the volume has it.
+-- The number at which a request begins: a logical number as it came, and a physical address's where the volume has it.
 abbrev pub numberOf : Record → VolumeNumber → Start → Number
 numberOf u v (Logical n) = Is n
 numberOf u v (Physical c h s) = numberOn u v c h s
@@ -51,33 +49,6 @@ Covers u v Outside count = ⊥
 abbrev pub HasTrack : Record → Track → Type 0
 HasTrack u k = OnDrive (u .geometry) (address (k .cylinder) (k .head) 0)
 
--- "a data address odd or its range not in host memory": neither is.
-pub record InMemory (host : List ℕ) (at bytes : ℕ) : Type 0 where
-  pub even : at % 2 ≡ 0
-  pub inside : at + bytes ≤ length host
-
--- The i-th element of a list, and the sum of the byte counts of its first n.
-abbrev pub elementOf : List ℕ → ℕ → ℕ → Element
-elementOf host at i = elementAt host (at + 8 * i)
-
-unfoldable pub total : List ℕ → ℕ → ℕ → ℕ
-total host at zero = 0
-total host at (suc n) = total host at n + elementOf host at n .bytes
-
--- "a byte count 0 or odd": it is neither.
-pub record GoodCount (bytes : ℕ) : Type 0 where
-  pub some : 0 < bytes
-  pub even : bytes % 2 ≡ 0
-
--- "list: 0 or over 64 elements, list address odd, list not in memory, a byte count 0 or odd, or the sum not count × B": none of it.
-pub record ListGood (host : List ℕ) (at elements bytes : ℕ) : Type 0 where
-  pub some : 1 ≤ elements
-  pub most : elements ≤ 64
-  pub even : at % 2 ≡ 0
-  pub inside : at + 8 * elements ≤ length host
-  pub counts : (i : ℕ) → i < elements → GoodCount (elementOf host at i .bytes)
-  pub sum : total host at elements ≡ bytes
-
 -- The checks of a buffer for so many bytes: 18 is for lists alone.
 abbrev pub BadList : List ℕ → Buffer → ℕ → Type 0
 BadList host (Piece at) bytes = ⊥
@@ -85,8 +56,7 @@ BadList host (Elements at n) bytes = ListGood host at n bytes → ⊥
 
 abbrev pub BadRange : List ℕ → Buffer → ℕ → Type 0
 BadRange host (Piece at) bytes = InMemory host at bytes → ⊥
-BadRange host (Elements at n) bytes =
-    ((i : ℕ) → i < n → InMemory host (elementOf host at i .address) (elementOf host at i .bytes)) → ⊥
+BadRange host (Elements at n) bytes = Ranges host at n → ⊥
 
 -- The two checks of 87.
 abbrev pub BadPlace : Shape → Type 0

@@ -55,24 +55,25 @@ jobOf m n =
       buffer = m .buffer;
     }
 
--- What is to be done, of a task that no check refuses. A task that some check always refuses has that answer here too.
-abbrev pub accepted : Record → Task → Verdict
-accepted u Unknown = Verdict.Refused CommandUnknown
-accepted u (Moves m) = Verdict.Do (Plan.Move (jobOf m (found (numberOf u (m .target .volume) (m .target .start)))))
-accepted u Handshake = Verdict.Do Plan.Report
-accepted u (Initialize Misplaced) = Verdict.Refused UibMisplaced
-accepted u (Initialize (Says g)) = Verdict.Do (Plan.Initialize g)
--- "89 goes to cylinder 0. 8A goes to the address given."
-accepted u Restore = Verdict.Do (Plan.Heads 0)
-accepted u (Seek t) = Verdict.Do (Plan.Heads (spotOf u (t .volume) (found (numberOf u (t .volume) (t .start))) .cylinder))
-accepted u (Format k) = Verdict.Do (Plan.Format (trackOf u (k .cylinder) (k .head)) (k .buffer))
+-- What is to be done, of a task that no check refuses. A task that some check always refuses has no plan: what stands for it
+-- here is never asked for.
+abbrev pub planOf : Record → Task → Plan
+planOf u Unknown = Plan.Report
+planOf u (Moves m) = Plan.Move (jobOf m (found (numberOf u (m .target .volume) (m .target .start))))
+planOf u Handshake = Plan.Report
+planOf u (Initialize Misplaced) = Plan.Report
+planOf u (Initialize (Says g)) = Plan.Initialize g
+-- "89 goes to cylinder 0", "8A goes to the address given"
+planOf u Restore = Plan.Heads 0
+planOf u (Seek t) = Plan.Heads (spotOf u (t .volume) (found (numberOf u (t .volume) (t .start))) .cylinder)
+planOf u (Format k) = Plan.Format (trackOf u (k .cylinder) (k .head)) (k .buffer)
 
 unfoldable pub verdict : Asked → Verdict
-verdict a = first (checks a) (accepted (a .unit) (a .task))
+verdict a = first (checks a) (planOf (a .unit) (a .task))
 
 -- The same with the first k checks left out, for the functions that come after them.
 unfoldable pub from : ℕ → Asked → Verdict
-from k a = first (drop k (checks a)) (accepted (a .unit) (a .task))
+from k a = first (drop k (checks a)) (planOf (a .unit) (a .task))
 
 -- A transfer that begins at a number and is for some sectors.
 pub record Begins (a : Asked) (m : Move) (n : ℕ) : Type 0 where

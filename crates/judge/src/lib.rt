@@ -1,10 +1,13 @@
 // Checks 10 to 19 on a request, its unit's standing and the host memory: a refusal, or what is to be done.
-// Everything that can be refused is refused here, before anything is touched; the first check that fails gives the answer.
-// It changes nothing, holds for every input, and knows no block.
+// Whatever is refused before a transfer is refused here, before anything is touched, by the first check that fails.
+// It changes nothing, holds for every input, and knows no block; a list's elements are the 3200's.
 use answers::Refusal;
 use geometry::Geometry;
 use geometry::Number;
 use geometry::VolumeNumber;
+use memory::Listed;
+use memory::holds;
+use memory::list;
 use request::Buffer;
 use request::Move;
 use request::Request;
@@ -26,12 +29,6 @@ ghost use Rattle.judge.specs.declared.Plan.{Plan};
 ghost use Rattle.judge.specs.declared.Verdict.{Verdict};
 ghost use Rattle.request.specs.declared.Task.{Task};
 ghost use Rattle.wire.specs.Promise.{Says};
-
-mod memory;
-
-use memory::Listed;
-use memory::holds;
-use memory::list;
 
 // What is judged of a unit beside the request: its record, and how long its image is.
 pub struct Standing {

@@ -1,4 +1,4 @@
-// What a block asks, free of any layout: the one form in which every product's block is judged and carried out.
+// What a block asks, free of any block's layout: the one form in which every product's block is judged and carried out.
 // A product's own crate makes a request of its block; nothing here reads a byte.
 // What a run does besides (links, interrupts, events) is no part of it.
 use geometry::Geometry;
@@ -31,7 +31,8 @@ pub enum Buffer {
     List { at: u32, elements: u8 },
 }
 
-// Sectors to host memory, or from it. `past_marks` moves sectors that are marked unreadable and goes on.
+// Sectors to host memory, or from it. To host memory, `past_marks` moves sectors that are marked unreadable too; from it,
+// marks are ignored in any case.
 pub struct Move {
     pub to_host: bool,
     pub past_marks: bool,

@@ -1,25 +1,20 @@
+-- The image is compared with what the geometry needs.
+-- A comparison says what follows from its outcomes.
 use Prim.Native.Nat.{suc, _<_}
 use mathlib.Core.Path.{_≡_}
 use native.Mathlib.Omega.{arith}
-use Rattle.geometry.specs.Drive.{need}
-use Rattle.wire.proofs.Promises.{says-leb}
 use borrow.Author.Needs.{needs}
+use Rattle.wire.proofs.Promises.{says-leb}
+use Rattle.geometry.specs.Drive.{need}
 use Rattle.judge.proofs.is_short.Statement.{statement}
 use Rattle.judge.proofs.is_short.Tie as tie
-use Rattle.judge.proofs.is_short.Reads as reads
-use Rattle.judge.proofs.is_short.Lts as lts
-use Rattle.geometry.proofs.Geometry.need.Reads as need-reads
-use Rattle.unit.proofs.Record.geometry.Reads as geometry-reads
 
--- src/lib.rt:131:24
 geometry-requires : tie.Need-geometry-requires
 geometry-requires c κs = search needs
 
--- src/lib.rt:131:24
 need-requires : tie.Need-need-requires
 need-requires c κs = search needs
 
--- src/lib.rt:127:1
 returns : tie.Need-returns
 returns c =
     let s = c .before .before .before .args .s in

@@ -1,102 +1,78 @@
+-- The task's kind decides which function judges it.
+-- Each promises the verdict on its own kind.
 use mathlib.Core.Path.{_≡_, sym}
+use borrow.Author.Needs.{needs}
 use Rattle.request.specs.declared.Task.{Task}
 use Rattle.judge.proofs.Tasks.{handshake, unknown}
-use borrow.Author.Needs.{needs}
 use Rattle.judge.proofs.judge.Statement.{statement}
 use Rattle.judge.proofs.judge.Tie as tie
-use Rattle.judge.proofs.judge.Reads as reads
-use Rattle.judge.proofs.judge.Lts as lts
-use Rattle.judge.proofs.judge_format.Reads as judge-format-reads
-use Rattle.judge.proofs.judge_move.Reads as judge-move-reads
-use Rattle.judge.proofs.judge_restore.Reads as judge-restore-reads
-use Rattle.judge.proofs.judge_seek.Reads as judge-seek-reads
-use Rattle.judge.proofs.judge_shape.Reads as judge-shape-reads
 
--- src/lib.rt:72:43
 enum-told : tie.Need-enum-told
 enum-told c = search needs
 
--- src/lib.rt:73:20
 enum-known-task : tie.Need-enum-known-task
 enum-known-task c = search needs
 
--- src/lib.rt:73:26
 judge-move-requires : tie.Need-judge-move-requires
 judge-move-requires c κs = search needs
 
--- src/lib.rt:74:40
 enum-told-2 : tie.Need-enum-told-2
 enum-told-2 c = search needs
 
--- src/lib.rt:75:26
 enum-known-task-2 : tie.Need-enum-known-task-2
 enum-known-task-2 c = search needs
 
--- src/lib.rt:75:32
 judge-shape-requires : tie.Need-judge-shape-requires
 judge-shape-requires c κs = search needs
 
--- src/lib.rt:76:26
 enum-told-3 : tie.Need-enum-told-3
 enum-told-3 c = search needs
 
--- src/lib.rt:76:26
 judge-restore-requires : tie.Need-judge-restore-requires
 judge-restore-requires c κs = search needs
 
--- src/lib.rt:77:20
 enum-known-task-3 : tie.Need-enum-known-task-3
 enum-known-task-3 c = search needs
 
--- src/lib.rt:77:26
 judge-seek-requires : tie.Need-judge-seek-requires
 judge-seek-requires c κs = search needs
 
--- src/lib.rt:78:22
 enum-known-task-4 : tie.Need-enum-known-task-4
 enum-known-task-4 c = search needs
 
--- src/lib.rt:78:28
 judge-format-requires : tie.Need-judge-format-requires
 judge-format-requires c κs = search needs
 
--- src/lib.rt:67:1
 returns : tie.Need-returns
 returns c =
     let is : c .before .before .before .args .r .task ≡ Task.Unknown = cc in
     rw is (sym (unknown _ _))
 
--- src/lib.rt:67:1
 returns-2 : tie.Need-returns-2
 returns-2 c =
     let is : c .before .before .before .before .before .args .r .task ≡ Task.Move (c .before .before .task .given .0 .0) = cc in
     rw is (c .judge-move .ensures)
 
--- src/lib.rt:67:1
 returns-3 : tie.Need-returns-3
 returns-3 c =
     let is : c .before .before .before .args .r .task ≡ Task.Handshake = cc in
     rw is (sym (handshake _ _))
 
--- src/lib.rt:67:1
 returns-4 : tie.Need-returns-4
 returns-4 c =
     let is : c .before .before .before .before .before .args .r .task ≡ Task.Initialize (c .before .before .task2 .given .0 .0) = cc in
     rw is (c .judge-shape .ensures)
 
--- src/lib.rt:67:1
 returns-5 : tie.Need-returns-5
 returns-5 c =
     let is : c .before .before .before .before .args .r .task ≡ Task.Restore = cc in
     rw is (c .judge-restore .ensures)
 
--- src/lib.rt:67:1
 returns-6 : tie.Need-returns-6
 returns-6 c =
     let is : c .before .before .before .before .before .args .r .task ≡ Task.Seek (c .before .before .task3 .given .0 .0) = cc in
     rw is (c .judge-seek .ensures)
 
--- src/lib.rt:67:1
 returns-7 : tie.Need-returns-7
 returns-7 c =
     let is : c .before .before .before .before .before .args .r .task ≡ Task.Format (c .before .before .task4 .given .0 .0) = cc in

@@ -1,41 +1,31 @@
+-- A piece is judged by check 19 alone, a list by 18 and then by 19.
+-- What `memory` found of either is what those checks say.
 use mathlib.Core.Path.{_≡_, sym, _∙_}
 use native.Mathlib.Omega.{arith}
-use Rattle.request.specs.declared.Buffer.{Buffer}
+use borrow.Author.Needs.{needs}
 use Rattle.wire.proofs.Numbers.{product-below}
 use Rattle.wire.proofs.Promises.{denied, granted}
-use Rattle.judge.specs.declared.memory.Listed.{Listed}
+use Rattle.request.specs.declared.Buffer.{Buffer}
+use Rattle.memory.specs.declared.Listed.{Listed}
 use Rattle.judge.proofs.Tasks.{list-18, list-19, list-done, piece-19, piece-done}
-use borrow.Author.Needs.{needs}
 use Rattle.judge.proofs.judge_buffer.Statement.{statement}
 use Rattle.judge.proofs.judge_buffer.Tie as tie
-use Rattle.judge.proofs.judge_buffer.Reads as reads
-use Rattle.judge.proofs.judge_buffer.Lts as lts
-use Rattle.judge.proofs.accepted.Reads as accepted-reads
-use Rattle.judge.proofs.memory.holds.Reads as holds-reads
-use Rattle.judge.proofs.memory.list.Reads as list-reads
-use Rattle.judge.proofs.sector_bytes.Reads as sector-bytes-reads
 
--- src/lib.rt:240:18
 cast-bytes : tie.Need-cast-bytes
 cast-bytes c = search needs
 
--- src/lib.rt:240:36
 sector-bytes-requires : tie.Need-sector-bytes-requires
 sector-bytes-requires c κs = search needs
 
--- src/lib.rt:240:17
 mul-bytes : tie.Need-mul-bytes
 mul-bytes c = record { fits = product-below _ _ 65535 65535 _ (omega arith) (omega arith) tt }
 
--- src/lib.rt:243:23
 enum-known-buffer : tie.Need-enum-known-buffer
 enum-known-buffer c = search needs
 
--- src/lib.rt:244:17
 holds-requires : tie.Need-holds-requires
 holds-requires c κs = search needs
 
--- src/lib.rt:245:17
 returns : tie.Need-returns
 returns c =
     let a = c .before .before .before .before .before .before .before .before .before .args in
@@ -46,35 +36,27 @@ returns c =
     (piece-19 (a .standing) (a .host .now) (a .m) at is
     (denied (held .result) _ (c .if1 .taken) (rw (c .before .before .before .before .before .sector-bytes .ensures .0) at (held .ensures))))
 
--- src/lib.rt:247:13
 accepted-requires : tie.Need-accepted-requires
 accepted-requires c κs = search needs
 
--- src/lib.rt:249:24
 enum-known-buffer-2 : tie.Need-enum-known-buffer-2
 enum-known-buffer-2 c = search needs
 
--- src/lib.rt:249:48
 list-requires : tie.Need-list-requires
 list-requires c κs = search needs
 
--- src/lib.rt:250:29
 enum-told : tie.Need-enum-told
 enum-told c = search needs
 
--- src/lib.rt:250:29
 accepted-requires-2 : tie.Need-accepted-requires-2
 accepted-requires-2 c κs = search needs
 
--- src/lib.rt:251:45
 enum-told-2 : tie.Need-enum-told-2
 enum-told-2 c = search needs
 
--- src/lib.rt:252:51
 enum-told-3 : tie.Need-enum-told-3
 enum-told-3 c = search needs
 
--- src/lib.rt:235:1
 returns-2 : tie.Need-returns-2
 returns-2 c =
     let a = c .before .before .before .before .before .before .before .before .before .before .args in
@@ -86,7 +68,6 @@ returns-2 c =
     (piece-done (a .standing) (a .host .now) (a .m) at is (a .n) (c .before .before .before .before .before .before .before .before .before .before .pre .starts)
     (granted (held .result) _ (c .before .if1 .left) (rw (c .before .before .before .before .before .before .sector-bytes .ensures .0) at (held .ensures))))
 
--- src/lib.rt:235:1
 returns-3 : tie.Need-returns-3
 returns-3 c =
     let a = c .before .before .before .before .before .before .before .before .before .before .before .args in
@@ -98,7 +79,6 @@ returns-3 c =
     ∙ sym
     (list-done (a .standing) (a .host .now) (a .m) (f .0) (f .1 .0) is (a .n) (c .before .before .before .before .before .before .before .before .before .before .before .pre .starts) (found .0) (found .1))
 
--- src/lib.rt:235:1
 returns-4 : tie.Need-returns-4
 returns-4 c =
     let a = c .before .before .before .before .before .before .before .before .before .before .args in
@@ -108,7 +88,6 @@ returns-4 c =
     let found = rw (c .before .before .before .before .before .before .sector-bytes .ensures .0, bad) at (c .before .before .list .ensures) in
     sym (list-18 (a .standing) (a .host .now) (a .m) (f .0) (f .1 .0) is found)
 
--- src/lib.rt:235:1
 returns-5 : tie.Need-returns-5
 returns-5 c =
     let a = c .before .before .before .before .before .before .before .before .before .before .args in

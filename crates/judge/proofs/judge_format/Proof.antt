@@ -1,45 +1,34 @@
+-- Checks 11, 16, 17 and 19, each passed before the next is asked.
+-- Where the unit has a landing the track is on the drive.
 use mathlib.Core.Path.{ap, sym, _∙_}
 use native.Mathlib.Omega.{arith}
-use Rattle.unit.specs.declared.Spot.{Spot}
-use Rattle.unit.proofs.Answers.{at-track, no-track}
+use borrow.Author.Needs.{needs}
 use Rattle.wire.proofs.Promises.{denied, granted, says-no, says-yes}
+use Rattle.unit.proofs.Answers.{at-track, no-track}
+use Rattle.unit.specs.declared.Spot.{Spot}
 use Rattle.judge.specs.declared.Plan.{Plan}
 use Rattle.judge.specs.declared.Verdict.{Verdict}
 use Rattle.judge.proofs.Tasks.{format-11, format-16, format-17, format-19, format-done}
-use borrow.Author.Needs.{needs}
 use Rattle.judge.proofs.judge_format.Statement.{statement}
 use Rattle.judge.proofs.judge_format.Tie as tie
-use Rattle.judge.proofs.judge_format.Reads as reads
-use Rattle.judge.proofs.judge_format.Lts as lts
-use Rattle.judge.proofs.is_short.Reads as is-short-reads
-use Rattle.judge.proofs.memory.holds.Reads as holds-reads
-use Rattle.judge.proofs.sector_bytes.Reads as sector-bytes-reads
-use Rattle.unit.proofs.Record.counts_as_initialized.Reads as counts-as-initialized-reads
-use Rattle.unit.proofs.Record.land_track.Reads as land-track-reads
 
--- src/lib.rt:173:9
 counts-as-initialized-requires : tie.Need-counts-as-initialized-requires
 counts-as-initialized-requires c κs = search needs
 
--- src/lib.rt:174:9
 returns : tie.Need-returns
 returns c =
     let u = c .before .counts-as-initialized in
     sym (format-11 _ _ _ (denied (u .result) _ (c .if1 .taken) (u .ensures)))
 
--- src/lib.rt:176:11
 land-track-requires : tie.Need-land-track-requires
 land-track-requires c κs = search needs
 
--- src/lib.rt:177:21
 enum-known-spot : tie.Need-enum-known-spot
 enum-known-spot c = search needs
 
--- src/lib.rt:178:16
 is-short-requires : tie.Need-is-short-requires
 is-short-requires c κs = search needs
 
--- src/lib.rt:179:17
 returns-2 : tie.Need-returns-2
 returns-2 c =
     let a = c .before .before .before .before .before .before .before .before .before .before .args in
@@ -50,15 +39,12 @@ returns-2 c =
     (format-17 (a .standing) (a .host .now) (a .k) (granted (u .result) _ (c .before .before .before .before .before .before .if1 .left) (u .ensures)) (on .0)
     (says-yes (short .result) _ (c .if2 .taken) (short .ensures)))
 
--- src/lib.rt:181:39
 sector-bytes-requires : tie.Need-sector-bytes-requires
 sector-bytes-requires c κs = search needs
 
--- src/lib.rt:181:17
 holds-requires : tie.Need-holds-requires
 holds-requires c κs = search needs
 
--- src/lib.rt:182:17
 returns-3 : tie.Need-returns-3
 returns-3 c =
     let a = c .before .before .before .before .before .before .before .before .before .before .before .before .before .args in
@@ -72,11 +58,9 @@ returns-3 c =
     (omega arith)
     (denied (held .result) _ (c .if3 .taken) (rw (c .before .before .sector-bytes .ensures .0) at (held .ensures))))
 
--- src/lib.rt:186:46
 enum-told : tie.Need-enum-told
 enum-told c = search needs
 
--- src/lib.rt:169:1
 returns-4 : tie.Need-returns-4
 returns-4 c =
     let a = c .before .before .before .before .before .before .before .before .before .before .before .before .before .args in
@@ -91,7 +75,6 @@ returns-4 c =
     (omega arith)
     (granted (held .result) _ (c .if3 .left) (rw (c .before .before .sector-bytes .ensures .0) at (held .ensures))))
 
--- src/lib.rt:169:1
 returns-5 : tie.Need-returns-5
 returns-5 c =
     let a = c .before .before .before .before .before .before .before .args in

@@ -1,69 +1,54 @@
+-- Checks 11, 14 and 16, each passed before the next is asked.
+-- Where the unit has a landing the number is in the volume, and the heads go to its cylinder.
 use mathlib.Core.Path.{_≡_, ap, sym, _∙_}
 use native.Mathlib.Omega.{arith}
-use Rattle.geometry.specs.declared.Number.{Number}
-use Rattle.unit.specs.declared.Spot.{Spot}
-use Rattle.unit.proofs.Answers.{at-landing, no-landing}
+use borrow.Author.Needs.{needs}
 use Rattle.wire.proofs.Promises.{denied, granted}
+use Rattle.geometry.specs.declared.Number.{Number}
+use Rattle.unit.proofs.Answers.{at-landing, no-landing}
+use Rattle.unit.specs.declared.Spot.{Spot}
+use Rattle.judge.specs.Given.{numberOf}
 use Rattle.judge.specs.declared.Plan.{Plan}
 use Rattle.judge.specs.declared.Verdict.{Verdict}
-use Rattle.judge.specs.Given.{numberOf}
 use Rattle.judge.proofs.Tasks.{seek-11, seek-14, seek-done, seek-nowhere, seek-past}
-use borrow.Author.Needs.{needs}
 use Rattle.judge.proofs.judge_seek.Statement.{statement}
 use Rattle.judge.proofs.judge_seek.Tie as tie
-use Rattle.judge.proofs.judge_seek.Reads as reads
-use Rattle.judge.proofs.judge_seek.Lts as lts
-use Rattle.judge.proofs.has_volume.Reads as has-volume-reads
-use Rattle.judge.proofs.number.Reads as number-reads
-use Rattle.unit.proofs.Record.counts_as_initialized.Reads as counts-as-initialized-reads
-use Rattle.unit.proofs.Record.land.Reads as land-reads
 
--- src/lib.rt:154:9
 counts-as-initialized-requires : tie.Need-counts-as-initialized-requires
 counts-as-initialized-requires c κs = search needs
 
--- src/lib.rt:155:9
 returns : tie.Need-returns
 returns c =
     let u = c .before .counts-as-initialized in
     sym (seek-11 _ _ _ (denied (u .result) _ (c .if1 .taken) (u .ensures)))
 
--- src/lib.rt:157:9
 has-volume-requires : tie.Need-has-volume-requires
 has-volume-requires c κs = search needs
 
--- src/lib.rt:158:9
 returns-2 : tie.Need-returns-2
 returns-2 c =
     let u = c .before .before .before .counts-as-initialized in
     let v = c .before .has-volume in
     sym (seek-14 _ _ _ (granted (u .result) _ (c .before .before .if1 .left) (u .ensures)) (denied (v .result) _ (c .if2 .taken) (v .ensures)))
 
--- src/lib.rt:160:11
 number-requires : tie.Need-number-requires
 number-requires c κs = search needs
 
--- src/lib.rt:161:20
 enum-known-n : tie.Need-enum-known-n
 enum-known-n c = search needs
 
--- src/lib.rt:161:32
 land-requires : tie.Need-land-requires
 land-requires c κs = search needs
 
--- src/lib.rt:162:25
 enum-known-spot : tie.Need-enum-known-spot
 enum-known-spot c = search needs
 
--- src/lib.rt:163:50
 enum-told : tie.Need-enum-told
 enum-told c = search needs
 
--- src/lib.rt:165:45
 enum-told-2 : tie.Need-enum-told-2
 enum-told-2 c = search needs
 
--- src/lib.rt:148:1
 returns-3 : tie.Need-returns-3
 returns-3 c =
     let a = c .before .before .before .before .before .before .before .before .before .before .before .before .before .before .args in
@@ -80,7 +65,6 @@ returns-3 c =
     is
     (omega (arith, landed)))
 
--- src/lib.rt:148:1
 returns-4 : tie.Need-returns-4
 returns-4 c =
     let a = c .before .before .before .before .before .before .before .before .before .before .before .before .before .args in
@@ -95,7 +79,6 @@ returns-4 c =
     is
     (no-landing (a .standing .record) (a .t .volume) n (cc)))
 
--- src/lib.rt:148:1
 returns-5 : tie.Need-returns-5
 returns-5 c =
     let a = c .before .before .before .before .before .before .before .before .before .args in

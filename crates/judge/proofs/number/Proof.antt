@@ -1,35 +1,28 @@
+-- A logical number is itself.
+-- A physical address has the number that the unit gives it.
 use mathlib.Core.Path.{_≡_}
-use Rattle.request.specs.declared.Start.{Start}
 use borrow.Author.Needs.{needs}
+use Rattle.request.specs.declared.Start.{Start}
 use Rattle.judge.proofs.number.Statement.{statement}
 use Rattle.judge.proofs.number.Tie as tie
-use Rattle.judge.proofs.number.Reads as reads
-use Rattle.judge.proofs.number.Lts as lts
-use Rattle.unit.proofs.Record.number.Reads as number-reads
 
--- src/lib.rt:109:24
 enum-known-start : tie.Need-enum-known-start
 enum-known-start c = search needs
 
--- src/lib.rt:109:41
 cast-t9 : tie.Need-cast-t9
 cast-t9 c = search needs
 
--- src/lib.rt:111:13
 enum-known-start-2 : tie.Need-enum-known-start-2
 enum-known-start-2 c = search needs
 
--- src/lib.rt:114:14
 number-requires : tie.Need-number-requires
 number-requires c κs = search needs
 
--- src/lib.rt:105:1
 returns : tie.Need-returns
 returns c =
     let is : c .before .before .before .args .start ≡ Start.Logical (c .before .start .given .0 .0) = cc in
     rw is
 
--- src/lib.rt:105:1
 returns-2 : tie.Need-returns-2
 returns-2 c =
     let f = c .before .before .start2 .given .0 in

@@ -3,8 +3,8 @@
 use native.Mathlib.Nat.{add-zero}
 use native.Mathlib.Omega.{arith}
 use borrow.Author.Needs.{needs}
-use Rattle.wire.proofs.be16.Statement.{statement}
 use Rattle.wire.specs.Words.{word}
+use Rattle.wire.proofs.be16.Statement.{statement}
 use Rattle.wire.proofs.be16.Tie as tie
 
 shared-slice-read-wide : tie.Need-shared-slice-read-wide

@@ -5,9 +5,9 @@ use mathlib.Core.Path.{_≡_, refl}
 use native.Mathlib.Omega.{arith}
 use lib.ListN.{length, drop, length-set}
 use lib.Seq.{paste-zero}
+use Rattle.wire.specs.Copy.{copied}
 use Rattle.wire.proofs.Laws.{copied-more}
 use Rattle.wire.proofs.copy.Statement.{statement}
-use Rattle.wire.specs.Copy.{copied}
 use Rattle.wire.proofs.copy.Tie as tie
 
 abbrev Inv-loop : tie.InvT-loop

@@ -4,8 +4,8 @@ use native.Mathlib.Nat.{add-zero}
 use native.Mathlib.Omega.{arith}
 use lib.ListN.{length-set}
 use borrow.Author.Needs.{needs}
-use Rattle.wire.proofs.put16.Statement.{statement}
 use Rattle.wire.specs.Words.{stored}
+use Rattle.wire.proofs.put16.Statement.{statement}
 use Rattle.wire.proofs.put16.Tie as tie
 
 cast-bytes : tie.Need-cast-bytes

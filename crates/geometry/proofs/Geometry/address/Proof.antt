@@ -6,14 +6,14 @@ use native.Mathlib.Nat.{mul-pos}
 use native.Mathlib.Omega.{arith}
 use borrow.Author.Needs.{needs}
 use Rattle.wire.proofs.Numbers.{product-below}
-use Rattle.geometry.proofs.Answers.{found-inside, found-outside}
-use Rattle.geometry.proofs.Counting.{Digits, digits-of}
-use Rattle.geometry.proofs.Geometry.address.Statement.{statement}
 use Rattle.geometry.specs.Drive.Inside.{volumeSectors-is}
 use Rattle.geometry.specs.Drive.{C, N, S, volume, volumeSectors}
 use Rattle.geometry.specs.Sectors.Inside.{addressOf-is}
 use Rattle.geometry.specs.declared.Geometry.{Geometry}
 use Rattle.geometry.specs.declared.VolumeNumber.{VolumeNumber}
+use Rattle.geometry.proofs.Answers.{found-inside, found-outside}
+use Rattle.geometry.proofs.Counting.{Digits, digits-of}
+use Rattle.geometry.proofs.Geometry.address.Statement.{statement}
 use Rattle.geometry.proofs.Geometry.address.Tie as tie
 
 volume-sectors-requires : tie.Need-volume-sectors-requires

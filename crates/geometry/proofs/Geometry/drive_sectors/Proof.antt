@@ -2,8 +2,8 @@
 -- Three numbers of 16 bits keep it below 2 ^ 48.
 use native.Mathlib.Omega.{arith}
 use borrow.Author.Needs.{needs}
-use Rattle.geometry.proofs.Geometry.drive_sectors.Statement.{statement}
 use Rattle.geometry.specs.Drive.Inside.{driveSectors-is}
+use Rattle.geometry.proofs.Geometry.drive_sectors.Statement.{statement}
 use Rattle.geometry.proofs.Geometry.drive_sectors.Tie as tie
 
 heads-requires : tie.Need-heads-requires

@@ -2,8 +2,8 @@
 -- That is the greater of the two.
 use native.Mathlib.Omega.{arith}
 use borrow.Author.Needs.{needs}
-use Rattle.geometry.proofs.Geometry.heads.Statement.{statement}
 use Rattle.geometry.specs.Drive.Inside.{driveHeads-is}
+use Rattle.geometry.proofs.Geometry.heads.Statement.{statement}
 use Rattle.geometry.proofs.Geometry.heads.Tie as tie
 
 end-requires : tie.Need-end-requires

@@ -4,8 +4,8 @@ use Prim.Native.Nat.{_^_}
 use native.Mathlib.Omega.{arith}
 use borrow.Author.Needs.{needs}
 use Rattle.wire.proofs.Numbers.{product-below}
-use Rattle.geometry.proofs.Geometry.marks_at.Statement.{statement}
 use Rattle.geometry.specs.Drive.Inside.{marksAt-is}
+use Rattle.geometry.proofs.Geometry.marks_at.Statement.{statement}
 use Rattle.geometry.proofs.Geometry.marks_at.Tie as tie
 
 drive-sectors-requires : tie.Need-drive-sectors-requires

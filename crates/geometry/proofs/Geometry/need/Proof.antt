@@ -4,8 +4,8 @@ use Prim.Native.Nat.{_-_, _^_}
 use native.Mathlib.Omega.{arith}
 use borrow.Author.Needs.{needs}
 use Rattle.wire.proofs.Numbers.{product-below}
-use Rattle.geometry.proofs.Geometry.need.Statement.{statement}
 use Rattle.geometry.specs.Drive.Inside.{marksAt-is, need-is}
+use Rattle.geometry.proofs.Geometry.need.Statement.{statement}
 use Rattle.geometry.proofs.Geometry.need.Tie as tie
 
 drive-sectors-requires : tie.Need-drive-sectors-requires

@@ -3,10 +3,10 @@
 use mathlib.Core.Path.{sym}
 use native.Mathlib.Omega.{arith}
 use borrow.Author.Needs.{needs}
-use Rattle.geometry.proofs.Answers.{placed-inside, placed-outside}
-use Rattle.geometry.proofs.Geometry.place.Statement.{statement}
 use Rattle.geometry.specs.Sectors.Inside.{placeOf-is}
 use Rattle.geometry.specs.Sectors.{OnDrive}
+use Rattle.geometry.proofs.Answers.{placed-inside, placed-outside}
+use Rattle.geometry.proofs.Geometry.place.Statement.{statement}
 use Rattle.geometry.proofs.Geometry.place.Tie as tie
 
 heads-requires : tie.Need-heads-requires

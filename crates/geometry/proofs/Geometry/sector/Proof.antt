@@ -5,11 +5,11 @@ use mathlib.Core.Path.{sym}
 use native.Mathlib.Omega.{arith}
 use borrow.Author.Needs.{needs}
 use Rattle.wire.proofs.Numbers.{product-below}
-use Rattle.geometry.proofs.Answers.{sectorAt-inside, sectorAt-outside}
-use Rattle.geometry.proofs.Geometry.sector.Statement.{statement}
 use Rattle.geometry.specs.Drive.Inside.{marksAt-is}
 use Rattle.geometry.specs.Drive.{driveSectors}
 use Rattle.geometry.specs.Sectors.Inside.{firstByte-is, markByte-is}
+use Rattle.geometry.proofs.Answers.{sectorAt-inside, sectorAt-outside}
+use Rattle.geometry.proofs.Geometry.sector.Statement.{statement}
 use Rattle.geometry.proofs.Geometry.sector.Tie as tie
 
 drive-sectors-requires : tie.Need-drive-sectors-requires

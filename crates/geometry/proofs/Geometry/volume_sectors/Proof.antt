@@ -1,8 +1,8 @@
 -- The product of cylinders, the volume's heads and sectors is the definition's.
 -- The heads are those that the call gave.
 use borrow.Author.Needs.{needs}
-use Rattle.geometry.proofs.Geometry.volume_sectors.Statement.{statement}
 use Rattle.geometry.specs.Drive.Inside.{volumeSectors-is}
+use Rattle.geometry.proofs.Geometry.volume_sectors.Statement.{statement}
 use Rattle.geometry.proofs.Geometry.volume_sectors.Tie as tie
 
 heads-of-requires : tie.Need-heads-of-requires

@@ -4,10 +4,10 @@ use mathlib.Core.Logic.{inl, inr}
 use native.Mathlib.Omega.{arith}
 use borrow.Author.Needs.{needs}
 use Rattle.wire.proofs.Promises.{says-leb}
-use Rattle.geometry.proofs.Ends.{low-of-within, not-aside, some-of-within, within-of-ends}
-use Rattle.geometry.proofs.Geometry.volumes_are_within.Statement.{statement}
 use Rattle.geometry.specs.Limits.{VolumesWithin}
 use Rattle.geometry.specs.declared.VolumeNumber.the-variants.{Zero, One}
+use Rattle.geometry.proofs.Ends.{low-of-within, not-aside, some-of-within, within-of-ends}
+use Rattle.geometry.proofs.Geometry.volumes_are_within.Statement.{statement}
 use Rattle.geometry.proofs.Geometry.volumes_are_within.Tie as tie
 
 end-requires : tie.Need-end-requires

@@ -2,8 +2,8 @@
 -- That is what being present says of the heads.
 use native.Mathlib.Omega.{arith}
 use Rattle.wire.proofs.Promises.{says-leb}
-use Rattle.geometry.proofs.Volume.is_present.Statement.{statement}
 use Rattle.geometry.specs.Limits.{Present}
+use Rattle.geometry.proofs.Volume.is_present.Statement.{statement}
 use Rattle.geometry.proofs.Volume.is_present.Tie as tie
 
 returns : tie.Need-returns

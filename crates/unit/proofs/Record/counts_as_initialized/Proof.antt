@@ -4,8 +4,8 @@ use Prim.Native.Nat.{suc}
 use native.Mathlib.Omega.{arith}
 use borrow.Author.Needs.{needs}
 use Rattle.wire.proofs.Promises.{denied, granted, says-leb, says-set}
-use Rattle.unit.proofs.Record.counts_as_initialized.Statement.{statement}
 use Rattle.unit.specs.Standing.{CountsAsInitialized}
+use Rattle.unit.proofs.Record.counts_as_initialized.Statement.{statement}
 use Rattle.unit.proofs.Record.counts_as_initialized.Tie as tie
 
 returns : tie.Need-returns

@@ -1,8 +1,8 @@
 -- The number is the geometry's.
 -- That is its definition today.
 use borrow.Author.Needs.{needs}
-use Rattle.unit.proofs.Record.number.Statement.{statement}
 use Rattle.unit.specs.Landing.{numberOn}
+use Rattle.unit.proofs.Record.number.Statement.{statement}
 use Rattle.unit.proofs.Record.number.Tie as tie
 
 number-requires : tie.Need-number-requires

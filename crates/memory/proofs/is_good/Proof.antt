@@ -1,18 +1,16 @@
+-- A byte count is good where it is not 0 and even.
+-- The two tests are these.
 use Prim.Native.Nat.{_%_}
 use native.Mathlib.Omega.{arith}
-use Rattle.wire.proofs.Promises.{says-eqb}
-use Rattle.judge.specs.Given.{GoodCount}
 use borrow.Author.Needs.{needs}
-use Rattle.judge.proofs.memory.is_good.Statement.{statement}
-use Rattle.judge.proofs.memory.is_good.Tie as tie
-use Rattle.judge.proofs.memory.is_good.Reads as reads
-use Rattle.judge.proofs.memory.is_good.Lts as lts
+use Rattle.wire.proofs.Promises.{says-eqb}
+use Rattle.memory.specs.Lists.{GoodCount}
+use Rattle.memory.proofs.is_good.Statement.{statement}
+use Rattle.memory.proofs.is_good.Tie as tie
 
--- src/memory.rt:43:9
 returns : tie.Need-returns
 returns c = search needs
 
--- src/memory.rt:39:1
 returns-2 : tie.Need-returns-2
 returns-2 c =
     let n = c .before .args .bytes in

@@ -1,12 +1,14 @@
-// Where the data of a request lies in host memory. Addresses have 32 bits and lengths are the memory's, so every sum is made
-// in 64 bits, and compared by what is left rather than by what would be reached.
+// What lies in host memory: a range of bytes, and the elements of a list, which it judges and copies out.
+// Addresses have 32 bits and lengths are the memory's: sums are made in 64 bits, and compared by what is left.
+// It changes nothing and knows no block and no drive.
 use iopb::Element;
 ghost use mathlib.Core.Bool.{_&&_};
 ghost use mathlib.Core.Path.{_≡_};
 ghost use Prim.Native.Nat.{_+_, _*_, _≤_, _<_, _%_};
 ghost use lib.ListN.{length};
-ghost use Rattle.judge.specs.Given.{GoodCount, InMemory, ListGood};
-ghost use Rattle.judge.specs.Scan.{Listing, Scanned};
+ghost use Rattle.memory.specs.Lists.{GoodCount, InMemory, ListGood};
+ghost use Rattle.memory.specs.Pieces.{filled, piecesOf};
+ghost use Rattle.memory.specs.Scan.{Listing, Scanned};
 ghost use Rattle.wire.specs.Promise.{Says};
 
 // Whether so many bytes from an address on lie in host memory, from an even address on.
@@ -99,4 +101,40 @@ pub fn list(host: &[u8], at: u32, elements: u8, bytes: u64) -> Listed
         return Listed::Misplaced;
     }
     Listed::Good
+}
+
+// The pieces of a list, copied out: byte counts and addresses, slot by slot, and 0 in every slot after the last.
+pub struct Pieces {
+    pub lengths: [u32; 64],
+    pub addresses: [u32; 64],
+}
+
+fn copied(host: &[u8], at: usize, n: usize) -> Pieces
+    requires { ⌜ (n ≤ 64) × (at + 8 * n ≤ length (now host)) ⌝ }
+    ensures { λ r. ⌜ r ≡ filled (now (host .entry)) at n ⌝ }
+{
+    let mut lengths = [0u32; 64];
+    let mut addresses = [0u32; 64];
+    let mut i = 0;
+    while i < n {
+        let e = Element::read(host, at + 8 * i);
+        lengths[i] = e.bytes as u32;
+        addresses[i] = e.address;
+        i += 1;
+    }
+    Pieces { lengths, addresses }
+}
+
+// A list that has too many elements, or does not lie in host memory, has no pieces.
+pub fn copy_out(host: &[u8], at: u32, elements: u8) -> Pieces
+    ensures { λ r. ⌜ r ≡ piecesOf (now (host .entry)) at elements ⌝ }
+{
+    let n = elements as usize;
+    if 64 < n {
+        return copied(host, 0, 0);
+    }
+    if !holds(host, at, 8 * (elements as u64)) {
+        return copied(host, 0, 0);
+    }
+    copied(host, at as usize, n)
 }

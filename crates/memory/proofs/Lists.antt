@@ -1,17 +1,21 @@
--- A list of elements, scanned from the front: nothing yet, and one element more.
--- The answers about the elements so far go with the element's own; the sum grows by its bytes.
+-- A list of elements, taken from the front: nothing yet, and one element more, as it is scanned and as it is copied out.
+-- The answers about the elements so far go with the element's own; the sum grows by its bytes; a slot more is filled.
 use Prim.Native.Nat.{ℕ, zero, suc, _+_, _<_}
 use mathlib.Core.Bool.{Bool, _&&_, true}
 use mathlib.Core.List.{List}
+use mathlib.Core.Logic.{if-neg, if-pos}
 use mathlib.Core.Path.{_≡_, refl, ap}
 use native.Mathlib.Numerals.{add-one}
 use native.Mathlib.Omega.{arith}
+use lib.ListN.{set}
 use Rattle.iopb.specs.declared.Element.{Element}
 use Rattle.wire.specs.Promise.{Says}
 use Rattle.wire.proofs.Promises.{says-all-more}
-use Rattle.judge.specs.declared.memory.Seen.{Seen}
-use Rattle.judge.specs.Given.{GoodCount, InMemory, elementOf, total}
-use Rattle.judge.specs.Scan.{Scanned}
+use Rattle.memory.specs.declared.Seen.{Seen}
+use Rattle.memory.specs.Lists.{GoodCount, InMemory, elementOf, total}
+use Rattle.memory.specs.Pieces.{addressesOf, filled, lengthsOf, piecesOf}
+use Rattle.memory.specs.Readable.{ListPlace, listPlace?}
+use Rattle.memory.specs.Scan.{Scanned}
 
 pub nothing-scanned : (host : List ℕ) (at : ℕ) → Scanned host at 0 (record { counts = true; ranges = true; sum = 0 })
 unfolding total
@@ -39,3 +43,22 @@ one-more-scanned host at n so e good fits counts ranges is c-is r-is so-far g f 
           (rw is at f);
       sum = ap (λ (x : ℕ). x + elementOf host at n .bytes) (so-far .sum);
     })
+
+-- One element more of the pieces.
+pub one-more-piece :
+    (host : List ℕ) (at n : ℕ) (e : Element) (lengths addresses : List ℕ) →
+    e ≡ elementOf host at n →
+    lengths ≡ lengthsOf host at n →
+    addresses ≡ addressesOf host at n →
+    (set lengths n (e .bytes) ≡ lengthsOf host at (n + 1)) × (set addresses n (e .address) ≡ addressesOf host at (n + 1))
+unfolding lengthsOf addressesOf
+one-more-piece host at n e lengths addresses is l a = rw (add-one, is, l, a) (refl, refl)
+
+-- The pieces of a list that can be read, and of any other.
+pub pieces-inside : (host : List ℕ) (at n : ℕ) → ListPlace host at n → piecesOf host at n ≡ filled host at n
+unfolding piecesOf
+pieces-inside host at n place = if-pos (listPlace? host at n) place _ _
+
+pub pieces-outside : (host : List ℕ) (at n : ℕ) → (ListPlace host at n → ⊥) → piecesOf host at n ≡ filled host 0 0
+unfolding piecesOf
+pieces-outside host at n out = if-neg (listPlace? host at n) out _ _

@@ -1,23 +1,20 @@
+-- A range lies in host memory where its address is even, its length no more than the memory's, and its address no more than what is left.
+-- Each refusal breaks one of these, and the last test decides.
 use Prim.Native.Nat.{_-_}
 use native.Mathlib.Omega.{arith}
 use lib.ListN.{length}
-use Rattle.wire.proofs.Promises.{says-leb}
-use Rattle.judge.specs.Given.{InMemory}
 use borrow.Author.Needs.{needs}
-use Rattle.judge.proofs.memory.holds.Statement.{statement}
-use Rattle.judge.proofs.memory.holds.Tie as tie
-use Rattle.judge.proofs.memory.holds.Reads as reads
-use Rattle.judge.proofs.memory.holds.Lts as lts
+use Rattle.wire.proofs.Promises.{says-leb}
+use Rattle.memory.specs.Lists.{InMemory}
+use Rattle.memory.proofs.holds.Statement.{statement}
+use Rattle.memory.proofs.holds.Tie as tie
 
--- src/memory.rt:18:9
 returns : tie.Need-returns
 returns c = search needs
 
--- src/memory.rt:21:9
 returns-2 : tie.Need-returns-2
 returns-2 c = search needs
 
--- src/memory.rt:13:1
 returns-3 : tie.Need-returns-3
 returns-3 c =
     let a = c .before .before .args in

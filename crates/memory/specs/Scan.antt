@@ -2,17 +2,14 @@
 use Prim.Native.Nat.{ℕ, _<_}
 use mathlib.Core.List.{List}
 use mathlib.Core.Path.{_≡_}
-use Rattle.judge.specs.declared.memory.Listed.{Listed}
-use Rattle.judge.specs.declared.memory.Listed.the-variants.{Bad, Misplaced, Good}
-use Rattle.judge.specs.declared.memory.Seen.{Seen}
-use Rattle.judge.specs.Given.{GoodCount, InMemory, ListGood, elementOf, total}
+use Rattle.memory.specs.declared.Listed.{Listed}
+use Rattle.memory.specs.declared.Listed.the-variants.{Bad, Misplaced, Good}
+use Rattle.memory.specs.declared.Seen.{Seen}
+use Rattle.memory.specs.Lists.{GoodCount, ListGood, Ranges, elementOf, total}
 use Rattle.wire.specs.Promise.{Says}
 
 abbrev pub Counts : List ℕ → ℕ → ℕ → Type 0
 Counts host at n = (i : ℕ) → i < n → GoodCount (elementOf host at i .bytes)
-
-abbrev pub Ranges : List ℕ → ℕ → ℕ → Type 0
-Ranges host at n = (i : ℕ) → i < n → InMemory host (elementOf host at i .address) (elementOf host at i .bytes)
 
 pub record Scanned (host : List ℕ) (at n : ℕ) (s : Seen) : Type 0 where
   pub counts : Says (s .counts) (Counts host at n)

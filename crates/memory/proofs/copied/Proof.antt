@@ -1,0 +1,104 @@
+-- After i turns the first i slots are filled and the others are 0.
+-- A turn fills one slot more.
+use Rattle.memory.proofs.Lists.{one-more-piece}
+use Prim.Native.Nat.{_-_, _≤_}
+use mathlib.Core.Path.{_≡_, refl}
+use native.Mathlib.Omega.{arith}
+use borrow.Author.Needs.{needs}
+use Rattle.memory.specs.Pieces.{addressesOf, lengthsOf}
+use Rattle.memory.proofs.copied.Statement.{statement}
+use Rattle.memory.proofs.copied.Tie as tie
+use Rattle.memory.proofs.copied.Reads as reads
+use Rattle.memory.proofs.copied.Lts as lts
+use Rattle.iopb.proofs.Element.read.Reads as read-reads
+
+abbrev Inv-loop : tie.InvT-loop
+Inv-loop host at n lengths₀ addresses₀ i₀ lengths addresses i =
+    (i ≤ n) × ((lengths ≡ lengthsOf host at i) × (addresses ≡ addressesOf host at i))
+
+abbrev μ-loop : tie.MeasureT-loop
+μ-loop host at n lengths₀ addresses₀ i₀ lengths addresses i = n - i
+
+-- src/lib.rt:119:5
+loop-holds : tie.Need-loop-holds Inv-loop μ-loop
+unfolding lengthsOf addressesOf
+loop-holds c = (omega arith, (refl, refl))
+
+-- src/lib.rt:120:42
+mul-read : tie.Need-mul-read Inv-loop μ-loop
+mul-read c = omega arith
+
+-- src/lib.rt:120:37
+add-read : tie.Need-add-read Inv-loop μ-loop
+add-read c = omega arith
+
+-- src/lib.rt:120:13
+read-requires : tie.Need-read-requires Inv-loop μ-loop
+read-requires c κs = omega arith
+
+-- src/lib.rt:121:22
+cast-lengths : tie.Need-cast-lengths Inv-loop μ-loop
+cast-lengths c = search needs
+
+-- src/lib.rt:121:9
+mul-lengths : tie.Need-mul-lengths Inv-loop μ-loop
+mul-lengths c = omega arith
+
+-- src/lib.rt:121:9
+array-write-lengths : tie.Need-array-write-lengths Inv-loop μ-loop
+array-write-lengths c = omega arith
+
+-- src/lib.rt:122:9
+mul-addresses : tie.Need-mul-addresses Inv-loop μ-loop
+mul-addresses c = omega arith
+
+-- src/lib.rt:122:9
+array-write-addresses : tie.Need-array-write-addresses Inv-loop μ-loop
+array-write-addresses c = omega arith
+
+-- src/lib.rt:123:9
+add-i : tie.Need-add-i Inv-loop μ-loop
+add-i c = omega arith
+
+-- src/lib.rt:119:5
+loop-less : tie.Need-loop-less Inv-loop μ-loop
+loop-less c = omega arith
+
+-- src/lib.rt:119:5
+loop-again : tie.Need-loop-again Inv-loop μ-loop
+loop-again c =
+    let a = c .before .before .before .before .before .args in
+    let at-loop = c .before .before .before .loop in
+    let e = c .before .read in (
+      omega arith,
+      one-more-piece (a .host .now) (a .at) (at-loop .i) (e .result) (at-loop .lengths) (at-loop .addresses) (e .ensures)
+          (at-loop .inv .1 .0)
+          (at-loop .inv .1 .1),
+    )
+
+-- src/lib.rt:112:1
+returns : tie.Need-returns Inv-loop μ-loop
+returns c =
+    let done : c .before .loop .i ≡ c .before .before .before .args .n = omega arith in
+    let inv = c .before .loop .inv .1 in
+    λ j. record { lengths = (rw done at (inv .0)) j; addresses = (rw done at (inv .1)) j }
+
+pub copied-spec : {M : Type 1} → statement M
+copied-spec =
+    tie.close
+    (tie.spec
+    Inv-loop
+    μ-loop
+    loop-holds
+    mul-read
+    add-read
+    read-requires
+    cast-lengths
+    mul-lengths
+    array-write-lengths
+    mul-addresses
+    array-write-addresses
+    add-i
+    loop-less
+    loop-again
+    returns)

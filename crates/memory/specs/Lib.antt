@@ -1,0 +1,4 @@
+pub mod Lists
+pub mod Pieces
+pub mod Readable
+pub mod Scan

@@ -1,0 +1,38 @@
+-- What lies in host memory: a range, a list element, a whole list (01, Answer numbers, 18 and 19).
+use Prim.Native.Nat.{ℕ, zero, suc, _+_, _*_, _%_, _≤_, _<_}
+use mathlib.Core.List.{List}
+use mathlib.Core.Path.{_≡_}
+use lib.ListN.{length}
+use Rattle.iopb.specs.declared.Element.{Element}
+use Rattle.iopb.specs.Layout.{elementAt}
+
+-- "a data address odd or its range not in host memory": neither is.
+pub record InMemory (host : List ℕ) (at bytes : ℕ) : Type 0 where
+  pub even : at % 2 ≡ 0
+  pub inside : at + bytes ≤ length host
+
+-- The i-th element of a list, and the sum of the byte counts of its first n.
+abbrev pub elementOf : List ℕ → ℕ → ℕ → Element
+elementOf host at i = elementAt host (at + 8 * i)
+
+unfoldable pub total : List ℕ → ℕ → ℕ → ℕ
+total host at zero = 0
+total host at (suc n) = total host at n + elementOf host at n .bytes
+
+-- "a byte count 0 or odd": it is neither.
+pub record GoodCount (bytes : ℕ) : Type 0 where
+  pub some : 0 < bytes
+  pub even : bytes % 2 ≡ 0
+
+-- "list: 0 or over 64 elements, list address odd, list not in memory, a byte count 0 or odd, or the sum not count × B": none of it.
+pub record ListGood (host : List ℕ) (at elements bytes : ℕ) : Type 0 where
+  pub some : 1 ≤ elements
+  pub most : elements ≤ 64
+  pub even : at % 2 ≡ 0
+  pub inside : at + 8 * elements ≤ length host
+  pub counts : (i : ℕ) → i < elements → GoodCount (elementOf host at i .bytes)
+  pub sum : total host at elements ≡ bytes
+
+-- Every element's range lies in host memory.
+abbrev pub Ranges : List ℕ → ℕ → ℕ → Type 0
+Ranges host at n = (i : ℕ) → i < n → InMemory host (elementOf host at i .address) (elementOf host at i .bytes)

@@ -1,0 +1,58 @@
+-- The small drive's own numbers, and where a number in a volume stands on it.
+-- The geometry's shut definitions are opened by their equations, and what is left is arithmetic on numerals.
+use Prim.Native.Nat.{ℕ, _+_, _*_, _/_, _%_}
+use mathlib.Core.Path.{_≡_, refl}
+use native.Mathlib.Omega.{arith}
+use Rattle.geometry.specs.declared.VolumeNumber.{VolumeNumber}
+use Rattle.geometry.specs.declared.VolumeNumber.the-variants.{Zero, One}
+use Rattle.geometry.specs.Drive.{N, driveHeads, need, start, volume, volumeSectors}
+use Rattle.geometry.specs.Drive.Inside.{driveHeads-is, driveSectors-is, marksAt-is, need-is, volumeSectors-is}
+use Rattle.geometry.specs.Limits.{Has, Present}
+use Rattle.geometry.specs.Sectors.Inside.{addressOf-is, placeOf-is}
+use Rattle.geometry.proofs.Ends.{end-present}
+use Rattle.unit.specs.Landing.{spotOf}
+use Rattle.unit.specs.Landing.Behind.{spotAt-is, spotOf-is}
+use Rattle.unit.specs.Standing.{CountsAsInitialized}
+use Rattle.worked.specs.SmallDrive.{drive, unit}
+
+pub counts : CountsAsInitialized unit
+unfolding Has Present
+counts =
+    record {
+      said = refl;
+      within =
+          record {
+            sizes = omega arith;
+            volumes =
+                record {
+                  one-head = omega arith;
+                  ends = λ v. elim v [ Zero ↦ λ p. omega arith | One ↦ λ p. omega arith ];
+                  apart = λ p. omega arith;
+                };
+          };
+      cylinder = omega arith;
+    }
+
+pub present : Present (volume drive Zero)
+present = counts .within .volumes .one-head
+
+heads-3 : driveHeads drive ≡ 3
+heads-3 =
+    omega (
+      arith,
+      driveHeads-is drive,
+      end-present (volume drive Zero) (omega arith),
+      end-present (volume drive One) (omega arith),
+    )
+
+pub sectors-80 : volumeSectors drive Zero ≡ 80
+sectors-80 = volumeSectors-is drive Zero
+
+pub need-7800 : need drive ≡ 7800
+need-7800 = omega (arith, need-is drive, marksAt-is drive, driveSectors-is drive, heads-3)
+
+abbrev pub place : VolumeNumber → ℕ → ℕ
+place v n = (n / (4 * N (volume drive v)) * 3 + (start (volume drive v) + n / 4 % N (volume drive v))) * 4 + n % 4
+
+pub place-is : (v : VolumeNumber) (n : ℕ) → spotOf unit v n .place ≡ place v n
+place-is v n = rw (spotOf-is, spotAt-is, placeOf-is, addressOf-is, heads-3)

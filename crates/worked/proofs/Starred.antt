@@ -1,0 +1,96 @@
+-- The starred lines of the small drive hold: a law for each kind of line, and then the table, line by line.
+-- What the judge's laws ask of a request is told by the drive's own numbers and by its host memory.
+use Prim.Native.Nat.{ℕ, _+_, _*_, _≤_, _<_}
+use mathlib.Core.Path.{_≡_, refl, _∙_}
+use native.Mathlib.Omega.{arith}
+use Rattle.answers.specs.declared.Refusal.the-variants.{ImageShort, ListBad, SectorOutside}
+use Rattle.geometry.specs.declared.Number.{Number}
+use Rattle.geometry.specs.declared.VolumeNumber.{VolumeNumber}
+use Rattle.geometry.specs.declared.VolumeNumber.the-variants.{Zero, One}
+use Rattle.geometry.specs.Sectors.Inside.{firstByte-is}
+use Rattle.judge.specs.declared.Standing.{Standing}
+use Rattle.judge.specs.Given.{BadList, BadRange, Covers}
+use Rattle.judge.specs.Verdict.{from, verdict}
+use Rattle.judge.proofs.Tasks.{buffer-18, buffer-done, move-on, span-17, span-last, span-on}
+use Rattle.request.specs.declared.Buffer.{Buffer}
+use Rattle.request.specs.declared.Move.{Move}
+use Rattle.worked.specs.SmallDrive.{All, Holds, Judged, asking, drive, host, move, starred, unit}
+use Rattle.worked.specs.SmallDrive.Line.{reads, scatters, stands}
+use Rattle.worked.specs.SmallDrive.Says.{passes, refused}
+use Rattle.worked.proofs.Drive.{counts, need-7800, place, place-is, present, sectors-80}
+use Rattle.worked.proofs.Memory.{list-good, piece-good, ranges-good}
+
+-- ---- any sector
+
+stands-there : (v : VolumeNumber) (n : ℕ) → Holds (stands v n (place v n) (place v n * 64))
+stands-there v n = (place-is v n, firstByte-is drive (place v n))
+
+-- ---- any read of volume 0, whatever its buffer
+
+module _ (n count image : ℕ) (b : Buffer) where
+  abbrev m : Move
+  m = move n count b
+
+  abbrev s : Standing
+  s = record { «record» = unit; image = image }
+
+  -- The checks before 16 let it pass, and those from 16 on decide.
+  from-16-on : 0 < count → verdict (asking m image) ≡ from 6 (asking m image)
+  from-16-on some = move-on s host m counts present (λ none. omega arith)
+
+  outside-is-16 : (0 < count) × (80 < n + count) → Judged m n image (refused SectorOutside)
+  outside-is-16 is = from-16-on (is .0) ∙ span-last s host m n refl (is .0) (omega (arith, sectors-80))
+
+  covered : (0 < count) × (n + count ≤ 80) → Covers unit Zero (Number.Is n) count
+  covered is = omega (arith, sectors-80)
+
+  short-is-17 : (0 < count) × (n + count ≤ 80) × (image < 7800) → Judged m n image (refused ImageShort)
+  short-is-17 is = from-16-on (is .0) ∙ span-17 s host m (covered (omega arith)) (omega (arith, need-7800))
+
+  module _ (is : (0 < count) × (n + count ≤ 80) × (7800 ≤ image)) where
+    from-18-on : verdict (asking m image) ≡ from 8 (asking m image)
+    from-18-on = from-16-on (is .0) ∙ span-on s host m (covered (omega arith)) (omega (arith, need-7800))
+
+    bad-list-is-18 : BadList host b (count * 64) → Judged m n image (refused ListBad)
+    bad-list-is-18 bad = from-18-on ∙ buffer-18 s host m bad
+
+    good-buffer-passes :
+        (BadList host b (count * 64) → ⊥) → (BadRange host b (count * 64) → ⊥) → Judged m n image passes
+    good-buffer-passes listed held = from-18-on ∙ buffer-done s host m n refl listed held
+
+-- ---- by its buffer
+
+read-passes :
+    (n count image : ℕ) → (0 < count) × (n + count ≤ 80) × (7800 ≤ image) → Holds (reads n count image passes)
+read-passes n count image is =
+    good-buffer-passes n count image _ is (λ none. none) (λ out. out (piece-good (count * 64) (omega arith)))
+
+list-of-64-passes : Holds (scatters 64 passes)
+list-of-64-passes = good-buffer-passes 0 64 7800 _ (omega arith) (λ bad. bad list-good) (λ out. out ranges-good)
+
+list-over-64-is-18 : (k : ℕ) → (64 < k) × (k ≤ 80) → Holds (scatters k (refused ListBad))
+list-over-64-is-18 k over = bad-list-is-18 0 k 7800 _ (omega arith) (λ good. omega (arith, good .most))
+
+-- ---- the table
+
+-- A line of the table holds, and so do those after it.
+infixr 5 _and_
+_and_ : {A B : Type 0} → A → B → A × B
+a and b = (a, b)
+
+pub starred-hold : All starred
+starred-hold =
+    stands-there Zero 0
+    and stands-there Zero 7
+    and stands-there Zero 8
+    and stands-there Zero 79
+    and stands-there One 0
+    and outside-is-16 80 1 7800 _ (omega arith)
+    and read-passes 0 80 7800 (omega arith)
+    and outside-is-16 0 81 7800 _ (omega arith)
+    and outside-is-16 79 2 7800 _ (omega arith)
+    and short-is-17 0 1 7799 _ (omega arith)
+    and read-passes 0 1 7800 (omega arith)
+    and list-of-64-passes
+    and list-over-64-is-18 65 (omega arith)
+    and tt
