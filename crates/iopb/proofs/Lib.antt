@@ -1,3 +1,4 @@
 pub mod Answers
+pub mod Locality
 pub mod Outcomes
 pub mod Table

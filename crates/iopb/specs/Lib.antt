@@ -2,3 +2,4 @@ pub mod Ask
 pub mod Errors
 pub mod Identity
 pub mod Layout
+pub mod Reads

@@ -1,4 +1,6 @@
 pub mod Exactly
 pub mod First
+pub mod Locality
+pub mod Outcomes
 pub mod Sectors
 pub mod Tasks

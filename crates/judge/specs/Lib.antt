@@ -1,4 +1,5 @@
 pub mod Checks
 pub mod Decided
 pub mod Given
+pub mod Reads
 pub mod Verdict

@@ -1,2 +1,4 @@
 pub mod Decided
 pub mod Lists
+pub mod Locality
+pub mod Outcomes
