@@ -23,10 +23,10 @@ module _ (h k : List ℕ) (long : length h ≡ length k) where
   uib-same at alike =
       let byte : (j : ℕ) → j < 18 → getD h (at + j) 0 ≡ getD k (at + j) 0 = λ j j<. alike (at + j) (omega arith) (omega arith) in
       let first = alike at (omega arith) (omega arith) in
-      let sectors = word-same 2 h k (at + 6) (at + 6) (λ x x<. alike (at + 6 + x) (omega arith) (omega arith)) in
-      let cylinders = word-same 2 h k (at + 12) (at + 12) (λ x x<. alike (at + 12 + x) (omega arith) (omega arith)) in
+      let low = word-same 2 h k (at + 6) (at + 6) (λ x x<. alike (at + 6 + x) (omega arith) (omega arith)) in
+      let high = word-same 2 h k (at + 12) (at + 12) (λ x x<. alike (at + 12 + x) (omega arith) (omega arith)) in
       λ i.
-      geometryOf (cylinders i) (byte 4 (omega arith) i) (sectors i) (volumeOf (first i) (byte 1 (omega arith) i))
+      geometryOf (high i) (byte 4 (omega arith) i) (low i) (volumeOf (first i) (byte 1 (omega arith) i))
       (volumeOf (byte 2 (omega arith) i) (byte 3 (omega arith) i))
 
   readable-same : (at : ℕ) → Readable k at → Readable h at

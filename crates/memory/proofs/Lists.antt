@@ -1,18 +1,18 @@
 -- A list of elements, taken from the front: nothing yet, and one element more, as it is scanned and as it is copied out.
 -- The answers about the elements so far go with the element's own; the sum grows by its bytes; a slot more is filled.
-use Prim.Native.Nat.{ℕ, zero, suc, _+_, _<_}
-use mathlib.Core.Bool.{Bool, _&&_, true}
+use Prim.Native.Nat.{ℕ, zero, suc, _+_, _*_, _≤_, _<_}
+use mathlib.Core.Bool.{Bool, _&&_, false, not, true}
 use mathlib.Core.List.{List}
 use mathlib.Core.Logic.{if-neg, if-pos}
-use mathlib.Core.Path.{_≡_, refl, ap}
+use mathlib.Core.Path.{_≡_, refl, sym, ap, _∙_}
 use native.Mathlib.Numerals.{add-one}
 use native.Mathlib.Omega.{arith}
 use lib.ListN.{set}
 use Rattle.iopb.specs.declared.Element.{Element}
 use Rattle.wire.specs.Promise.{Says}
-use Rattle.wire.proofs.Promises.{says-all-more}
+use Rattle.wire.proofs.Promises.{granted, says-all-more}
 use Rattle.memory.specs.declared.Seen.{Seen}
-use Rattle.memory.specs.Lists.{GoodCount, InMemory, elementOf, total}
+use Rattle.memory.specs.Lists.{GoodCount, InMemory, ListGood, elementOf, total}
 use Rattle.memory.specs.Pieces.{addressesOf, filled, lengthsOf, piecesOf}
 use Rattle.memory.specs.Readable.{ListPlace, listPlace?}
 use Rattle.memory.specs.Scan.{Scanned}
@@ -43,6 +43,25 @@ one-more-scanned host at n so e good fits counts ranges is c-is r-is so-far g f 
           (rw is at f);
       sum = ap (λ (x : ℕ). x + elementOf host at n .bytes) (so-far .sum);
     })
+
+-- A list whose number, place, counts and sum were found good is good.
+pub good-list :
+    (host : List ℕ) (at n bytes : ℕ) (s : Seen) →
+    (1 ≤ n) × (n ≤ 64) →
+    InMemory host at (8 * n) →
+    Scanned host at n s →
+    not (s .counts) ≡ false →
+    s .sum ≡ bytes →
+    ListGood host at n bytes
+good-list host at n bytes s number place scanned counts sum =
+    record {
+      some = number .0;
+      most = number .1;
+      even = place .even;
+      inside = place .inside;
+      counts = granted (s .counts) _ counts (scanned .counts);
+      sum = sym (scanned .sum) ∙ sum;
+    }
 
 -- One element more of the pieces.
 pub one-more-piece :

@@ -1,10 +1,10 @@
 -- The list's number and place are tested first, so that the pass over it reads no byte outside memory.
 -- What the pass found is then what checks 18 and 19 say, in their order.
-use mathlib.Core.Path.{sym, _∙_}
 use native.Mathlib.Omega.{arith}
 use borrow.Author.Needs.{needs}
 use Rattle.wire.proofs.Promises.{denied, granted}
 use Rattle.memory.specs.Lists.{InMemory}
+use Rattle.memory.proofs.Lists.{good-list}
 use Rattle.memory.proofs.list.Statement.{statement}
 use Rattle.memory.proofs.list.Tie as tie
 
@@ -42,32 +42,20 @@ returns-5 c = search needs
 returns-6 : tie.Need-returns-6
 returns-6 c =
     let h = c .before .before .before .before .before .before .before .before .holds in
-    let scan = c .before .before .before .before .before .before .scan in
-    let place = granted (h .result) (InMemory _ _ _) (c .before .before .before .before .before .before .before .if3 .left) (h .ensures) in (
-      record {
-        some = omega arith;
-        most = omega arith;
-        even = place .even;
-        inside = place .inside;
-        counts = granted (scan .result .counts) _ (c .before .before .before .before .if4 .left) (scan .ensures .counts);
-        sum = sym (scan .ensures .sum) ∙ c .before .before .if5 .left;
-      },
+    let scan = c .before .before .before .before .before .before .scan in (
+      good-list _ _ _ _ (scan .result) (omega arith) (granted (h .result) _ (c .before .before .before .before .before .before .before .if3 .left) (h .ensures)) (scan .ensures)
+          (c .before .before .before .before .if4 .left)
+          (c .before .before .if5 .left),
       denied (scan .result .ranges) _ (c .if6 .taken) (scan .ensures .ranges),
     )
 
 returns-7 : tie.Need-returns-7
 returns-7 c =
     let h = c .before .before .before .before .before .before .before .before .holds in
-    let scan = c .before .before .before .before .before .before .scan in
-    let place = granted (h .result) (InMemory _ _ _) (c .before .before .before .before .before .before .before .if3 .left) (h .ensures) in (
-      record {
-        some = omega arith;
-        most = omega arith;
-        even = place .even;
-        inside = place .inside;
-        counts = granted (scan .result .counts) _ (c .before .before .before .before .if4 .left) (scan .ensures .counts);
-        sum = sym (scan .ensures .sum) ∙ c .before .before .if5 .left;
-      },
+    let scan = c .before .before .before .before .before .before .scan in (
+      good-list _ _ _ _ (scan .result) (omega arith) (granted (h .result) _ (c .before .before .before .before .before .before .before .if3 .left) (h .ensures)) (scan .ensures)
+          (c .before .before .before .before .if4 .left)
+          (c .before .before .if5 .left),
       granted (scan .result .ranges) _ (c .if6 .left) (scan .ensures .ranges),
     )
 
