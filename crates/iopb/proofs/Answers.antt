@@ -5,13 +5,14 @@ use mathlib.Core.List.{List}
 use mathlib.Core.Logic.{if-neg, if-pos}
 use mathlib.Core.Path.{_≡_}
 use Rattle.request.specs.declared.Shape.{Shape}
-use Rattle.iopb.specs.Ask.{Readable, readable?, shapeAt}
+use Rattle.wire.specs.Memory.{InMemory, inMemory?}
+use Rattle.iopb.specs.Ask.{shapeAt}
 use Rattle.iopb.specs.Layout.{uibAt}
 
-pub shapeAt-inside : (host : List ℕ) (at : ℕ) → Readable host at → shapeAt host at ≡ Shape.Given (uibAt host at)
+pub shapeAt-inside : (host : List ℕ) (at : ℕ) → InMemory host at 18 → shapeAt host at ≡ Shape.Given (uibAt host at)
 unfolding shapeAt
-shapeAt-inside host at readable = if-pos (readable? host at) readable _ _
+shapeAt-inside host at place = if-pos (inMemory? host at 18) place _ _
 
-pub shapeAt-outside : (host : List ℕ) (at : ℕ) → (Readable host at → ⊥) → shapeAt host at ≡ Shape.Misplaced
+pub shapeAt-outside : (host : List ℕ) (at : ℕ) → (InMemory host at 18 → ⊥) → shapeAt host at ≡ Shape.Misplaced
 unfolding shapeAt
-shapeAt-outside host at not-readable = if-neg (readable? host at) not-readable _ _
+shapeAt-outside host at out = if-neg (inMemory? host at 18) out _ _

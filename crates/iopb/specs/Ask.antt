@@ -1,12 +1,10 @@
 -- The request that a block makes (01, The block, One run).
-use Prim.Native.Nat.{ℕ, _+_, _%_, _≤_}
+use Prim.Native.Nat.{ℕ}
 use mathlib.Core.Bool.{Bool, true, false, cond}
 use mathlib.Core.List.{List}
-use mathlib.Core.Logic.{ite, Dec·and}
-use mathlib.Core.Path.{_≡_}
-use native.Mathlib.Decide.{decLe, map-dec, ℕ-discrete}
+use mathlib.Core.Logic.{ite}
 use lib.Dec.{eqb}
-use lib.ListN.{length}
+use Rattle.wire.specs.Memory.{inMemory?}
 use Rattle.geometry.specs.declared.VolumeNumber.{VolumeNumber}
 use Rattle.request.specs.declared.Buffer.{Buffer}
 use Rattle.request.specs.declared.Move.{Move}
@@ -46,19 +44,10 @@ moveOf b to-host buffer =
 abbrev pub trackOf : Block → Track
 trackOf b = record { cylinder = b .cylinder; head = b .head; buffer = b .address }
 
--- A UIB can be read at an even address, wholly in host memory; it is "misplaced" where check 12 says "UIB address odd or UIB
--- not wholly in host memory".
-pub record Readable (host : List ℕ) (at : ℕ) : Type 0 where
-  pub even : at % 2 ≡ 0
-  pub inside : at + 18 ≤ length host
-
-pub readable? : (host : List ℕ) (at : ℕ) → Dec (Readable host at)
-readable? host at =
-    map-dec (λ d. record { even = d .0; inside = d .1 }) (λ r. (r .even, r .inside))
-    (Dec·and (ℕ-discrete (at % 2) 0) (decLe (at + 18) (length host)))
-
+-- A UIB is 18 bytes, read where they lie in host memory; elsewhere it is "misplaced", which check 12 says of a "UIB address odd or
+-- UIB not wholly in host memory".
 unfoldable pub shapeAt : List ℕ → ℕ → Shape
-shapeAt host at = ite (readable? host at) (Shape.Given (uibAt host at)) Shape.Misplaced
+shapeAt host at = ite (inMemory? host at 18) (Shape.Given (uibAt host at)) Shape.Misplaced
 
 -- What each command asks, by its code: "81 read, 82 write, 86 handshake, 87 initialize, 89 restore, 8A seek, 8C format with
 -- data, A1 scatter, A2 gather (hex)" (01, What the board answers for).

@@ -120,15 +120,8 @@ fn track(b: Block) -> Track
 fn shape(host: &[u8], address: u32) -> Shape
     ensures { λ r. ⌜ r ≡ shapeAt (now (host .entry)) address ⌝ }
 {
-    let at = address as usize;
-    if at % 2 != 0 {
+    if !wire::holds(host, address, 18) {
         return Shape::Misplaced;
     }
-    if host.len() < 18 {
-        return Shape::Misplaced;
-    }
-    if host.len() - 18 < at {
-        return Shape::Misplaced;
-    }
-    Shape::Given(uib(host, at))
+    Shape::Given(uib(host, address as usize))
 }

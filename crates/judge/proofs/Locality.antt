@@ -1,6 +1,6 @@
 -- Two host memories of one length that agree on the bytes read get the same verdict.
 -- The checks before 18 do not look at the memory, 19 of one piece looks at its length alone, and a list is looked at only where it is read.
-use Prim.Native.Nat.{ℕ, _+_, _*_, _≤_, _<_}
+use Prim.Native.Nat.{ℕ, _*_, _≤_, _<_}
 use mathlib.Core.List.{List, [], _∷_}
 use mathlib.Core.Logic.{_↔_, Iff·rfl, by-cases, if-neg, if-pos, inl, inr}
 use mathlib.Core.Path.{_≡_, refl, sym, ap, _∙_}
@@ -8,18 +8,20 @@ use native.Mathlib.Omega.{arith}
 use lib.ListN.{getD, length, take}
 use Rattle.geometry.specs.Drive.{B}
 use Rattle.iopb.specs.declared.Block.{Block}
-use Rattle.iopb.specs.Ask.{Readable, taskOf}
+use Rattle.iopb.specs.Ask.{taskOf}
 use Rattle.iopb.specs.Reads.{InUib}
 use Rattle.iopb.proofs.Locality.{task-local}
-use Rattle.memory.specs.Lists.{InMemory, ListGood, Ranges}
+use Rattle.memory.specs.Lists.{ListGood}
 use Rattle.memory.specs.Readable.{ListPlace}
 use Rattle.memory.proofs.Decided.{listGood?}
-use Rattle.memory.proofs.Locality.{list-same, range-same, ranges-same}
+use Rattle.memory.proofs.Locality.{list-same, ranges-same}
 use Rattle.request.specs.declared.Buffer.{Buffer}
 use Rattle.request.specs.declared.Buffer.the-variants.{Piece, List as Elements}
 use Rattle.request.specs.declared.Task.{Task}
 use Rattle.request.specs.declared.Task.the-variants.{Unknown, Move as Moves, Handshake, Initialize, Restore, Seek, Format}
 use Rattle.unit.specs.declared.Record.{Record}
+use Rattle.wire.specs.Memory.{Among, InMemory}
+use Rattle.wire.proofs.Memory.{range-same}
 use Rattle.judge.specs.declared.Plan.{Plan}
 use Rattle.judge.specs.declared.Verdict.{Verdict}
 use Rattle.judge.specs.Checks.{Check, None, first}
@@ -57,25 +59,23 @@ module _ (a b : Asked) (long : length (a .host) ≡ length (b .host)) (bytes : �
 
   in-list :
       (at n : ℕ) (h : List ℕ) → None (take 8 (checks a)) → length h ≡ length (a .host) → ListGood h at n bytes →
-      (i : ℕ) → at ≤ i → i < at + 8 * n → InList a at n i
-  in-list at n h passed same l i from below =
+      (i : ℕ) → Among at (8 * n) i → InList a at n i
+  in-list at n h passed same l i among =
       record {
         passed = passed;
         some = l .some;
         most = l .most;
-        even = l .even;
-        inside = omega (arith, l .inside);
-        from = from;
-        below = below;
+        place = range-same h (a .host) at (8 * n) same (l .place);
+        among = among;
       }
 
   lists-agree :
       (at n : ℕ) → None (take 8 (checks a)) → Alike (Elements at n) → ListGood (a .host) at n bytes ↔ ListGood (b .host) at n bytes
   lists-agree at n passed alike = (
     λ l.
-        list-same (a .host) (b .host) at n (λ i f u. alike i (in-list at n (a .host) passed refl l i f u)) bytes long l,
+        list-same (a .host) (b .host) at n (λ i among. alike i (in-list at n (a .host) passed refl l i among)) bytes long l,
     λ l.
-        list-same (b .host) (a .host) at n (λ i f u. sym (alike i (in-list at n (b .host) passed (sym long) l i f u))) bytes
+        list-same (b .host) (a .host) at n (λ i among. sym (alike i (in-list at n (b .host) passed (sym long) l i among))) bytes
         (sym long)
         l,
   )
@@ -96,9 +96,9 @@ module _ (a b : Asked) (long : length (a .host) ≡ length (b .host)) (bytes : �
   )
   bad-ranges-agree (Elements at n) passed alike good =
       let l : ListGood (a .host) at n bytes = by-cases (listGood? (a .host) at n bytes) (λ l. l) (λ bad. absurd (good bad)) in
-      let same : (i : ℕ) → at ≤ i → i < at + 8 * n → getD (a .host) i 0 ≡ getD (b .host) i 0 =
-      λ i f u. alike i (in-list at n (a .host) passed refl l i f u) in (
-        λ out r. out (ranges-same (b .host) (a .host) at n (λ i f u. sym (same i f u)) (sym long) r),
+      let same : (i : ℕ) → Among at (8 * n) i → getD (a .host) i 0 ≡ getD (b .host) i 0 =
+      λ i among. alike i (in-list at n (a .host) passed refl l i among) in (
+        λ out r. out (ranges-same (b .host) (a .host) at n (λ i among. sym (same i among)) (sym long) r),
         λ out r. out (ranges-same (a .host) (b .host) at n same long r),
       )
 
@@ -206,7 +206,7 @@ module _ (u : Record) (image : ℕ) (h k : List ℕ) (long : length h ≡ length
 -- ---- what is read, and what is not
 
 -- A UIB that failed check 12 is not read.
-pub misplaced-uib-unread : (host : List ℕ) (b : Block) (x : ℕ) → (Readable host (b .address) → ⊥) → InUib host b x → ⊥
+pub misplaced-uib-unread : (host : List ℕ) (b : Block) (x : ℕ) → (InMemory host (b .address) 18 → ⊥) → InUib host b x → ⊥
 misplaced-uib-unread host b x out in-uib = out (in-uib .place)
 
 -- A list of more than 64 elements is not read.
@@ -215,14 +215,12 @@ long-list-unread a at n x over in-it = omega arith
 
 -- A list is read wherever it can be and checks 10 to 17 are passed, whatever is then found in it.
 pub refused-list-read :
-    (a : Asked) (at n x : ℕ) → None (take 8 (checks a)) → 1 ≤ n → ListPlace (a .host) at n → at ≤ x → x < at + 8 * n → InList a at n x
-refused-list-read a at n x passed some place from below =
+    (a : Asked) (at n x : ℕ) → None (take 8 (checks a)) → 1 ≤ n → ListPlace (a .host) at n → Among at (8 * n) x → InList a at n x
+refused-list-read a at n x passed some list among =
     record {
       passed = passed;
       some = some;
-      most = place .most;
-      even = place .even;
-      inside = place .inside;
-      from = from;
-      below = below;
+      most = list .most;
+      place = list .place;
+      among = among;
     }

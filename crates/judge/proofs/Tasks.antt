@@ -18,12 +18,13 @@ use Rattle.request.specs.declared.Track.{Track}
 use Rattle.unit.specs.declared.Record.{Record}
 use Rattle.unit.specs.Landing.{spotOf, trackOf}
 use Rattle.unit.specs.Standing.{CountsAsInitialized}
+use Rattle.memory.specs.Lists.{ListGood, Ranges}
+use Rattle.wire.specs.Memory.{InMemory}
 use Rattle.judge.specs.declared.Plan.{Plan}
 use Rattle.judge.specs.declared.Standing.{Standing}
 use Rattle.judge.specs.declared.Verdict.{Verdict}
 use Rattle.judge.specs.Checks.{None, first}
 use Rattle.judge.specs.Given.{Asked, BadList, BadRange, Covers, HasTrack, asked, numberOf}
-use Rattle.memory.specs.Lists.{InMemory, ListGood, Ranges}
 use Rattle.judge.specs.Verdict.{Begins, from, jobOf, verdict}
 use Rattle.judge.proofs.First.{accepted-from, accepted-whole, first-after, from-after, never, passed, refused-at, refused-from}
 

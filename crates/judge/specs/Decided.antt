@@ -21,7 +21,8 @@ use Rattle.request.specs.declared.Task.the-variants.{Unknown, Move as Moves, Ha
 use Rattle.request.specs.declared.Track.{Track}
 use Rattle.unit.specs.declared.Record.{Record}
 use Rattle.unit.proofs.Decided.{counts?}
-use Rattle.memory.proofs.Decided.{inMemory?, listGood?, ranges?}
+use Rattle.memory.proofs.Decided.{listGood?, ranges?}
+use Rattle.wire.specs.Memory.{inMemory?}
 use Rattle.judge.specs.Given.{Asked, BadList, BadPlace, BadRange, BadShape, Covers, given10, given11, given12, given13, given14, given15, given16, given17, given18, given19, numberOf, row}
 
 never : Dec ⊥

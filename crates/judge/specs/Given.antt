@@ -8,7 +8,7 @@ use Rattle.geometry.specs.declared.VolumeNumber.{VolumeNumber}
 use Rattle.geometry.specs.Drive.{B, need, volume, volumeSectors}
 use Rattle.geometry.specs.Limits.{Present, Within}
 use Rattle.geometry.specs.Sectors.{OnDrive, address}
-use Rattle.memory.specs.Lists.{InMemory, ListGood, Ranges}
+use Rattle.memory.specs.Lists.{ListGood, Ranges}
 use Rattle.request.specs.declared.Buffer.{Buffer}
 use Rattle.request.specs.declared.Buffer.the-variants.{Piece, List as Elements}
 use Rattle.request.specs.declared.Move.{Move}
@@ -23,6 +23,7 @@ use Rattle.request.specs.declared.Track.{Track}
 use Rattle.unit.specs.declared.Record.{Record}
 use Rattle.unit.specs.Landing.{numberOn}
 use Rattle.unit.specs.Standing.{CountsAsInitialized}
+use Rattle.wire.specs.Memory.{InMemory}
 use Rattle.judge.specs.declared.Standing.{Standing}
 
 -- What is judged: a task, its unit's record and image length, and the host memory.

@@ -1,10 +1,10 @@
 -- The host bytes that the judgement reads (01, One run: "a list of 1 to 64 elements that lies at an even address and in memory,
 -- once checks 10 to 17 are passed"). A list of 65, or one that an earlier check spares, is not read; one refused for its sum is.
-use Prim.Native.Nat.{ℕ, _+_, _*_, _%_, _≤_, _<_}
+use Prim.Native.Nat.{ℕ, _*_, _≤_}
 use mathlib.Core.List.{List}
 use mathlib.Core.Logic.{_⊎_}
-use mathlib.Core.Path.{_≡_}
-use lib.ListN.{length, take}
+use lib.ListN.{take}
+use Rattle.wire.specs.Memory.{Among, InMemory}
 use Rattle.iopb.specs.declared.Block.{Block}
 use Rattle.iopb.specs.Ask.{taskOf}
 use Rattle.iopb.specs.Reads.{InUib}
@@ -20,10 +20,8 @@ pub record InList (a : Asked) (at n x : ℕ) : Type 0 where
   pub passed : None (take 8 (checks a))
   pub some : 1 ≤ n
   pub most : n ≤ 64
-  pub even : at % 2 ≡ 0
-  pub inside : at + 8 * n ≤ length (a .host)
-  pub from : at ≤ x
-  pub below : x < at + 8 * n
+  pub place : InMemory (a .host) at (8 * n)
+  pub among : Among at (8 * n) x
 
 abbrev pub InBuffer : Asked → Buffer → ℕ → Type 0
 InBuffer a (Piece at) x = ⊥

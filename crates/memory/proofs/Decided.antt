@@ -1,17 +1,12 @@
--- What is said of ranges and lists is decided, so that definitions elsewhere can go by cases on it.
+-- What is said of lists and their ranges is decided, so that definitions elsewhere can go by cases on it.
 -- Each is a conjunction of comparisons, and of one for every element.
-use Prim.Native.Nat.{ℕ, _+_, _*_, _%_, _≤_, _<_}
+use Prim.Native.Nat.{ℕ, _*_, _%_}
 use mathlib.Core.List.{List}
 use mathlib.Core.Logic.{Dec·and}
 use native.Mathlib.Decide.{decLe, decLt, map-dec, ℕ-discrete}
-use lib.ListN.{length}
+use Rattle.wire.specs.Memory.{inMemory?}
 use Rattle.wire.proofs.Decided.{all?}
-use Rattle.memory.specs.Lists.{GoodCount, InMemory, ListGood, Ranges, elementOf, total}
-
-pub inMemory? : (host : List ℕ) (at bytes : ℕ) → Dec (InMemory host at bytes)
-inMemory? host at bytes =
-    map-dec (λ d. record { even = d .0; inside = d .1 }) (λ i. (i .even, i .inside))
-    (Dec·and (ℕ-discrete (at % 2) 0) (decLe (at + bytes) (length host)))
+use Rattle.memory.specs.Lists.{GoodCount, ListGood, Ranges, elementOf, total}
 
 goodCount? : (bytes : ℕ) → Dec (GoodCount bytes)
 goodCount? bytes =
@@ -21,15 +16,14 @@ goodCount? bytes =
 pub listGood? : (host : List ℕ) (at elements bytes : ℕ) → Dec (ListGood host at elements bytes)
 listGood? host at elements bytes =
     map-dec
-    (λ d. record { some = d .0; most = d .1 .0; even = d .1 .1 .0; inside = d .1 .1 .1 .0; counts = d .1 .1 .1 .1 .0; sum = d .1 .1 .1 .1 .1 })
-    (λ l. (l .some, (l .most, (l .even, (l .inside, (l .counts, l .sum))))))
+    (λ d. record { some = d .0; most = d .1 .0; place = d .1 .1 .0; counts = d .1 .1 .1 .0; sum = d .1 .1 .1 .1 })
+    (λ l. (l .some, (l .most, (l .place, (l .counts, l .sum)))))
     (Dec·and (decLe 1 elements)
     (Dec·and (decLe elements 64)
-    (Dec·and (ℕ-discrete (at % 2) 0)
-    (Dec·and (decLe (at + 8 * elements) (length host))
+    (Dec·and (inMemory? host at (8 * elements))
     (Dec·and
     (all? _ (λ i. goodCount? (elementOf host at i .bytes)) elements)
-    (ℕ-discrete (total host at elements) bytes))))))
+    (ℕ-discrete (total host at elements) bytes)))))
 
 pub ranges? : (host : List ℕ) (at n : ℕ) → Dec (Ranges host at n)
 ranges? host at n = all? _ (λ i. inMemory? host (elementOf host at i .address) (elementOf host at i .bytes)) n

@@ -9,10 +9,11 @@ use native.Mathlib.Numerals.{add-one}
 use native.Mathlib.Omega.{arith}
 use lib.ListN.{set}
 use Rattle.iopb.specs.declared.Element.{Element}
+use Rattle.wire.specs.Memory.{InMemory}
 use Rattle.wire.specs.Promise.{Says}
 use Rattle.wire.proofs.Promises.{granted, says-all-more}
 use Rattle.memory.specs.declared.Seen.{Seen}
-use Rattle.memory.specs.Lists.{GoodCount, InMemory, ListGood, elementOf, total}
+use Rattle.memory.specs.Lists.{GoodCount, ListGood, elementOf, total}
 use Rattle.memory.specs.Pieces.{addressesOf, filled, lengthsOf, piecesOf}
 use Rattle.memory.specs.Readable.{ListPlace, listPlace?}
 use Rattle.memory.specs.Scan.{Scanned}
@@ -57,8 +58,7 @@ good-list host at n bytes s number place scanned counts sum =
     record {
       some = number .0;
       most = number .1;
-      even = place .even;
-      inside = place .inside;
+      place = place;
       counts = granted (s .counts) _ counts (scanned .counts);
       sum = sym (scanned .sum) ∙ sum;
     }

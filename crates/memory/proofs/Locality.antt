@@ -6,21 +6,19 @@ use mathlib.Core.Path.{_≡_, refl, sym, ap₂, subst, _∙_}
 use native.Mathlib.Omega.{arith}
 use lib.ListN.{getD, length}
 use Rattle.iopb.specs.declared.Element.{Element}
+use Rattle.wire.specs.Memory.{Among, InMemory}
 use Rattle.wire.proofs.Laws.{word-same}
-use Rattle.memory.specs.Lists.{GoodCount, InMemory, ListGood, Ranges, elementOf, total}
+use Rattle.wire.proofs.Memory.{range-same}
+use Rattle.memory.specs.Lists.{GoodCount, ListGood, Ranges, elementOf, total}
 
--- A range lies in one memory where it lies in another as long.
-pub range-same : (h k : List ℕ) (at bytes : ℕ) → length h ≡ length k → InMemory h at bytes → InMemory k at bytes
-range-same h k at bytes long i = record { even = i .even; inside = omega (arith, i .inside) }
-
-module _ (h k : List ℕ) (at n : ℕ) (alike : (x : ℕ) → at ≤ x → x < at + 8 * n → getD h x 0 ≡ getD k x 0) where
+module _ (h k : List ℕ) (at n : ℕ) (alike : (x : ℕ) → Among at (8 * n) x → getD h x 0 ≡ getD k x 0) where
   pub element-same : (i : ℕ) → i < n → elementOf h at i ≡ elementOf k at i
   element-same i i< =
       let p : ℕ = at + 8 * i in
-      let bytes = word-same 2 h k p p (λ x x<. alike (p + x) (omega arith) (omega arith)) in
-      let address = word-same 4 h k (p + 2) (p + 2) (λ x x<. alike (p + 2 + x) (omega arith) (omega arith)) in
-      let type = alike (p + 6) (omega arith) (omega arith) in
-      let modifier = alike (p + 7) (omega arith) (omega arith) in
+      let bytes = word-same 2 h k p p (λ x x<. alike (p + x) (omega arith)) in
+      let address = word-same 4 h k (p + 2) (p + 2) (λ x x<. alike (p + 2 + x) (omega arith)) in
+      let type = alike (p + 6) (omega arith) in
+      let modifier = alike (p + 7) (omega arith) in
       λ j. record { bytes = bytes j; address = address j; «memory_type» = type j; modifier = modifier j }
 
   pub total-same : (i : ℕ) → i ≤ n → total h at i ≡ total k at i
@@ -38,8 +36,7 @@ module _ (h k : List ℕ) (at n : ℕ) (alike : (x : ℕ) → at ≤ x → x < a
       record {
         some = l .some;
         most = l .most;
-        even = l .even;
-        inside = omega (arith, l .inside);
+        place = range-same h k at (8 * n) long (l .place);
         counts = λ i i<. subst (λ (e : Element). GoodCount (e .bytes)) (element-same i i<) (l .counts i i<);
         sum = sym (total-same n (omega arith)) ∙ l .sum;
       }

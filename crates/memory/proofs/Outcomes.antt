@@ -1,19 +1,14 @@
 -- Each promise of this crate leaves one result, read off the contracts as the source states them.
--- A yes or no speaks of one statement, of a list's three cases no two can hold, and the pieces are an equation.
+-- Of a list's three cases no two can hold, and the pieces are an equation.
 use mathlib.Core.Path.{_≡_, _∙_, refl, sym}
 use Prim.Native.Nat.{ℕ}
 use mathlib.Core.List.{List}
 use Rattle.wire.specs.Promise.{OneResult}
-use Rattle.wire.proofs.Promises.{says-once}
 use Rattle.memory.specs.declared.Listed.{Listed}
 use Rattle.memory.specs.declared.Listed.the-variants.{Bad, Misplaced, Good}
 use Rattle.memory.specs.Scan.{Listing}
 use Rattle.memory.proofs.copy_out.Reads as copy-out
-use Rattle.memory.proofs.holds.Reads as holds
 use Rattle.memory.proofs.list.Reads as list
-
-holds-once : OneResult holds.Post
-holds-once κ a e x y p q = says-once x y _ p q
 
 listing-once :
     (host : List ℕ) (at n bytes : ℕ) (x y : Listed) → Listing host at n bytes x → Listing host at n bytes y → x ≡ y

@@ -1,15 +1,10 @@
--- What lies in host memory: a range, a list element, a whole list (01, Answer numbers, 18 and 19).
+-- A list in host memory: its elements, when it is good, and when their ranges are (01, Answer numbers, 18 and 19).
 use Prim.Native.Nat.{ℕ, zero, suc, _+_, _*_, _%_, _≤_, _<_}
 use mathlib.Core.List.{List}
 use mathlib.Core.Path.{_≡_}
-use lib.ListN.{length}
+use Rattle.wire.specs.Memory.{InMemory}
 use Rattle.iopb.specs.declared.Element.{Element}
 use Rattle.iopb.specs.Layout.{elementAt}
-
--- "a data address odd or its range not in host memory": neither is.
-pub record InMemory (host : List ℕ) (at bytes : ℕ) : Type 0 where
-  pub even : at % 2 ≡ 0
-  pub inside : at + bytes ≤ length host
 
 -- The i-th element of a list, and the sum of the byte counts of its first n.
 abbrev pub elementOf : List ℕ → ℕ → ℕ → Element
@@ -28,11 +23,10 @@ pub record GoodCount (bytes : ℕ) : Type 0 where
 pub record ListGood (host : List ℕ) (at elements bytes : ℕ) : Type 0 where
   pub some : 1 ≤ elements
   pub most : elements ≤ 64
-  pub even : at % 2 ≡ 0
-  pub inside : at + 8 * elements ≤ length host
+  pub place : InMemory host at (8 * elements)
   pub counts : (i : ℕ) → i < elements → GoodCount (elementOf host at i .bytes)
   pub sum : total host at elements ≡ bytes
 
--- Every element's range lies in host memory.
+-- "a data address odd or its range not in host memory": no element's is.
 abbrev pub Ranges : List ℕ → ℕ → ℕ → Type 0
 Ranges host at n = (i : ℕ) → i < n → InMemory host (elementOf host at i .address) (elementOf host at i .bytes)

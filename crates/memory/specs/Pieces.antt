@@ -1,10 +1,10 @@
 -- The pieces of a list, copied out beside the verdict (01, One run: "lists and UIB having been read" before 81 is stored).
-use Prim.Native.Nat.{ℕ, zero, suc, _*_, _≤_}
+use Prim.Native.Nat.{ℕ, zero, suc}
 use mathlib.Core.List.{List}
 use mathlib.Core.Logic.{ite}
 use lib.ListN.{replicate, set}
 use Rattle.memory.specs.declared.Pieces.{Pieces}
-use Rattle.memory.specs.Lists.{InMemory, elementOf}
+use Rattle.memory.specs.Lists.{elementOf}
 use Rattle.memory.specs.Readable.{listPlace?}
 
 -- 64 slots, of which the first n hold the byte counts, or the addresses, of a list's first n elements, and the others 0.

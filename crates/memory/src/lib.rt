@@ -1,29 +1,16 @@
-// What lies in host memory: a range of bytes, and the elements of a list, which it judges and copies out.
-// Addresses have 32 bits and lengths are the memory's: sums are made in 64 bits, and compared by what is left.
+// The elements of a list in host memory: they are judged, and copied out.
+// A list's place is tested before any of it is read, and the sum of its byte counts is made in 64 bits.
 // It changes nothing and knows no block and no drive.
 use iopb::Element;
+use wire::holds;
 ghost use mathlib.Core.Bool.{_&&_};
 ghost use mathlib.Core.Path.{_≡_};
-ghost use Prim.Native.Nat.{_+_, _*_, _≤_, _<_, _%_};
+ghost use Prim.Native.Nat.{_+_, _*_, _≤_};
 ghost use lib.ListN.{length};
-ghost use Rattle.memory.specs.Lists.{GoodCount, InMemory, ListGood};
+ghost use Rattle.memory.specs.Lists.{GoodCount};
 ghost use Rattle.memory.specs.Pieces.{filled, piecesOf};
 ghost use Rattle.memory.specs.Scan.{Listing, Scanned};
 ghost use Rattle.wire.specs.Promise.{Says};
-
-// Whether so many bytes from an address on lie in host memory, from an even address on.
-pub fn holds(host: &[u8], at: u32, bytes: u64) -> bool
-    ensures { λ r. ⌜ Says r (InMemory (now (host .entry)) at bytes) ⌝ }
-{
-    let long = host.len() as u64;
-    if at % 2 != 0 {
-        return false;
-    }
-    if long < bytes {
-        return false;
-    }
-    (at as u64) <= long - bytes
-}
 
 // What one pass over a list finds: whether every byte count is good, whether every range is, and the sum of the counts.
 pub struct Seen {

@@ -1,11 +1,13 @@
 -- Each promise of this crate leaves one outcome: the result, and of a lent slice every byte.
--- Each is an equation with a definition, so two outcomes are equal to the same thing.
+-- Each is an equation with a definition, so two outcomes are equal to the same thing, or a yes or no that speaks of one statement.
 use mathlib.Core.Path.{_∙_, sym}
 use denote.Ref.{now}
 use Rattle.wire.specs.Promise.{OneOutcome, OneResult}
+use Rattle.wire.proofs.Promises.{says-once}
 use Rattle.wire.proofs.be16.Reads as be16
 use Rattle.wire.proofs.be32.Reads as be32
 use Rattle.wire.proofs.copy.Reads as copy
+use Rattle.wire.proofs.holds.Reads as holds
 use Rattle.wire.proofs.put16.Reads as put16
 use Rattle.wire.proofs.put32.Reads as put32
 
@@ -23,3 +25,6 @@ put32-once κ a x y e f p q = p ∙ sym q
 
 copy-once : OneOutcome copy.Post (λ κ x e. now (e .1 .1 .0))
 copy-once κ a x y e f p q = p ∙ sym q
+
+holds-once : OneResult holds.Post
+holds-once κ a e x y p q = says-once x y _ p q

@@ -1,10 +1,12 @@
-// Big-endian words read from and stored into a byte slice, and the copy of a run of bytes between two slices.
-// Every layout and every transfer above is made of these, and the list laws that several crates share stand beside them.
+// Big-endian words read from and stored into a byte slice, the copy of a run of bytes between two slices, and the one test whether
+// a range lies in host memory. Every layout, transfer and place above is made of these; the laws that crates share stand beside them.
 // It knows no layout and no drive, and it leaves every byte that it does not name as it was.
 ghost use mathlib.Core.Path.{_≡_};
 ghost use Prim.Native.Nat.{_+_, _≤_, _<_};
 ghost use lib.ListN.{length};
 ghost use Rattle.wire.specs.Copy.{copied};
+ghost use Rattle.wire.specs.Memory.{InMemory};
+ghost use Rattle.wire.specs.Promise.{Says};
 ghost use Rattle.wire.specs.Words.{be16, be32, with16, with32};
 
 // A byte as a wider number.
@@ -61,4 +63,19 @@ pub fn copy(bytes: &[u8], from: usize, into: &mut [u8], to: usize, n: usize)
         into[to + i] = bytes[from + i];
         i += 1;
     }
+}
+
+// Whether so many bytes from an address on lie in host memory, from an even address on. Addresses have 32 bits and lengths are
+// the memory's: they are compared in 64 bits, by what is left, so that no sum is made that could be cut off.
+pub fn holds(host: &[u8], at: u32, bytes: u64) -> bool
+    ensures { λ r. ⌜ Says r (InMemory (now (host .entry)) at bytes) ⌝ }
+{
+    let long = host.len() as u64;
+    if at % 2 != 0 {
+        return false;
+    }
+    if long < bytes {
+        return false;
+    }
+    (at as u64) <= long - bytes
 }

@@ -6,7 +6,8 @@ use mathlib.Core.Path.{_≡_, refl, _∙_}
 use native.Mathlib.Omega.{arith}
 use lib.ListN.{List·getD-append, getD, length, length-append, length-replicate, replicate}
 use lib.Seq.{getD-append-add}
-use Rattle.memory.specs.Lists.{InMemory, ListGood, Ranges, elementOf, total}
+use Rattle.memory.specs.Lists.{ListGood, Ranges, elementOf, total}
+use Rattle.wire.specs.Memory.{InMemory}
 use Rattle.wire.specs.Words.{word}
 use Rattle.wire.proofs.Laws.{word-same}
 use Rattle.worked.specs.SmallDrive.{elements, host}
@@ -64,8 +65,7 @@ list-good =
     record {
       some = omega arith;
       most = omega arith;
-      even = refl;
-      inside = omega (arith, length-host);
+      place = omega (arith, length-host);
       counts = λ i i<. omega (arith, element-is behind 65 i (omega arith));
       sum = total-is behind 65 64 (omega arith);
     }

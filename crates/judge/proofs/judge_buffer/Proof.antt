@@ -1,5 +1,5 @@
 -- A piece is judged by check 19 alone, a list by 18 and then by 19.
--- What `memory` found of either is what those checks say.
+-- What `wire::holds` found of a piece, and `memory::list` of a list, is what those checks say.
 use mathlib.Core.Path.{_≡_, sym, _∙_}
 use native.Mathlib.Omega.{arith}
 use borrow.Author.Needs.{needs}

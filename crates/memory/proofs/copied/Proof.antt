@@ -19,52 +19,40 @@ Inv-loop host at n lengths₀ addresses₀ i₀ lengths addresses i =
 abbrev μ-loop : tie.MeasureT-loop
 μ-loop host at n lengths₀ addresses₀ i₀ lengths addresses i = n - i
 
--- src/lib.rt:119:5
 loop-holds : tie.Need-loop-holds Inv-loop μ-loop
 unfolding lengthsOf addressesOf
 loop-holds c = (omega arith, (refl, refl))
 
--- src/lib.rt:120:42
 mul-read : tie.Need-mul-read Inv-loop μ-loop
 mul-read c = omega arith
 
--- src/lib.rt:120:37
 add-read : tie.Need-add-read Inv-loop μ-loop
 add-read c = omega arith
 
--- src/lib.rt:120:13
 read-requires : tie.Need-read-requires Inv-loop μ-loop
 read-requires c κs = omega arith
 
--- src/lib.rt:121:22
 cast-lengths : tie.Need-cast-lengths Inv-loop μ-loop
 cast-lengths c = search needs
 
--- src/lib.rt:121:9
 mul-lengths : tie.Need-mul-lengths Inv-loop μ-loop
 mul-lengths c = omega arith
 
--- src/lib.rt:121:9
 array-write-lengths : tie.Need-array-write-lengths Inv-loop μ-loop
 array-write-lengths c = omega arith
 
--- src/lib.rt:122:9
 mul-addresses : tie.Need-mul-addresses Inv-loop μ-loop
 mul-addresses c = omega arith
 
--- src/lib.rt:122:9
 array-write-addresses : tie.Need-array-write-addresses Inv-loop μ-loop
 array-write-addresses c = omega arith
 
--- src/lib.rt:123:9
 add-i : tie.Need-add-i Inv-loop μ-loop
 add-i c = omega arith
 
--- src/lib.rt:119:5
 loop-less : tie.Need-loop-less Inv-loop μ-loop
 loop-less c = omega arith
 
--- src/lib.rt:119:5
 loop-again : tie.Need-loop-again Inv-loop μ-loop
 loop-again c =
     let a = c .before .before .before .before .before .args in
@@ -76,7 +64,6 @@ loop-again c =
           (at-loop .inv .1 .1),
     )
 
--- src/lib.rt:112:1
 returns : tie.Need-returns Inv-loop μ-loop
 returns c =
     let done : c .before .loop .i ≡ c .before .before .before .args .n = omega arith in

@@ -2,8 +2,8 @@
 -- What the pass found is then what checks 18 and 19 say, in their order.
 use native.Mathlib.Omega.{arith}
 use borrow.Author.Needs.{needs}
+use Rattle.wire.specs.Memory.{InMemory}
 use Rattle.wire.proofs.Promises.{denied, granted}
-use Rattle.memory.specs.Lists.{InMemory}
 use Rattle.memory.proofs.Lists.{good-list}
 use Rattle.memory.proofs.list.Statement.{statement}
 use Rattle.memory.proofs.list.Tie as tie
@@ -23,7 +23,7 @@ holds-requires c κs = search needs
 returns-3 : tie.Need-returns-3
 returns-3 c =
     let h = c .before .holds in
-    λ l. denied (h .result) _ (c .if3 .taken) (h .ensures) (record { even = l .even; inside = l .inside })
+    λ l. denied (h .result) _ (c .if3 .taken) (h .ensures) (l .place)
 
 scan-requires : tie.Need-scan-requires
 scan-requires c κs =

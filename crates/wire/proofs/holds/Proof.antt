@@ -4,10 +4,10 @@ use Prim.Native.Nat.{_-_}
 use native.Mathlib.Omega.{arith}
 use lib.ListN.{length}
 use borrow.Author.Needs.{needs}
+use Rattle.wire.specs.Memory.{InMemory}
 use Rattle.wire.proofs.Promises.{says-leb}
-use Rattle.memory.specs.Lists.{InMemory}
-use Rattle.memory.proofs.holds.Statement.{statement}
-use Rattle.memory.proofs.holds.Tie as tie
+use Rattle.wire.proofs.holds.Statement.{statement}
+use Rattle.wire.proofs.holds.Tie as tie
 
 returns : tie.Need-returns
 returns c = search needs
