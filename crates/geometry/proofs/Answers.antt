@@ -70,3 +70,14 @@ at-placed g a p is =
 
 pub no-place : (g : Geometry) (a : Address) → placed g a ≡ Place.Outside → OnDrive g a → ⊥
 no-place g a is on = never (cc (placed-inside g a on))
+
+pub at-sector :
+    (g : Geometry) (p first mark : ℕ) →
+    sectorAt g p ≡ Sector.At first mark → (p < driveSectors g) × ((first ≡ firstByte g p) × (mark ≡ markByte g p))
+at-sector g p first mark is =
+    by-cases (decLt p (driveSectors g)) (λ in-it. (in-it, (cc (sectorAt-inside g p in-it), cc (sectorAt-inside g p in-it))))
+    (λ out. absurd (never (cc (sectorAt-outside g p (omega arith)))))
+
+pub no-sector : (g : Geometry) (p : ℕ) → sectorAt g p ≡ Sector.Outside → driveSectors g ≤ p
+no-sector g p is =
+    by-cases (decLt p (driveSectors g)) (λ in-it. absurd (never (cc (sectorAt-inside g p in-it)))) (λ out. omega arith)

@@ -4,7 +4,7 @@ use Prim.Native.Nat.{ℕ, _+_, _-_, _*_, _/_, _%_, _≤_, _<_}
 use mathlib.Core.Logic.{by-cases, if-neg, if-pos}
 use mathlib.Core.Path.{_≡_, refl, sym, ap, _∙_}
 use native.Mathlib.Decide.{decLt}
-use native.Mathlib.Nat.{add-assoc, add-sub-cancel-left, add-zero, mul-le-mul, mul-le-mul-left, mul-le-mul-right}
+use native.Mathlib.Nat.{add-assoc, add-mul, add-sub-cancel-left, add-zero, mul-le-mul, mul-le-mul-left, mul-le-mul-right}
 use native.Mathlib.Omega.{arith}
 use lib.Arith.{digits-div}
 use Rattle.geometry.specs.declared.Address.{Address}
@@ -53,6 +53,13 @@ module _ (g : Geometry) where
   -- The rest of a track is consecutive in the image.
   pub track-consecutive : (c h s k : ℕ) → placeOf g (address c h (s + k)) ≡ placeOf g (address c h s) + k
   track-consecutive c h s k = omega (arith, placeOf-is g (address c h (s + k)), placeOf-is g (address c h s))
+
+  -- Places in a row have their bytes in a row, and their marks.
+  pub bytes-consecutive : (p k : ℕ) → firstByte g (p + k) ≡ firstByte g p + k * B g
+  bytes-consecutive p k = rw (firstByte-is, firstByte-is) (add-mul p k (B g))
+
+  pub marks-consecutive : (p k : ℕ) → markByte g (p + k) ≡ markByte g p + k
+  marks-consecutive p k = rw (markByte-is, markByte-is) (omega arith)
 
   -- Two places whose sectors share a byte are one place.
   pub bytes-differ : (p q i j : ℕ) → i < B g → j < B g → firstByte g p + i ≡ firstByte g q + j → p ≡ q

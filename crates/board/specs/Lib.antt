@@ -1,0 +1,5 @@
+pub mod Block
+pub mod Chain
+pub mod Events
+pub mod Inspection
+pub mod World

@@ -1,0 +1,11 @@
+pub mod AllPieces
+pub mod Carrying
+pub mod Cursors
+pub mod Filling
+pub mod Joined
+pub mod Progress
+pub mod Rows
+pub mod Stores
+pub mod Survey
+pub mod Tracks
+pub mod Wholes

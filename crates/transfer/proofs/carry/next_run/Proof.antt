@@ -1,0 +1,100 @@
+-- The run is one of the span's, so it lies on the drive and its first byte is known.
+-- Its cursor stands right by the law of cursors.
+use Prim.Native.Nat.{_^_, _-_}
+use native.Mathlib.Omega.{arith}
+use Rattle.wire.proofs.Numbers.{product-below}
+use Rattle.geometry.proofs.Answers.{at-sector, no-sector}
+use Rattle.transfer.proofs.Cursors.{cursor-begins}
+use Rattle.transfer.proofs.Tracks.{run-inside}
+use borrow.Author.Needs.{needs}
+use Rattle.transfer.proofs.carry.next_run.Statement.{statement}
+use Rattle.transfer.proofs.carry.next_run.Tie as tie
+use Rattle.transfer.proofs.carry.next_run.Reads as reads
+use Rattle.transfer.proofs.carry.next_run.Lts as lts
+use Rattle.geometry.proofs.Geometry.bytes_a_sector.Reads as bytes-a-sector-reads
+use Rattle.geometry.proofs.Geometry.sector.Reads as sector-reads
+use Rattle.transfer.proofs.reach.run_at.Reads as run-at-reads
+use Rattle.unit.proofs.Record.geometry.Reads as geometry-reads
+
+add-run-at : tie.Need-add-run-at
+add-run-at c = omega arith
+
+sub-run-at : tie.Need-sub-run-at
+sub-run-at c = search needs
+
+run-at-requires : tie.Need-run-at-requires
+run-at-requires c κs = search needs
+
+geometry-requires : tie.Need-geometry-requires
+geometry-requires c κs = search needs
+
+sector-requires : tie.Need-sector-requires
+sector-requires c κs = search needs
+
+enum-known-first : tie.Need-enum-known-first
+enum-known-first c = search needs
+
+enum-told : tie.Need-enum-told
+enum-told c = search needs
+
+returns : tie.Need-returns
+returns c =
+    let a = c .before .before .before .before .before .before .before .args in
+    let run = c .before .before .before .before .run-at in
+    absurd
+    (omega (
+      arith,
+      no-sector (a .u .geometry) (run .result .place) cc,
+      run-inside (a .u) (a .span .volume) _ _ (run .result) (omega arith) (run .ensures),
+      run .ensures,
+    ))
+
+cast-t7 : tie.Need-cast-t7
+cast-t7 c = search needs
+
+geometry-requires-2 : tie.Need-geometry-requires-2
+geometry-requires-2 c κs = search needs
+
+bytes-a-sector-requires : tie.Need-bytes-a-sector-requires
+bytes-a-sector-requires c κs = search needs
+
+cast-t8 : tie.Need-cast-t8
+cast-t8 c = search needs
+
+mul-t12 : tie.Need-mul-t12
+mul-t12 c = record { fits = product-below (c .before .before .before .before .before .before .before .before .run-at .result .sectors) (c .bytes-a-sector .result) 65535 65535 (2 ^ 64) (omega arith) (omega arith) tt }
+
+add-t13 : tie.Need-add-t13
+add-t13 c =
+    let run = c .before .before .before .before .before .before .before .before .before .run-at in
+    omega (arith, run .ensures .asked, c .before .before .before .before .before .before .before .before .before .before .struct-known2 .given)
+
+returns-2 : tie.Need-returns-2
+returns-2 c =
+    let a = c .before .before .before .before .before .before .before .before .before .before .before .before .args in
+    let run = c .before .before .before .before .before .before .before .before .before .run-at in
+    let pre = c .before .before .before .before .before .before .before .before .before .before .before .before .pre in
+    let given = c .before .before .before .before .before .first .given .0 in
+    let at = at-sector (a .u .geometry) (run .result .place) (given .0) (given .1 .0) cc in
+    rw (at .1 .0, c .before .bytes-a-sector .ensures, c .before .before .geometry2 .ensures)
+    (cursor-begins (a .u) (a .span) (a .next) (a .span .count - a .next) (run .result) (omega (arith, pre)) (run .ensures) (omega (arith, pre)) (omega (arith, pre)))
+
+pub next-run-spec : {M : Type 1} → statement M
+next-run-spec =
+    tie.close
+    (tie.spec
+    add-run-at
+    sub-run-at
+    run-at-requires
+    geometry-requires
+    sector-requires
+    enum-known-first
+    enum-told
+    returns
+    cast-t7
+    geometry-requires-2
+    bytes-a-sector-requires
+    cast-t8
+    mul-t12
+    add-t13
+    returns-2)

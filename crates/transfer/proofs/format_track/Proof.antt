@@ -1,0 +1,140 @@
+-- A request that does not fit stores nothing. One that fits is scanned, and the sectors that come are filled.
+-- The two promises together are the result's two halves.
+use mathlib.Core.Path.{_≡_, refl, sym, ap, _∙_}
+use native.Mathlib.Omega.{arith}
+use lib.ListN.{length}
+use Rattle.geometry.specs.Drive.{B}
+use Rattle.geometry.specs.Sectors.{firstByte}
+use Rattle.geometry.proofs.Answers.{at-sector, no-sector}
+use Rattle.wire.proofs.Promises.{denied, granted}
+use Rattle.transfer.specs.Data.{formatting, progressOn}
+use Rattle.transfer.specs.Runs.{reached}
+use Rattle.transfer.specs.Stores.{after}
+use Rattle.transfer.specs.Whole.{TrackFits}
+use Rattle.transfer.proofs.Filling.{track-fit, track-room, track-stores, track-unfit}
+use borrow.Author.Needs.{needs}
+use Rattle.transfer.proofs.format_track.Statement.{statement}
+use Rattle.transfer.proofs.format_track.Tie as tie
+use Rattle.transfer.proofs.format_track.Reads as reads
+use Rattle.transfer.proofs.format_track.Lts as lts
+use Rattle.geometry.proofs.Geometry.bytes_a_sector.Reads as bytes-a-sector-reads
+use Rattle.geometry.proofs.Geometry.sector.Reads as sector-reads
+use Rattle.geometry.proofs.Geometry.sectors_a_track.Reads as sectors-a-track-reads
+use Rattle.transfer.proofs.carry.fill.Reads as fill-reads
+use Rattle.transfer.proofs.idle.Reads as idle-reads
+use Rattle.transfer.proofs.reach.reach.Reads as reach-reads
+use Rattle.transfer.proofs.track_fits.Reads as track-fits-reads
+use Rattle.unit.proofs.Record.geometry.Reads as geometry-reads
+
+track-fits-requires : tie.Need-track-fits-requires
+track-fits-requires c κs = search needs
+
+idle-requires : tie.Need-idle-requires
+idle-requires c κs = search needs
+
+-- After the test the request fits, and what is asked of the geometry is the unit's.
+fits : (c : tie.Else1) → TrackFits (c .before .before .before .before .args .u) (c .before .before .before .before .args .spot) (c .before .before .before .before .args .at) (length (c .before .before .before .before .args .host .now))
+fits c = granted (c .before .track-fits .result) _ (c .if1 .left) (c .before .track-fits .ensures)
+
+returns : tie.Need-returns
+unfolding after
+returns c =
+    let a = c .before .before .before .before .before .args in
+    rw
+    (track-unfit (a .image .now) (a .u) (a .spot) (a .at) (length (a .host .now))
+    (denied (c .before .before .track-fits .result) _ (c .before .if1 .taken) (c .before .before .track-fits .ensures)))
+    (c .idle .ensures, refl)
+
+geometry-requires : tie.Need-geometry-requires
+geometry-requires c κs = search needs
+
+sector-requires : tie.Need-sector-requires
+sector-requires c κs = search needs
+
+enum-known-first : tie.Need-enum-known-first
+enum-known-first c = search needs
+
+enum-told : tie.Need-enum-told
+enum-told c = search needs
+
+idle-requires-2 : tie.Need-idle-requires-2
+idle-requires-2 c κs = search needs
+
+returns-2 : tie.Need-returns-2
+returns-2 c =
+    let a = c .before .before .before .before .before .before .before .before .before .args in
+    absurd
+    (omega
+    (arith, no-sector (a .u .geometry) (a .spot .place) (cc (c .before .before .before .before .geometry .ensures)), fits (c .before .before .before .before .before)))
+
+sectors-a-track-requires : tie.Need-sectors-a-track-requires
+sectors-a-track-requires c κs = search needs
+
+reach-requires : tie.Need-reach-requires
+reach-requires c κs =
+    let f = fits (c .before .before .before .before .before .before .before) in
+    rw (c .sectors-a-track .ensures, c .before .before .before .before .before .before .geometry .ensures) (f .some, f .inside)
+
+bytes-a-sector-requires : tie.Need-bytes-a-sector-requires
+bytes-a-sector-requires c κs = search needs
+
+cast-fill : tie.Need-cast-fill
+cast-fill c = search needs
+
+cast-fill-2 : tie.Need-cast-fill-2
+cast-fill-2 c = search needs
+
+-- What is known before the track is filled: where it begins, how long a sector is, how far the track comes.
+known :
+    (c : tie.After-struct-known) →
+    (c .before .before .before .before .before .before .before .first .given .0 .0 ≡ firstByte (c .before .before .before .before .before .before .before .before .before .before .before .before .before .before .before .args .u .geometry) (c .before .before .before .before .before .before .before .before .before .before .before .before .before .before .before .args .spot .place)) ×
+    ((c .before .bytes-a-sector .result ≡ B (c .before .before .before .before .before .before .before .before .before .before .before .before .before .before .before .args .u .geometry)) ×
+    (c .before .before .before .reach .result ≡ reached (progressOn (c .before .before .before .before .before .before .before .before .before .before .before .before .before .before .before .args .image .now) (formatting (c .before .before .before .before .before .before .before .before .before .before .before .before .before .before .before .args .u) (c .before .before .before .before .before .before .before .before .before .before .before .before .before .before .before .args .spot) (c .before .before .before .before .before .before .before .before .before .before .before .before .before .before .before .args .at)))))
+known c =
+    let a = c .before .before .before .before .before .before .before .before .before .before .before .before .before .before .before .args in
+    let is = c .before .before .before .before .before .before .before .before .before .before .geometry .ensures in
+    let given = c .before .before .before .before .before .before .before .first .given .0 in (
+      at-sector (a .u .geometry) (a .spot .place) (given .0) (given .1 .0) (cc is) .1 .0,
+      (
+        rw is at (c .before .bytes-a-sector .ensures),
+        rw (c .before .before .before .before .sectors-a-track .ensures, is) at (c .before .before .before .reach .ensures),
+      ),
+    )
+
+fill-requires : tie.Need-fill-requires
+fill-requires c κs =
+    let a = c .before .before .before .before .before .before .before .before .before .before .before .before .before .before .before .args in
+    let k = known c in
+    rw (k .0, k .1 .0, k .1 .1) (fits (c .before .before .before .before .before .before .before .before .before .before .before) .memory, track-room (a .image .now) (a .u) (a .spot) (a .at))
+
+same-length : tie.Need-same-length
+same-length c = search needs
+
+returns-3 : tie.Need-returns-3
+returns-3 c =
+    let a = c .before .before .before .before .before .before .before .before .before .before .before .before .before .before .before .before .before .before .args in
+    let k = known (c .before .before .before) in
+    rw (track-fit (a .image .now) (a .u) (a .spot) (a .at) (length (a .host .now)) (fits (c .before .before .before .before .before .before .before .before .before .before .before .before .before .before)), k .1 .1)
+    (refl, rw (track-stores (a .image .now) (a .u) (a .spot) (a .at)) (rw (k .0, k .1 .0, k .1 .1) at (c .before .before .fill .ensures)))
+
+pub format-track-spec : {M : Type 1} → statement M
+format-track-spec =
+    tie.close
+    (tie.spec
+    track-fits-requires
+    idle-requires
+    returns
+    geometry-requires
+    sector-requires
+    enum-known-first
+    enum-told
+    idle-requires-2
+    returns-2
+    sectors-a-track-requires
+    reach-requires
+    bytes-a-sector-requires
+    cast-fill
+    cast-fill-2
+    fill-requires
+    same-length
+    returns-3)

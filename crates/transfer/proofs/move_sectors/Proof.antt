@@ -1,0 +1,93 @@
+-- A request that does not fit stores nothing. One that fits is surveyed, and the sectors that come are carried.
+-- The two promises together are the result's two halves.
+use mathlib.Core.Path.{_≡_, refl, sym, ap, _∙_}
+use native.Mathlib.Omega.{arith}
+use lib.ListN.{length}
+use Rattle.wire.proofs.Promises.{denied, granted}
+use Rattle.transfer.specs.Data.{dataOn}
+use Rattle.transfer.specs.Runs.{Spans, lent}
+use Rattle.transfer.specs.Stores.{after}
+use Rattle.transfer.specs.Whole.{SectorsFit}
+use Rattle.transfer.proofs.Wholes.{reached-held, reached-pieces, reached-spans, sectors-fit, sectors-unfit}
+use borrow.Author.Needs.{needs}
+use Rattle.transfer.proofs.move_sectors.Statement.{statement}
+use Rattle.transfer.proofs.move_sectors.Tie as tie
+use Rattle.transfer.proofs.move_sectors.Reads as reads
+use Rattle.transfer.proofs.move_sectors.Lts as lts
+use Rattle.transfer.proofs.carry.carry.Reads as carry-reads
+use Rattle.transfer.proofs.heeds.Reads as heeds-reads
+use Rattle.transfer.proofs.idle.Reads as idle-reads
+use Rattle.transfer.proofs.reach.survey.Reads as survey-reads
+use Rattle.transfer.proofs.sectors_fit.Reads as sectors-fit-reads
+
+sectors-fit-requires : tie.Need-sectors-fit-requires
+sectors-fit-requires c κs = search needs
+
+idle-requires : tie.Need-idle-requires
+idle-requires c κs = search needs
+
+-- After the test the request fits, and its numbers can be counted in 64 bits.
+fits :
+    (c : tie.Else1) →
+    SectorsFit (c .before .before .before .before .before .before .args .u) (c .before .before .before .before .before .before .args .span) (c .before .before .before .before .before .before .args .lengths .now) (c .before .before .before .before .before .before .args .addresses .now) (length (c .before .before .before .before .before .before .args .host .now))
+fits c = granted (c .before .sectors-fit .result) _ (c .if1 .left) (c .before .sectors-fit .ensures .0)
+
+spans : (c : tie.Else1) → Spans (c .before .before .before .before .before .before .args .u) (c .before .before .before .before .before .before .args .span)
+spans c = record { inside = fits c .inside; small = omega (arith, fits c .inside, c .before .sectors-fit .ensures .1) }
+
+returns : tie.Need-returns
+unfolding after
+returns c =
+    let a = c .before .before .before .before .before .before .before .args in
+    rw
+    (sectors-unfit (length (a .host .now)) (a .image .now) (a .u) (a .span) (a .to-host) (a .past-marks) (a .lengths .now) (a .addresses .now)
+    (denied (c .before .before .sectors-fit .result) _ (c .before .if1 .taken) (c .before .before .sectors-fit .ensures .0)))
+    (c .idle .ensures, refl)
+
+heeds-requires : tie.Need-heeds-requires
+heeds-requires c κs = search needs
+
+survey-requires : tie.Need-survey-requires
+survey-requires c κs = (fits (c .before .before) .some, spans (c .before .before))
+
+carry-requires : tie.Need-carry-requires
+carry-requires c κs =
+    let a = c .before .before .before .before .before .before .before .before .before .before .before .args in
+    let f = fits (c .before .before .before .before .before) in
+    rw (c .before .before .survey .ensures) (
+      reached-spans (a .image .now) (a .u) (a .span) (c .before .before .before .heeds .result) (spans (c .before .before .before .before .before)),
+      (
+        reached-held (a .image .now) (a .u) (a .span) (c .before .before .before .heeds .result),
+        reached-pieces (a .image .now) (a .u) (a .span) (c .before .before .before .heeds .result) (length (a .host .now)) (a .lengths .now) (a .addresses .now) (f .pieces),
+      ),
+    )
+
+same-length : tie.Need-same-length
+same-length c = search needs
+
+same-length-2 : tie.Need-same-length-2
+same-length-2 c = search needs
+
+returns-2 : tie.Need-returns-2
+unfolding dataOn
+returns-2 c =
+    let surveyed = rw (c .before .before .before .before .before .before .before .before .heeds .ensures) at (c .before .before .before .before .before .before .before .survey .ensures) in
+    let a = c .before .before .before .before .before .before .before .before .before .before .before .before .before .before .before .before .args in
+    rw
+    (sectors-fit (length (a .host .now)) (a .image .now) (a .u) (a .span) (a .to-host) (a .past-marks) (a .lengths .now) (a .addresses .now)
+    (fits (c .before .before .before .before .before .before .before .before .before .before)))
+    (surveyed, rw surveyed at (c .before .before .before .before .carry .ensures))
+
+pub move-sectors-spec : {M : Type 1} → statement M
+move-sectors-spec =
+    tie.close
+    (tie.spec
+    sectors-fit-requires
+    idle-requires
+    returns
+    heeds-requires
+    survey-requires
+    carry-requires
+    same-length
+    same-length-2
+    returns-2)

@@ -1,0 +1,97 @@
+-- A place on the drive has a mark; of the marks that follow, those in the image are scanned, and what is found says how far.
+-- Each way out is the row's law of the same name.
+use mathlib.Core.Path.{_≡_, sym, ap}
+use native.Mathlib.Omega.{arith}
+use Rattle.geometry.proofs.Answers.{at-sector, no-sector}
+use Rattle.transfer.specs.Progress.{Progress}
+use Rattle.transfer.specs.Runs.{reached}
+use Rattle.transfer.proofs.Rows.{row-past, row-unreadable, row-whole}
+use borrow.Author.Needs.{needs}
+use Rattle.transfer.proofs.reach.reach.Statement.{statement}
+use Rattle.transfer.proofs.reach.reach.Tie as tie
+use Rattle.transfer.proofs.reach.reach.Reads as reads
+use Rattle.transfer.proofs.reach.reach.Lts as lts
+use Rattle.geometry.proofs.Geometry.sector.Reads as sector-reads
+use Rattle.transfer.proofs.reach.fitting.Reads as fitting-reads
+use Rattle.transfer.proofs.reach.readable.Reads as readable-reads
+
+sector-requires : tie.Need-sector-requires
+sector-requires c κs = search needs
+
+enum-known-mark : tie.Need-enum-known-mark
+enum-known-mark c = search needs
+
+enum-told : tie.Need-enum-told
+enum-told c = search needs
+
+returns : tie.Need-returns
+returns c =
+    let a = c .before .before .before .before .args in
+    absurd (omega (arith, no-sector (a .g) (a .place) cc))
+
+fitting-requires : tie.Need-fitting-requires
+fitting-requires c κs = search needs
+
+cast-readable : tie.Need-cast-readable
+cast-readable c = search needs
+
+readable-requires : tie.Need-readable-requires
+readable-requires c κs = search needs
+
+cast-sectors : tie.Need-cast-sectors
+cast-sectors c = search needs
+
+returns-2 : tie.Need-returns-2
+returns-2 c =
+    let a = c .before .before .before .before .before .before .before .before .args in
+    let given = c .before .before .before .before .mark .given .0 in
+    let fit = c .before .before .fitting in
+    let found = c .before .readable in
+    ap (λ (p : Progress). reached p)
+    (sym
+    (row-unreadable (a .image .now) (a .g) (a .heeds) (a .place) (a .n) (omega arith) (given .1 .0)
+    (at-sector (a .g) (a .place) (given .0) (given .1 .0) (cc) .1 .1)
+    (fit .result) (found .result) (fit .ensures) (found .ensures)
+    (c .if1 .taken)))
+
+returns-3 : tie.Need-returns-3
+returns-3 c =
+    let a = c .before .before .before .before .before .before .before .before .before .args in
+    let given = c .before .before .before .before .before .mark .given .0 in
+    let fit = c .before .before .before .fitting in
+    let found = c .before .before .readable in
+    ap (λ (p : Progress). reached p)
+    (sym
+    (row-past (a .image .now) (a .g) (a .heeds) (a .place) (a .n) (omega arith) (given .1 .0)
+    (at-sector (a .g) (a .place) (given .0) (given .1 .0) (cc) .1 .1)
+    (fit .result) (found .result) (fit .ensures) (found .ensures)
+    (c .before .if1 .left) (c .if2 .taken)))
+
+returns-4 : tie.Need-returns-4
+returns-4 c =
+    let a = c .before .before .before .before .before .before .before .before .before .args in
+    let given = c .before .before .before .before .before .mark .given .0 in
+    let fit = c .before .before .before .fitting in
+    let found = c .before .before .readable in
+    ap (λ (p : Progress). reached p)
+    (sym
+    (row-whole (a .image .now) (a .g) (a .heeds) (a .place) (a .n) (omega arith) (given .1 .0)
+    (at-sector (a .g) (a .place) (given .0) (given .1 .0) (cc) .1 .1)
+    (fit .result) (found .result) (fit .ensures) (found .ensures)
+    (c .before .if1 .left) (c .if2 .left)))
+
+pub reach-spec : {M : Type 1} → statement M
+reach-spec =
+    tie.close
+    (tie.spec
+    sector-requires
+    enum-known-mark
+    enum-told
+    returns
+    fitting-requires
+    cast-readable
+    readable-requires
+    cast-sectors
+    returns-2
+    returns-3
+    returns-4)

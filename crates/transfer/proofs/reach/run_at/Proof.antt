@@ -1,0 +1,56 @@
+-- A number of the volume has a landing; its run is the rest of its track, cut to what was asked for.
+-- Both are positive, so the run has a sector.
+use mathlib.Core.Path.{_≡_, ap}
+use native.Mathlib.Omega.{arith}
+use borrow.Author.Needs.{needs}
+use Rattle.unit.specs.declared.Spot.{Spot}
+use Rattle.unit.proofs.Answers.{at-landing, no-landing}
+use Rattle.unit.proofs.Laws.{spot-inside}
+use Rattle.transfer.proofs.reach.run_at.Statement.{statement}
+use Rattle.transfer.proofs.reach.run_at.Tie as tie
+use Rattle.transfer.proofs.reach.run_at.Reads as reads
+use Rattle.transfer.proofs.reach.run_at.Lts as lts
+use Rattle.transfer.proofs.reach.lesser.Reads as lesser-reads
+use Rattle.unit.proofs.Record.land.Reads as land-reads
+
+-- src/reach.rt:30:29
+land-requires : tie.Need-land-requires
+land-requires c κs = search needs
+
+-- src/reach.rt:30:21
+enum-known-spot : tie.Need-enum-known-spot
+enum-known-spot c = search needs
+
+-- src/reach.rt:31:9
+enum-told : tie.Need-enum-told
+enum-told c = search needs
+
+-- src/reach.rt:31:9
+returns : tie.Need-returns
+returns c =
+    let a = c .before .before .before .args in
+    absurd (omega (arith, no-landing (a .u) (a .v) (a .number) cc))
+
+-- src/reach.rt:39:18
+lesser-requires : tie.Need-lesser-requires
+lesser-requires c κs = search needs
+
+-- src/reach.rt:26:1
+returns-2 : tie.Need-returns-2
+returns-2 c =
+    let a = c .before .before .before .before .before .args in
+    let spot = c .before .before .spot .given .0 .0 in
+    let landed = at-landing (a .u) (a .v) (a .number) spot cc in
+    let inside = spot-inside (a .u) (a .v) (a .number) (omega arith) in
+    let is = landed .1 in
+    record {
+      place = ap (λ (x : Spot). x .place) is;
+      cylinder = ap (λ (x : Spot). x .cylinder) is;
+      some = omega (arith, ap (λ (x : Spot). x .rest) is, inside .some);
+      asked = omega arith;
+      track = omega (arith, ap (λ (x : Spot). x .rest) is);
+    }
+
+pub run-at-spec : {M : Type 1} → statement M
+run-at-spec =
+    tie.close (tie.spec land-requires enum-known-spot enum-told returns lesser-requires returns-2)

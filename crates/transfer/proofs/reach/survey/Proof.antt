@@ -1,0 +1,95 @@
+-- The loop stands where Surveying says; a run that comes to its end leads to the next turn.
+-- Each way out is the survey's law of that name.
+use Prim.Native.Nat.{_-_}
+use mathlib.Core.Path.{_≡_}
+use native.Mathlib.Omega.{arith}
+use borrow.Author.Needs.{needs}
+use Rattle.transfer.proofs.Survey.{Surveying, advanced-most, survey-begins, survey-ends, survey-grows, survey-on, survey-stopped}
+use Rattle.transfer.proofs.reach.survey.Statement.{statement}
+use Rattle.transfer.proofs.reach.survey.Tie as tie
+use Rattle.transfer.proofs.reach.survey.Reads as reads
+use Rattle.transfer.proofs.reach.survey.Lts as lts
+use Rattle.transfer.proofs.reach.advance.Reads as advance-reads
+
+abbrev Inv-loop : tie.InvT-loop
+Inv-loop image u span heeds volume done₀ cylinder₀ done cylinder = Surveying image u (span .volume) (span .first) (span .count) heeds done cylinder
+
+abbrev μ-loop : tie.MeasureT-loop
+μ-loop image u span heeds volume done₀ cylinder₀ done cylinder = span .count - done
+
+loop-holds : tie.Need-loop-holds Inv-loop μ-loop
+loop-holds c =
+    let a = c .before .args in
+    survey-begins (a .image .now) (a .u) (a .span .volume) (a .span .first) (a .span .count) (a .heeds) 0
+
+cast-advance : tie.Need-cast-advance Inv-loop μ-loop
+cast-advance c = search needs
+
+add-advance : tie.Need-add-advance Inv-loop μ-loop
+add-advance c = omega arith
+
+sub-advance : tie.Need-sub-advance Inv-loop μ-loop
+sub-advance c = omega arith
+
+advance-requires : tie.Need-advance-requires Inv-loop μ-loop
+advance-requires c κs = (omega arith, omega arith)
+
+add-done : tie.Need-add-done Inv-loop μ-loop
+add-done c =
+    let a = c .before .before .before .before .before .before .before .before .args in
+    let now = c .before .before .before .before .before .before .loop in
+    let m = c .before .advance in
+    omega (arith, advanced-most (a .image .now) (a .u) (a .span .volume) (a .span .first) (a .span .count) (a .heeds) (now .done) (now .cylinder) (now .inv) (m .result) (m .ensures))
+
+enum-known-answer : tie.Need-enum-known-answer Inv-loop μ-loop
+enum-known-answer c = search needs
+
+returns : tie.Need-returns Inv-loop μ-loop
+returns c =
+    let a = c .before .before .before .before .before .before .before .before .before .before .before .args in
+    let now = c .before .before .before .before .before .before .before .before .before .loop in
+    let m = c .before .before .before .before .advance in
+    survey-stopped (a .image .now) (a .u) (a .span .volume) (a .span .first) (a .span .count) (a .heeds) (now .done) (now .cylinder) (now .inv) (m .result) (m .ensures)
+    (c .before .answer .given .0 .0) cc
+
+enum-told : tie.Need-enum-told Inv-loop μ-loop
+enum-told c = search needs
+
+loop-less : tie.Need-loop-less Inv-loop μ-loop
+loop-less c =
+    let a = c .before .before .before .before .before .before .before .before .before .before .args in
+    let now = c .before .before .before .before .before .before .before .before .loop in
+    let m = c .before .before .before .advance in
+    omega (arith, survey-grows (a .image .now) (a .u) (a .span .volume) (a .span .first) (a .span .count) (a .heeds) (now .done) (now .cylinder) (now .inv) (m .result) (m .ensures) (cc))
+
+loop-again : tie.Need-loop-again Inv-loop μ-loop
+loop-again c =
+    let a = c .before .before .before .before .before .before .before .before .before .before .args in
+    let now = c .before .before .before .before .before .before .before .before .loop in
+    let m = c .before .before .before .advance in
+    survey-on (a .image .now) (a .u) (a .span .volume) (a .span .first) (a .span .count) (a .heeds) (now .done) (now .cylinder) (now .inv) (m .result) (m .ensures) cc
+
+returns-2 : tie.Need-returns-2 Inv-loop μ-loop
+returns-2 c =
+    let a = c .before .before .before .before .args in
+    let now = c .before .before .loop in
+    survey-ends (a .image .now) (a .u) (a .span .volume) (a .span .first) (a .span .count) (a .heeds) (now .done) (now .cylinder) (now .inv) (omega arith) (omega arith)
+
+pub survey-spec : {M : Type 1} → statement M
+survey-spec =
+    tie.close
+    (tie.spec
+    Inv-loop
+    μ-loop
+    loop-holds
+    cast-advance
+    add-advance
+    sub-advance
+    advance-requires
+    add-done
+    enum-known-answer
+    returns
+    enum-told
+    loop-less
+    loop-again
+    returns-2)

@@ -1,0 +1,76 @@
+-- The data of a block: which bytes its transfer moves (01, One run: 81, 82, A1, A2 and 8C).
+use Prim.Native.Nat.{ℕ, _+_, _*_, _/_, _%_}
+use mathlib.Core.Bool.{Bool, false, not, cond, _&&_}
+use mathlib.Core.List.{List}
+use Rattle.geometry.specs.declared.Geometry.{Geometry}
+use Rattle.geometry.specs.declared.VolumeNumber.{VolumeNumber}
+use Rattle.geometry.specs.Drive.{B, S}
+use Rattle.geometry.specs.Sectors.{firstByte}
+use Rattle.unit.specs.declared.Record.{Record}
+use Rattle.unit.specs.declared.Spot.{Spot}
+use Rattle.unit.specs.Landing.{spotOf}
+use Rattle.transfer.specs.Progress.{Progress, fateAt, progress}
+use Rattle.transfer.specs.Stores.{Store, copyOf, hostByte, imageByte, upTo}
+
+-- A transfer on a drive: which way it goes, whether it heeds the marks, how many sectors it is for, at which place its sector j
+-- stands, and where in host memory its byte k lies, both counted from 0.
+pub record Transfer : Type 0 where
+  pub geometry : Geometry
+  pub to-host : Bool
+  pub heeds : Bool
+  pub count : ℕ
+  pub place : ℕ → ℕ
+  pub host-byte : ℕ → ℕ
+
+-- The place of sector j from a number of a volume on: "Consecutive sectors go by sector, head, cylinder" (01, Geometry), which is
+-- the order of the numbers (the geometry's law numbers-consecutive).
+abbrev pub placeFrom : Record → VolumeNumber → ℕ → ℕ → ℕ
+placeFrom u v first j = spotOf u v (first + j) .place
+
+-- 81 and A1 "copy sectors to host memory"; 82 and A2 copy the other way. "At a non-zero mark they stop before that sector, or,
+-- with DE, move it and go on. 82 and A2 ignore marks."
+abbrev pub moving : Record → Bool → Bool → VolumeNumber → ℕ → ℕ → (ℕ → ℕ) → Transfer
+moving u to-host past-marks v first count host-byte =
+    record {
+      geometry = u .geometry;
+      to-host = to-host;
+      heeds = to-host && not past-marks;
+      count = count;
+      place = placeFrom u v first;
+      host-byte = host-byte;
+    }
+
+-- 8C "takes B bytes and writes them to every sector of the named track": its S sectors stand in a row from its first on (the
+-- geometry's law track-consecutive).
+abbrev pub formatting : Record → Spot → ℕ → Transfer
+formatting u spot at =
+    record {
+      geometry = u .geometry;
+      to-host = false;
+      heeds = false;
+      count = S (u .geometry);
+      place = λ j. spot .place + j;
+      host-byte = λ k. at + k % B (u .geometry);
+    }
+
+-- The index in the image of byte k: byte k mod B of sector k div B.
+abbrev pub diskByte : Geometry → (ℕ → ℕ) → ℕ → ℕ
+diskByte g place k = firstByte g (place (k / B g)) + k % B g
+
+-- A byte moved, one way or the other.
+abbrev pub move : Bool → ℕ → ℕ → Store
+move to-host disk host =
+    cond to-host
+    (record { to = hostByte host; value = copyOf (imageByte disk) })
+    (record { to = imageByte disk; value = copyOf (hostByte host) })
+
+-- How far the transfer comes on an image as it stood before, and the bytes that it moves there. A read stores nothing in the
+-- image, and what a write stores there changes neither its length nor a mark.
+abbrev pub progressOn : List ℕ → Transfer → Progress
+progressOn image t = progress (λ j. fateAt image (t .geometry) (t .heeds) (t .place j)) 0 (t .count)
+
+abbrev pub moveAt : Transfer → ℕ → Store
+moveAt t k = move (t .to-host) (diskByte (t .geometry) (t .place) k) (t .host-byte k)
+
+unfoldable pub dataOn : List ℕ → Transfer → List Store
+dataOn image t = upTo (progressOn image t .sectors * B (t .geometry)) (moveAt t)

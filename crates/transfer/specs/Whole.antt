@@ -1,0 +1,92 @@
+-- What a transfer comes to where the request fits, and that one which does not is left alone. A caller that has judged its request
+-- never meets the second; no caller is trusted to have.
+use Prim.Native.Nat.{ℕ, _+_, _*_, _≤_, _<_}
+use mathlib.Core.Bool.{Bool}
+use mathlib.Core.List.{List, []}
+use mathlib.Core.Logic.{ite, Dec·and}
+use mathlib.Core.Path.{_≡_}
+use native.Mathlib.Decide.{decLe, decLt, map-dec, ℕ-discrete}
+use lib.ListN.{getD, length}
+use Rattle.wire.proofs.Decided.{all?}
+use Rattle.answers.specs.declared.BlockAnswer.{BlockAnswer}
+use Rattle.answers.specs.declared.Refusal.{Refusal}
+use Rattle.geometry.specs.Drive.{B, S, driveSectors, volumeSectors}
+use Rattle.unit.specs.declared.Record.{Record}
+use Rattle.unit.specs.declared.Spot.{Spot}
+use Rattle.unit.specs.Landing.{spotOf}
+use Rattle.transfer.specs.declared.Moved.{Moved}
+use Rattle.transfer.specs.declared.Span.{Span}
+use Rattle.transfer.specs.Data.{Transfer, dataOn, formatting, moving, progressOn}
+use Rattle.transfer.specs.Pieces.{sum}
+use Rattle.transfer.specs.Progress.{lastTried}
+use Rattle.transfer.specs.Runs.{PiecesFit, pieceByte, spanBytes}
+use Rattle.transfer.specs.Stores.{Store}
+
+-- Some sectors, which their volume has, and pieces in host memory for all their bytes.
+pub record SectorsFit (u : Record) (s : Span) (lengths addresses : List ℕ) (long : ℕ) : Type 0 where
+  pub some : 0 < s .count
+  pub inside : s .first + s .count ≤ volumeSectors (u .geometry) (s .volume)
+  pub pieces : PiecesFit long (spanBytes u s) lengths addresses
+
+-- A track that the drive has, and the bytes of a sector in host memory.
+pub record TrackFits (u : Record) (spot : Spot) (at long : ℕ) : Type 0 where
+  pub some : 0 < S (u .geometry)
+  pub inside : spot .place + S (u .geometry) ≤ driveSectors (u .geometry)
+  pub memory : at + B (u .geometry) ≤ long
+
+-- Nothing moved, the heads where they were.
+abbrev pub idle : Record → Moved
+idle u = record { sectors = 0; answer = BlockAnswer.Failed Refusal.DataMisplaced; cylinder = u .cylinder }
+
+-- A transfer on an image that leaves the heads on a cylinder.
+abbrev pub movedOn : List ℕ → Transfer → ℕ → Moved
+movedOn image t cylinder =
+    record { sectors = progressOn image t .sectors; answer = progressOn image t .answer; cylinder = cylinder }
+
+-- The transfer of a span, to or from pieces, and what it comes to.
+abbrev pub spanTransfer : Record → Span → Bool → Bool → List ℕ → List ℕ → Transfer
+spanTransfer u s to-host past-marks lengths addresses =
+    moving u to-host past-marks (s .volume) (s .first) (s .count) (pieceByte lengths addresses)
+
+abbrev pub spanMoved : List ℕ → Record → Span → Transfer → Moved
+spanMoved image u s t =
+    movedOn image t (spotOf u (s .volume) (s .first + lastTried (progressOn image t .sectors) (s .count)) .cylinder)
+
+-- Each is decided.
+pub piecesFit? : (long bytes : ℕ) (lengths addresses : List ℕ) → Dec (PiecesFit long bytes lengths addresses)
+piecesFit? long bytes lengths addresses =
+    map-dec (λ d. record { pairs = d .0; inside = d .1 .0; enough = d .1 .1 }) (λ f. (f .pairs, (f .inside, f .enough)))
+    (Dec·and (ℕ-discrete (length addresses) (length lengths))
+    (Dec·and (all? _ (λ i. decLe (getD addresses i 0 + getD lengths i 0) long) (length lengths))
+    (decLe bytes (sum (λ i. getD lengths i 0) (length lengths)))))
+
+pub sectorsFit? : (u : Record) (s : Span) (lengths addresses : List ℕ) (long : ℕ) → Dec (SectorsFit u s lengths addresses long)
+sectorsFit? u s lengths addresses long =
+    map-dec (λ d. record { some = d .0; inside = d .1 .0; pieces = d .1 .1 }) (λ f. (f .some, (f .inside, f .pieces)))
+    (Dec·and (decLt 0 (s .count))
+    (Dec·and (decLe (s .first + s .count) (volumeSectors (u .geometry) (s .volume)))
+    (piecesFit? long (spanBytes u s) lengths addresses)))
+
+pub trackFits? : (u : Record) (spot : Spot) (at long : ℕ) → Dec (TrackFits u spot at long)
+trackFits? u spot at long =
+    map-dec (λ d. record { some = d .0; inside = d .1 .0; memory = d .1 .1 }) (λ f. (f .some, (f .inside, f .memory)))
+    (Dec·and (decLt 0 (S (u .geometry)))
+    (Dec·and (decLe (spot .place + S (u .geometry)) (driveSectors (u .geometry))) (decLe (at + B (u .geometry)) long)))
+
+-- The outcome of a call: what is returned, and the stores that were made.
+pub record Result : Type 0 where
+  pub moved : Moved
+  pub stores : List Store
+
+abbrev pub resultOf : Moved → List Store → Result
+resultOf moved stores = record { moved = moved; stores = stores }
+
+unfoldable pub sectorsResult : ℕ → List ℕ → Record → Span → Bool → Bool → List ℕ → List ℕ → Result
+sectorsResult long image u s to-host past-marks lengths addresses =
+    let t = spanTransfer u s to-host past-marks lengths addresses in
+    ite (sectorsFit? u s lengths addresses long) (resultOf (spanMoved image u s t) (dataOn image t)) (resultOf (idle u) [])
+
+unfoldable pub trackResult : ℕ → List ℕ → Record → Spot → ℕ → Result
+trackResult long image u spot at =
+    let t = formatting u spot at in
+    ite (trackFits? u spot at long) (resultOf (movedOn image t (spot .cylinder)) (dataOn image t)) (resultOf (idle u) [])

@@ -1,0 +1,169 @@
+// The bytes of a transfer: each run that is consecutive on both sides is one copy.
+use crate::Span;
+use crate::reach::run_at;
+use geometry::Sector;
+use unit::Record;
+ghost use mathlib.Core.Bool.{cond};
+ghost use mathlib.Core.Path.{_≡_};
+ghost use Prim.Native.Nat.{_+_, _*_, _^_, _≤_, _<_, min};
+ghost use lib.ListN.{length};
+ghost use Rattle.geometry.specs.Drive.{B};
+ghost use Rattle.transfer.specs.Runs.{Carried, Fits, Held, On, PiecesFit, Ready, Spans, advanced, behind, fillStore, lent, spanBytes, spanStores};
+ghost use Rattle.transfer.specs.Stores.{after, upTo};
+ghost use Rattle.wire.specs.Copy.{copied};
+
+// Where a transfer stands on the disk: the image's byte, how many bytes follow in a row, and the sectors done with them.
+pub(crate) struct Cursor {
+    pub at: u64,
+    pub left: u64,
+    pub next: u16,
+}
+
+// One run, one way or the other.
+fn copy_run(host: &mut [u8], h: usize, image: &mut [u8], d: usize, n: usize, to_host: bool)
+    requires { ⌜ (h + n ≤ length (now host)) × (d + n ≤ length (now image)) ⌝ }
+    ensures to { λ _. ⌜ now (host .exit) ≡ cond «to_host» (copied (now (image .entry)) d (now (host .entry)) h n) (now (host .entry)) ⌝ }
+    ensures from { λ _. ⌜ now (image .exit) ≡ cond «to_host» (now (image .entry)) (copied (now (host .entry)) h (now (image .entry)) d n) ⌝ }
+{
+    if to_host {
+        wire::copy(image, d, host, h, n);
+    } else {
+        wire::copy(host, h, image, d, n);
+    }
+}
+
+// The cursor of the run that follows, of the span's sectors.
+fn next_run(u: Record, span: Span, next: u16) -> Cursor
+    requires { ⌜ (next < span .count) × ((0 < B (u .geometry)) × Spans u span) ⌝ }
+    ensures { λ r. ⌜ Ready u span (next * B (u .geometry)) r ⌝ }
+{
+    let volume = span.volume;
+    let run = run_at(u, volume, span.first + (next as u64), span.count - next);
+    let Sector::At { first, mark: _ } = u.geometry().sector(run.place) else {
+        return Cursor {
+            at: 0,
+            left: 0,
+            next: 0,
+        };
+    };
+    Cursor {
+        at: first,
+        left: (run.sectors as u64) * (u.geometry().bytes_a_sector() as u64),
+        next: next + run.sectors,
+    }
+}
+
+// The cursor itself while it has bytes left, and then the next run's.
+fn ready(u: Record, span: Span, c: Cursor) -> Cursor
+    requires { ⌜ Spans u span × (On u span (behind u c) c × (behind u c < span .count * B (u .geometry))) ⌝ }
+    ensures { λ r. ⌜ Ready u span (behind u c) r ⌝ }
+{
+    if 0 < c.left {
+        return c;
+    }
+    next_run(u, span, c.next)
+}
+
+fn lesser(a: u64, b: u64) -> u64
+    ensures { λ r. ⌜ r ≡ min a b ⌝ }
+{
+    if a <= b { a } else { b }
+}
+
+impl Cursor {
+    // The cursor n bytes on.
+    fn on(self, n: u64) -> Cursor
+        requires { ⌜ (n ≤ self .left) × (self .at + n < 2 ^ 64) ⌝ }
+        ensures { λ r. ⌜ r ≡ advanced self n ⌝ }
+    {
+        Cursor {
+            at: self.at + n,
+            left: self.left - n,
+            next: self.next,
+        }
+    }
+}
+
+// The bytes of a piece, run after run.
+fn carry_piece(
+    host: &mut [u8],
+    image: &mut [u8],
+    u: Record,
+    span: Span,
+    to_host: bool,
+    from: Cursor,
+    at: usize,
+    n: usize,
+) -> Cursor
+    requires { ⌜ Fits u span from at n (now host) (now image) ⌝ }
+    ensures { λ r. ⌜ Carried u span «to_host» (behind u from) at n (lent (now (host .entry)) (now (image .entry))) (lent (now (host .exit)) (now (image .exit))) r ⌝ }
+{
+    let mut c = from;
+    let mut done = 0;
+    while done < n {
+        let r = ready(u, span, c);
+        let bytes = lesser(r.left, (n - done) as u64);
+        copy_run(
+            host,
+            at + done,
+            image,
+            r.at as usize,
+            bytes as usize,
+            to_host,
+        );
+        c = r.on(bytes);
+        done += bytes as usize;
+    }
+    c
+}
+
+// The bytes of a span's sectors.
+pub(crate) fn span_bytes(u: Record, span: Span) -> u64
+    ensures { λ r. ⌜ r ≡ spanBytes u span ⌝ }
+{
+    (span.count as u64) * (u.geometry().bytes_a_sector() as u64)
+}
+
+// All bytes of a span, piece after piece.
+pub(crate) fn carry(
+    host: &mut [u8],
+    image: &mut [u8],
+    u: Record,
+    span: Span,
+    to_host: bool,
+    lengths: &[u32],
+    addresses: &[u32],
+)
+    requires { ⌜ Spans u span × (Held u span (length (now image)) × PiecesFit (length (now host)) (spanBytes u span) (now lengths) (now addresses)) ⌝ }
+    ensures { λ _. ⌜ lent (now (host .exit)) (now (image .exit)) ≡ after (upTo (spanBytes u span) (spanStores u span «to_host» (now (lengths .entry)) (now (addresses .entry)))) (lent (now (host .entry)) (now (image .entry))) ⌝ }
+{
+    let all = span_bytes(u, span);
+    let mut c = Cursor {
+        at: 0,
+        left: 0,
+        next: 0,
+    };
+    let mut done = 0;
+    let mut i = 0;
+    while done < all {
+        let n = lesser(lengths[i] as u64, all - done);
+        let at = addresses[i] as usize;
+        c = carry_piece(host, image, u, span, to_host, c, at, n as usize);
+        done += n;
+        i += 1;
+    }
+}
+
+// The bytes of one sector, stored in n sectors that follow one another from an index of the image on.
+pub(crate) fn fill(host: &[u8], at: usize, image: &mut [u8], first: usize, bytes: usize, n: usize)
+    requires { ⌜ (at + bytes ≤ length (now host)) × (0 < n → first + n * bytes ≤ length (now image)) ⌝ }
+    ensures { λ _. ⌜ lent (now (host .entry)) (now (image .exit)) ≡ after (upTo (n * bytes) (fillStore first at bytes)) (lent (now (host .entry)) (now (image .entry))) ⌝ }
+{
+    let mut to = first;
+    let mut i = 0;
+    while i < n {
+        wire::copy(host, at, image, to, bytes);
+        to += bytes;
+        i += 1;
+    }
+}

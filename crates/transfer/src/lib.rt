@@ -1,0 +1,180 @@
+// Moves sectors between a unit's image and pieces of host memory: first how far a transfer comes, then its bytes, run by run.
+// It knows units and pieces, and no block, no list element and no layout: any product's request is carried out here.
+// It changes no mark and no byte after the marks, and nothing at all where a request does not fit.
+use answers::BlockAnswer;
+use answers::Refusal;
+use geometry::Sector;
+use geometry::VolumeNumber;
+use unit::Record;
+use unit::Spot;
+ghost use mathlib.Core.Bool.{_&&_, not};
+ghost use mathlib.Core.Path.{_≡_};
+ghost use Prim.Native.Nat.{_-_, _^_, _<_};
+ghost use lib.ListN.{length};
+ghost use Rattle.geometry.specs.Drive.{volumeSectors};
+ghost use Rattle.transfer.specs.Runs.{PiecesFit, lent};
+ghost use Rattle.transfer.specs.Stores.{after};
+ghost use Rattle.transfer.specs.Whole.{SectorsFit, TrackFits, idle, sectorsResult, trackResult};
+ghost use Rattle.wire.specs.Promise.{Says};
+
+mod carry;
+mod reach;
+
+use carry::carry;
+use carry::fill;
+use carry::span_bytes;
+use reach::reach;
+use reach::survey;
+
+// Consecutive sectors of a volume, from a number on.
+pub struct Span {
+    pub volume: VolumeNumber,
+    pub first: u64,
+    pub count: u16,
+}
+
+// What a transfer came to: the sectors moved, the answer, and the cylinder of the last sector tried.
+pub struct Moved {
+    pub sectors: u16,
+    pub answer: BlockAnswer,
+    pub cylinder: u16,
+}
+
+// Whether pieces lie in a host memory of so many bytes, and have so many bytes together. What is left to be had is counted
+// down, so that no sum can wrap.
+fn pieces_fit(lengths: &[u32], addresses: &[u32], long: u64, bytes: u64) -> bool
+    requires { ⌜ length (now addresses) ≡ length (now lengths) ⌝ }
+    ensures { λ r. ⌜ Says r (PiecesFit long bytes (now (lengths .entry)) (now (addresses .entry))) ⌝ }
+{
+    let mut left = bytes;
+    let mut i = 0;
+    while i < lengths.len() {
+        let n = lengths[i] as u64;
+        if long < (addresses[i] as u64) + n {
+            return false;
+        }
+        left = less(left, n);
+        i += 1;
+    }
+    left == 0
+}
+
+fn less(a: u64, b: u64) -> u64
+    ensures { λ r. ⌜ r ≡ a - b ⌝ }
+{
+    if a <= b { 0 } else { a - b }
+}
+
+fn sectors_fit(u: Record, span: Span, lengths: &[u32], addresses: &[u32], long: u64) -> bool
+    ensures says { λ r. ⌜ Says r (SectorsFit u span (now (lengths .entry)) (now (addresses .entry)) long) ⌝ }
+    ensures small { λ _. ⌜ volumeSectors (u .geometry) (span .volume) < 2 ^ 64 ⌝ }
+{
+    let volume = span.volume;
+    let sectors = u.geometry().volume_sectors(volume);
+    if span.count == 0 {
+        return false;
+    }
+    if sectors < (span.count as u64) {
+        return false;
+    }
+    if sectors - (span.count as u64) < span.first {
+        return false;
+    }
+    if addresses.len() != lengths.len() {
+        return false;
+    }
+    pieces_fit(lengths, addresses, long, span_bytes(u, span))
+}
+
+// A transfer that does not fit is left alone.
+fn idle(u: Record) -> Moved
+    ensures { λ r. ⌜ r ≡ idle u ⌝ }
+{
+    Moved {
+        sectors: 0,
+        answer: BlockAnswer::Failed(Refusal::DataMisplaced),
+        cylinder: u.cylinder(),
+    }
+}
+
+fn heeds(to_host: bool, past_marks: bool) -> bool
+    ensures { λ r. ⌜ r ≡ («to_host» && not «past_marks») ⌝ }
+{
+    if to_host { !past_marks } else { false }
+}
+
+// Moves the sectors of a span to pieces of host memory, or from them. To host memory it stops at a mark that is not 0, unless it
+// goes past the marks.
+pub fn move_sectors(
+    host: &mut [u8],
+    image: &mut [u8],
+    u: Record,
+    span: Span,
+    to_host: bool,
+    past_marks: bool,
+    lengths: &[u32],
+    addresses: &[u32],
+) -> Moved
+    ensures result { λ r. ⌜ r ≡ sectorsResult (length (now (host .entry))) (now (image .entry)) u span «to_host» «past_marks» (now (lengths .entry)) (now (addresses .entry)) .moved ⌝ }
+    ensures stores { λ _. ⌜ lent (now (host .exit)) (now (image .exit)) ≡ after (sectorsResult (length (now (host .entry))) (now (image .entry)) u span «to_host» «past_marks» (now (lengths .entry)) (now (addresses .entry)) .stores) (lent (now (host .entry)) (now (image .entry))) ⌝ }
+{
+    if !sectors_fit(u, span, lengths, addresses, host.len() as u64) {
+        return idle(u);
+    }
+    let moved = survey(image, u, span, heeds(to_host, past_marks));
+    let volume = span.volume;
+    let reached = Span {
+        volume,
+        first: span.first,
+        count: moved.sectors,
+    };
+    carry(host, image, u, reached, to_host, lengths, addresses);
+    moved
+}
+
+fn track_fits(u: Record, spot: Spot, at: u32, long: u64) -> bool
+    ensures { λ r. ⌜ Says r (TrackFits u spot at long) ⌝ }
+{
+    let g = u.geometry();
+    let sectors = g.sectors_a_track() as u64;
+    let all = g.drive_sectors();
+    if sectors == 0 {
+        return false;
+    }
+    if all < sectors {
+        return false;
+    }
+    if all - sectors < spot.place {
+        return false;
+    }
+    (at as u64) + (g.bytes_a_sector() as u64) <= long
+}
+
+// Writes the bytes of one sector, from an address of host memory on, to every sector of a track.
+pub fn format_track(host: &[u8], image: &mut [u8], u: Record, spot: Spot, at: u32) -> Moved
+    ensures result { λ r. ⌜ r ≡ trackResult (length (now (host .entry))) (now (image .entry)) u spot at .moved ⌝ }
+    ensures stores { λ _. ⌜ lent (now (host .entry)) (now (image .exit)) ≡ after (trackResult (length (now (host .entry))) (now (image .entry)) u spot at .stores) (lent (now (host .entry)) (now (image .entry))) ⌝ }
+{
+    if !track_fits(u, spot, at, host.len() as u64) {
+        return idle(u);
+    }
+    let g = u.geometry();
+    let Sector::At { first, mark: _ } = g.sector(spot.place) else {
+        return idle(u);
+    };
+    let reached = reach(image, g, false, spot.place, g.sectors_a_track());
+    fill(
+        host,
+        at as usize,
+        image,
+        first as usize,
+        g.bytes_a_sector() as usize,
+        reached.sectors as usize,
+    );
+    let answer = reached.answer;
+    Moved {
+        sectors: reached.sectors,
+        answer,
+        cylinder: spot.cylinder,
+    }
+}

@@ -1,0 +1,166 @@
+// How far a transfer comes: marks are scanned a run of sectors at a time, before a byte is moved.
+use crate::Moved;
+use crate::Span;
+use answers::BlockAnswer;
+use answers::Refusal;
+use geometry::Geometry;
+use geometry::Sector;
+use geometry::VolumeNumber;
+use unit::Landing;
+use unit::Record;
+ghost use mathlib.Core.Bool.{cond};
+ghost use mathlib.Core.Path.{_≡_};
+ghost use Prim.Native.Nat.{_+_, _-_, _≤_, _<_, min};
+ghost use lib.ListN.{length};
+ghost use Rattle.geometry.specs.Drive.{driveSectors, volumeSectors};
+ghost use Rattle.transfer.specs.Runs.{Advanced, Readable, RunAt, Spans, inARow, reached, surveyed};
+
+// A run of sectors that follow one another in the image, all on one cylinder.
+pub(crate) struct Run {
+    pub place: u64,
+    pub sectors: u16,
+    pub cylinder: u16,
+}
+
+// The run from a number on, of the sectors asked for at most.
+pub(crate) fn run_at(u: Record, v: VolumeNumber, number: u64, most: u16) -> Run
+    requires { ⌜ (number < volumeSectors (u .geometry) v) × (0 < most) ⌝ }
+    ensures { λ r. ⌜ RunAt u v number most r ⌝ }
+{
+    let Landing::At(spot) = u.land(v, number) else {
+        return Run {
+            place: 0,
+            sectors: 1,
+            cylinder: 0,
+        };
+    };
+    Run {
+        place: spot.place,
+        sectors: lesser(spot.rest, most),
+        cylinder: spot.cylinder,
+    }
+}
+
+fn lesser(a: u16, b: u16) -> u16
+    ensures { λ r. ⌜ r ≡ min a b ⌝ }
+{
+    if a <= b { a } else { b }
+}
+
+// How many of n marks there are from an index on.
+fn fitting(long: u64, mark: u64, n: u16) -> u16
+    ensures { λ r. ⌜ r ≡ min n (long - mark) ⌝ }
+{
+    if long <= mark {
+        return 0;
+    }
+    if (n as u64) <= long - mark {
+        return n;
+    }
+    (long - mark) as u16
+}
+
+// How many of n marks from an index on let a transfer pass, before the first that stops it.
+fn readable(image: &[u8], at: usize, n: usize, heeds: bool) -> usize
+    requires { ⌜ n ≤ length (now image) - at ⌝ }
+    ensures { λ r. ⌜ Readable heeds (now (image .entry)) at n r ⌝ }
+{
+    if !heeds {
+        return n;
+    }
+    let mut i = 0;
+    while i < n {
+        if image[at + i] != 0 {
+            return i;
+        }
+        i += 1;
+    }
+    n
+}
+
+// How far a run comes.
+pub(crate) struct Reached {
+    pub sectors: u16,
+    pub answer: BlockAnswer,
+}
+
+// A mark that the image has its sector in the image too, since all marks stand after all sectors.
+pub(crate) fn reach(image: &[u8], g: Geometry, heeds: bool, place: u64, n: u16) -> Reached
+    requires { ⌜ (0 < n) × (place + n ≤ driveSectors g) ⌝ }
+    ensures { λ r. ⌜ r ≡ reached (inARow (now (image .entry)) g heeds place n) ⌝ }
+{
+    let Sector::At { first: _, mark } = g.sector(place) else {
+        return Reached {
+            sectors: 0,
+            answer: BlockAnswer::Ended,
+        };
+    };
+    let fit = fitting(image.len() as u64, mark, n);
+    let sectors = readable(image, mark as usize, fit as usize, heeds) as u16;
+    if sectors < fit {
+        return Reached {
+            sectors,
+            answer: BlockAnswer::Failed(Refusal::Unreadable),
+        };
+    }
+    if fit < n {
+        return Reached {
+            sectors: fit,
+            answer: BlockAnswer::Failed(Refusal::PastTheImage),
+        };
+    }
+    Reached {
+        sectors: n,
+        answer: BlockAnswer::Ended,
+    }
+}
+
+// How far the run from a number on comes.
+fn advance(image: &[u8], u: Record, v: VolumeNumber, number: u64, most: u16, heeds: bool) -> Moved
+    requires { ⌜ (0 < most) × (number + most ≤ volumeSectors (u .geometry) v) ⌝ }
+    ensures { λ r. ⌜ Advanced (now (image .entry)) u v number most heeds r ⌝ }
+{
+    let run = run_at(u, v, number, most);
+    let reached = reach(image, u.geometry(), heeds, run.place, run.sectors);
+    let answer = reached.answer;
+    Moved {
+        sectors: reached.sectors,
+        answer,
+        cylinder: run.cylinder,
+    }
+}
+
+// How far a span comes, run after run until one is stopped.
+pub(crate) fn survey(image: &[u8], u: Record, span: Span, heeds: bool) -> Moved
+    requires { ⌜ (0 < span .count) × Spans u span ⌝ }
+    ensures { λ r. ⌜ r ≡ surveyed (now (image .entry)) u (span .volume) (span .first) (span .count) heeds ⌝ }
+{
+    let volume = span.volume;
+    let mut done: u16 = 0;
+    let mut cylinder: u16 = 0;
+    while done < span.count {
+        let m = advance(
+            image,
+            u,
+            volume,
+            span.first + (done as u64),
+            span.count - done,
+            heeds,
+        );
+        let answer = m.answer;
+        done += m.sectors;
+        cylinder = m.cylinder;
+        if let BlockAnswer::Failed(refusal) = answer {
+            return Moved {
+                sectors: done,
+                answer: BlockAnswer::Failed(refusal),
+                cylinder,
+            };
+        }
+    }
+    Moved {
+        sectors: done,
+        answer: BlockAnswer::Ended,
+        cylinder,
+    }
+}
