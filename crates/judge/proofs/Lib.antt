@@ -1,3 +1,4 @@
+pub mod LetThrough
 pub mod Exactly
 pub mod First
 pub mod Locality
