@@ -5,6 +5,7 @@ pub mod Filling
 pub mod Joined
 pub mod Progress
 pub mod Rows
+pub mod Stays
 pub mod Stores
 pub mod Survey
 pub mod Tracks
