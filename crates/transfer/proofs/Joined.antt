@@ -45,3 +45,23 @@ module _ (bytes : ℕ → ℕ) where
         let there : sum bytes i + j - from 0 i ≡ j = omega arith in
         rw (zero-add, there) at
         (joined-from i n 0 (sum bytes i + j) i<n (omega arith) (rw zero-add (omega arith)))
+
+-- Pieces that agree in bytes and addresses.
+pub joined-same :
+    (f g a b : ℕ → ℕ) (n i k : ℕ) → ((t : ℕ) → t < n → (f (i + t) ≡ g (i + t)) × (a (i + t) ≡ b (i + t))) →
+    joined f a n i k ≡ joined g b n i k
+unfolding joined
+joined-same f g a b zero i k same = refl
+joined-same f g a b (suc n) i k same =
+    let here : (f i ≡ g i) × (a i ≡ b i) = rw add-zero at (same 0 (omega arith)) in
+    rw (here .0, here .1, joined-same f g a b n (suc i) (k - g i) (λ t h. rw (suc-add i t, ← add-suc i t) (same (suc t) (omega arith))))
+
+-- One piece.
+pub joined-one : (f a : ℕ → ℕ) (k : ℕ) → k < f 0 → joined f a 1 0 k ≡ a 0 + k
+unfolding joined
+joined-one f a k inside = if-pos (decLt k (f 0)) inside _ _
+
+pub sum-same : (f g : ℕ → ℕ) (n : ℕ) → ((t : ℕ) → t < n → f t ≡ g t) → sum f n ≡ sum g n
+unfolding sum
+sum-same f g zero same = refl
+sum-same f g (suc n) same = rw (sum-same f g n (λ t h. same t (omega arith)), same n (omega arith))

@@ -1,8 +1,11 @@
 pub mod AllPieces
 pub mod Carrying
 pub mod Cursors
+pub mod Earlier
 pub mod Filling
 pub mod Joined
+pub mod Marks
+pub mod Outcomes
 pub mod Progress
 pub mod Rows
 pub mod Stays

@@ -1,0 +1,161 @@
+-- A transfer's sectors stand on the drive, before the marks: it changes no mark and no byte after the marks.
+-- How many sectors come is read off its answer, and the image's end stops none where all of them lie in the image.
+use Prim.Native.Nat.{ℕ, zero, suc, _+_, _*_, _/_, _≤_, _<_}
+use mathlib.Core.Bool.{Bool, true, false, cond}
+use mathlib.Core.List.{List}
+use mathlib.Core.Logic.{if-pos}
+use mathlib.Core.Path.{_≡_, refl, sym, _∙_}
+use native.Mathlib.Nat.{div-lt-iff-lt-mul, mod-lt, zero-add}
+use native.Mathlib.Omega.{arith}
+use lib.Dec.{eqb}
+use lib.ListN.{getD, length}
+use Rattle.answers.specs.declared.BlockAnswer.{BlockAnswer}
+use Rattle.answers.specs.declared.Refusal.{Refusal}
+use Rattle.geometry.specs.declared.Geometry.{Geometry}
+use Rattle.geometry.specs.declared.VolumeNumber.{VolumeNumber}
+use Rattle.geometry.specs.Drive.{B, S, driveSectors, marksAt, need, volumeSectors}
+use Rattle.geometry.specs.Sectors.{markByte}
+use Rattle.geometry.proofs.Laws.{bytes-inside, sector-in-image}
+use Rattle.unit.specs.declared.Record.{Record}
+use Rattle.unit.specs.declared.Spot.{Spot}
+use Rattle.unit.proofs.Laws.{spot-inside}
+use Rattle.transfer.specs.Data.{Transfer, dataOn, diskByte, formatting, move, moveAt, moving, progressOn}
+use Rattle.transfer.specs.Progress.{Fate, InImage, fateAt, inImage?, moves, onward, progress, stops}
+use Rattle.transfer.specs.Stores.{Buffers, Stored, after, held, imageByte}
+use Rattle.transfer.proofs.Progress.{Counts, progress-counts, progress-most}
+use Rattle.transfer.proofs.Stays.{stored-of-upTo, unstored-stays}
+use Rattle.transfer.proofs.Wholes.{some-bytes}
+
+-- Every sector of a transfer stands on its drive.
+abbrev pub StandsOnDrive : Transfer → Type 0
+StandsOnDrive t = (j : ℕ) → j < t .count → t .place j < driveSectors (t .geometry)
+
+-- Sectors of a volume do, and so do those of a track that the drive has.
+pub moving-on-drive :
+    (u : Record) (to-host past-marks : Bool) (v : VolumeNumber) (first count : ℕ) (host-byte : ℕ → ℕ) →
+    first + count ≤ volumeSectors (u .geometry) v → StandsOnDrive (moving u to-host past-marks v first count host-byte)
+moving-on-drive u to-host past-marks v first count host-byte inside j j< =
+    omega (arith, spot-inside u v (first + j) (omega arith))
+
+pub formatting-on-drive :
+    (u : Record) (spot : Spot) (at : ℕ) →
+    spot .place + S (u .geometry) ≤ driveSectors (u .geometry) → StandsOnDrive (formatting u spot at)
+formatting-on-drive u spot at inside j j< = omega arith
+
+-- ---- no mark
+
+-- A byte moved to the image goes to its index on the disk side.
+target-on-disk : (to-host : Bool) (d h x : ℕ) → move to-host d h .to ≡ imageByte x → d ≡ x
+target-on-disk true d h x same = let z : _≡_ {A = ℕ} 0 1 = cc in absurd (omega arith)
+target-on-disk false d h x same = cc
+
+module _ (image : List ℕ) (t : Transfer) where
+  abbrev come : ℕ
+  come = progressOn image t .sectors
+
+  most : come ≤ t .count
+  most = rw zero-add at (progress-most (λ j. fateAt image (t .geometry) (t .heeds) (t .place j)) 0 (t .count))
+
+  byte-before-marks :
+      StandsOnDrive t → (k : ℕ) → k < come * B (t .geometry) → diskByte (t .geometry) (t .place) k < marksAt (t .geometry)
+  byte-before-marks on k less =
+      let some = some-bytes come (B (t .geometry)) k less in
+      let sector = div-lt-iff-lt-mul some .1 less in
+      omega (
+        arith,
+        bytes-inside (t .geometry) (t .place (k / B (t .geometry))) (on (k / B (t .geometry)) (omega (arith, most))),
+        mod-lt k some,
+      )
+
+  -- No store of a transfer on its drive has a mark, or a byte after the marks, as its target.
+  pub no-mark-stored : StandsOnDrive t → (x : ℕ) → marksAt (t .geometry) ≤ x → Stored (dataOn image t) (imageByte x) → ⊥
+  unfolding dataOn
+  no-mark-stored on x from there =
+      let k = stored-of-upTo (come * B (t .geometry)) (moveAt t) (imageByte x) there in
+      omega (
+        arith,
+        byte-before-marks on (k .0) (k .1 .0),
+        target-on-disk (t .to-host) (diskByte (t .geometry) (t .place) (k .0)) (t .host-byte (k .0)) x (k .1 .1),
+      )
+
+-- So each of them is as it was.
+pub marks-stay :
+    (m : Buffers) (t : Transfer) → StandsOnDrive t → (x : ℕ) → marksAt (t .geometry) ≤ x →
+    held (after (dataOn (m .image) t) m) (imageByte x) ≡ held m (imageByte x)
+marks-stay m t on x from = unstored-stays (dataOn (m .image) t) m (imageByte x) (no-mark-stored (m .image) t on x from)
+
+-- That is so for sectors of a volume, and for a track that the drive has.
+pub moving-keeps-marks :
+    (m : Buffers) (u : Record) (to-host past-marks : Bool) (v : VolumeNumber) (first count : ℕ) (host-byte : ℕ → ℕ) →
+    first + count ≤ volumeSectors (u .geometry) v → (x : ℕ) → marksAt (u .geometry) ≤ x →
+    held (after (dataOn (m .image) (moving u to-host past-marks v first count host-byte)) m) (imageByte x) ≡ held m (imageByte x)
+moving-keeps-marks m u to-host past-marks v first count host-byte inside =
+    marks-stay m (moving u to-host past-marks v first count host-byte)
+    (moving-on-drive u to-host past-marks v first count host-byte inside)
+
+pub formatting-keeps-marks :
+    (m : Buffers) (u : Record) (spot : Spot) (at : ℕ) →
+    spot .place + S (u .geometry) ≤ driveSectors (u .geometry) → (x : ℕ) → marksAt (u .geometry) ≤ x →
+    held (after (dataOn (m .image) (formatting u spot at)) m) (imageByte x) ≡ held m (imageByte x)
+formatting-keeps-marks m u spot at inside = marks-stay m (formatting u spot at) (formatting-on-drive u spot at inside)
+
+-- ---- how far it comes
+
+-- What stopped a transfer is the fate of one of its sectors.
+stopped-by :
+    (fate : ℕ → Fate) (j n : ℕ) (r : Refusal) →
+    progress fate j n .answer ≡ BlockAnswer.Failed r → (i : ℕ) × ((i < j + n) × (fate i ≡ stops r))
+unfolding progress
+stopped-by fate j zero r is = let z : _≡_ {A = ℕ} 0 1 = cc in absurd (omega arith)
+stopped-by fate j (suc n) r is = by-fate (fate j) refl is (stopped-by fate (suc j) n r)
+  where
+    by-fate :
+        (f : Fate) → fate j ≡ f → onward f j (progress fate (suc j) n) .answer ≡ BlockAnswer.Failed r →
+        (progress fate (suc j) n .answer ≡ BlockAnswer.Failed r → (i : ℕ) × ((i < suc j + n) × (fate i ≡ stops r))) →
+        (i : ℕ) × ((i < j + suc n) × (fate i ≡ stops r))
+    by-fate moves here is rest = let k = rest is in (k .0, (omega (arith, k .1 .0), k .1 .1))
+    by-fate (stops x) here is rest = (j, (omega arith, cc))
+
+-- The image's end stops no sector that lies in the image.
+not-past :
+    (image : List ℕ) (g : Geometry) (heeds : Bool) (place : ℕ) →
+    InImage g (length image) place → fateAt image g heeds place ≡ stops Refusal.PastTheImage → ⊥
+unfolding fateAt
+not-past image g heeds place inside is =
+    by-value heeds (eqb (getD image (markByte g place) 0) 0)
+    (sym (if-pos (inImage? g (length image) place) inside _ _) ∙ is)
+  where
+    by-value :
+        (b good : Bool) → cond b (cond good moves (stops Refusal.Unreadable)) moves ≡ stops Refusal.PastTheImage → ⊥
+    by-value true true same = let z : _≡_ {A = ℕ} 0 1 = cc in omega arith
+    by-value true false same = let z : _≡_ {A = ℕ} 0 1 = cc in omega arith
+    by-value false good same = let z : _≡_ {A = ℕ} 0 1 = cc in omega arith
+
+module _ (image : List ℕ) (t : Transfer) where
+  counts : Counts (progressOn image t .answer) (progressOn image t .sectors) (t .count)
+  counts = rw zero-add at (progress-counts (λ j. fateAt image (t .geometry) (t .heeds) (t .place j)) 0 (t .count) .1)
+
+  -- A transfer that is stopped has moved fewer sectors than were asked for, and one that ended has moved them all.
+  pub stopped-short : (r : Refusal) → progressOn image t .answer ≡ BlockAnswer.Failed r → progressOn image t .sectors < t .count
+  stopped-short r is = rw is at counts
+
+  pub ended-whole : progressOn image t .answer ≡ BlockAnswer.Ended → progressOn image t .sectors ≡ t .count
+  ended-whole is = rw is at counts
+
+  -- Where every sector asked for lies in the image, the image's end does not stop the transfer: 21 is not its answer.
+  pub never-past-the-image :
+      ((j : ℕ) → j < t .count → InImage (t .geometry) (length image) (t .place j)) →
+      progressOn image t .answer ≡ BlockAnswer.Failed Refusal.PastTheImage → ⊥
+  never-past-the-image inside is =
+      let i = stopped-by (λ j. fateAt image (t .geometry) (t .heeds) (t .place j)) 0 (t .count) Refusal.PastTheImage is in
+      not-past image (t .geometry) (t .heeds) (t .place (i .0)) (inside (i .0) (rw zero-add at (i .1 .0))) (i .1 .1)
+
+  -- So it is for a transfer on its drive where the image has all the bytes that the geometry needs, which is check 17.
+  pub never-past-a-long-image :
+      StandsOnDrive t → need (t .geometry) ≤ length image →
+      progressOn image t .answer ≡ BlockAnswer.Failed Refusal.PastTheImage → ⊥
+  never-past-a-long-image on long =
+      never-past-the-image
+      (λ j j<.
+      let here = sector-in-image (t .geometry) (length image) (t .place j) long (on j j<) in
+      record { bytes = here .0; mark = here .1 })
