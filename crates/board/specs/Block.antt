@@ -7,9 +7,12 @@ use lib.ListN.{length}
 use Rattle.answers.specs.declared.BlockAnswer.{BlockAnswer}
 use Rattle.answers.specs.declared.Refusal.{Refusal}
 use Rattle.answers.specs.Numbers.{statusOf}
+use Rattle.geometry.specs.declared.Geometry.{Geometry}
+use Rattle.request.specs.declared.UnitNumber.{UnitNumber}
 use Rattle.request.specs.declared.Buffer.{Buffer}
 use Rattle.request.specs.declared.Buffer.the-variants.{Piece, List as Elements}
 use Rattle.unit.specs.declared.Record.{Record}
+use Rattle.unit.specs.declared.Spot.{Spot}
 use Rattle.unit.specs.Landing.{spotOf}
 use Rattle.unit.specs.Standing.{recordOf}
 use Rattle.transfer.specs.Data.{Transfer, dataOn, formatting, moving, progressOn}
@@ -43,9 +46,8 @@ abbrev pub dataByte : List ℕ → Buffer → ℕ → ℕ
 dataByte host (Piece at) k = at + k
 dataByte host (Elements at n) k = joined (λ i. elementOf host at i .bytes) (λ i. elementOf host at i .address) n 0 k
 
-abbrev pub transferOf : List ℕ → Record → Job → Transfer
-transferOf host u j =
-    moving u (j .«to_host») (j .«past_marks») (j .volume) (j .first) (j .count) (dataByte host (j .buffer))
+abbrev pub transferOf : Record → Job → (ℕ → ℕ) → Transfer
+transferOf u j data-byte = moving u (j .«to_host») (j .«past_marks») (j .volume) (j .first) (j .count) data-byte
 
 -- A block at an address, run after i others.
 module _ (b : Block) (at i : ℕ) where
@@ -61,11 +63,15 @@ module _ (b : Block) (at i : ℕ) where
       record { stores = finish (BlockAnswer.Failed r) (pos 0); unit = u; answer = BlockAnswer.Failed r; sectors = 0 }
 
   -- "If accepted, .. status 81 and error 00 are stored in the block; then the transfer happens; then the final status and error":
-  -- what comes between, the answer, the travel, the unit's record afterwards and the sectors moved.
+  -- the stores with what comes between, and with them the unit's record afterwards, the answer and the sectors moved.
+  abbrev pub staged : List Store → BlockAnswer → ℤ → List Store
+  staged between answer travel =
+      bytesFrom hostByte (at + 2) (0x81 ∷ 0x00 ∷ []) ++ between ++ finish answer travel
+
   abbrev pub accepted : List Store → BlockAnswer → ℤ → Record → ℕ → Effect
   accepted between answer travel u sectors =
       record {
-        stores = bytesFrom hostByte (at + 2) (0x81 ∷ 0x00 ∷ []) ++ between ++ finish answer travel;
+        stores = staged between answer travel;
         unit = u;
         answer = answer;
         sectors = sectors;
@@ -76,46 +82,57 @@ module _ (b : Block) (at i : ℕ) where
   headed between answer u cylinder sectors =
       accepted between answer (travelTo (u .cylinder) cylinder) (recordOf (u .initialized) (u .geometry) cylinder) sectors
 
-  -- A block that makes a transfer.
+  -- 86 "writes words 2 to 7 with this board's own identity"; travel is "zero for 86, 87".
+  abbrev pub reported : Record → Effect
+  reported u = accepted (bytesFrom hostByte (at + 4) identityBytes) BlockAnswer.Ended (pos 0) u 0
+
+  -- "87 replaces the unit record; the heads are at cylinder 0."
+  abbrev pub initialized : Geometry → Effect
+  initialized g = accepted [] BlockAnswer.Ended (pos 0) (recordOf true g 0) 0
+
+  -- A block that makes a transfer on an image.
   abbrev pub transferred : List ℕ → Record → Transfer → ℕ → Effect
   transferred image u t cylinder =
       headed (dataOn image t) (progressOn image t .answer) u cylinder (progressOn image t .sectors)
 
+  -- 8C: "The heads end on the named cylinder."
+  abbrev pub formatted : List ℕ → Record → Spot → ℕ → Effect
+  formatted image u spot buffer = transferred image u (formatting u spot buffer) (spot .cylinder)
+
+  -- "After 81, 82, A1 or A2 the heads stand on the cylinder of the last sector tried", with byte k of the data in host memory.
+  abbrev pub moved : List ℕ → Record → Job → (ℕ → ℕ) → Effect
+  moved image u j data-byte =
+      let t = transferOf u j data-byte in
+      let last = lastTried (progressOn image t .sectors) (j .count) in
+      transferred image u t (spotOf u (j .volume) (j .first + last) .cylinder)
+
   abbrev pub effectOf : List ℕ → Drive → Plan → Effect
-  -- 86 "writes words 2 to 7 with this board's own identity"; travel is "zero for 86, 87".
-  effectOf host d Report = accepted (bytesFrom hostByte (at + 4) identityBytes) BlockAnswer.Ended (pos 0) (d .unit) 0
-  -- "87 replaces the unit record; the heads are at cylinder 0."
-  effectOf host d (Initialize g) = accepted [] BlockAnswer.Ended (pos 0) (recordOf true g 0) 0
+  effectOf host d Report = reported (d .unit)
+  effectOf host d (Initialize g) = initialized g
   -- "89 goes to cylinder 0. 8A goes to the address given."
   effectOf host d (Heads c) = headed [] BlockAnswer.Ended (d .unit) c 0
-  -- 8C: "The heads end on the named cylinder."
-  effectOf host d (Format spot buffer) =
-      transferred (d .image) (d .unit) (formatting (d .unit) spot buffer) (spot .cylinder)
-  -- "After 81, 82, A1 or A2 the heads stand on the cylinder of the last sector tried"
-  effectOf host d (Move j) =
-      let t = transferOf host (d .unit) j in
-      let last = lastTried (progressOn (d .image) t .sectors) (j .count) in
-      transferred (d .image) (d .unit) t (spotOf (d .unit) (j .volume) (j .first + last) .cylinder)
+  effectOf host d (Format spot buffer) = formatted (d .image) (d .unit) spot buffer
+  effectOf host d (Move j) = moved (d .image) (d .unit) j (dataByte host (j .buffer))
 
   abbrev pub judged : List ℕ → Drive → Verdict → Effect
   judged host d (Refused r) = refused (d .unit) r
   judged host d (Do plan) = effectOf host d plan
 
--- The verdict on the block at an address: "The 28 bytes are copied out, then judged."
-abbrev pub verdictAt : World → ℕ → Verdict
-verdictAt w at =
-    let b = blockAt (w .host) at in
-    let d = driveOf w (unitOf b) in
-    verdict (record { task = taskOf (w .host) b; unit = d .unit; image = length (d .image); host = w .host })
+-- What the block at an address does on a unit's drive, run after i others: "The 28 bytes are copied out, then judged."
+unfoldable pub effectOn : List ℕ → Drive → ℕ → ℕ → Effect
+effectOn host d at i =
+    let b = blockAt host at in
+    judged b at i host d
+    (verdict (record { task = taskOf host b; unit = d .unit; image = length (d .image); host = host }))
+
+-- The unit that the block at an address names, and what the block does to the world: it works on that unit's drive.
+abbrev pub unitAt : World → ℕ → UnitNumber
+unitAt w at = unitOf (blockAt (w .host) at)
 
 unfoldable pub effectAt : ℕ → ℕ → World → Effect
-effectAt at i w =
-    let b = blockAt (w .host) at in
-    judged b at i (w .host) (driveOf w (unitOf b)) (verdictAt w at)
+effectAt at i w = effectOn (w .host) (driveOf w (unitAt w at)) at i
 
--- The world after the block at an address, run after i others.
 unfoldable pub worldAfter : ℕ → ℕ → World → World
 worldAfter at i w =
-    let n = unitOf (blockAt (w .host) at) in
     let e = effectAt at i w in
-    changed w n (after (e .stores) (buffersOf w n)) (e .unit)
+    changed w (unitAt w at) (after (e .stores) (buffersOf w (unitAt w at))) (e .unit)

@@ -20,13 +20,13 @@ pub record Tally : Type 0 where
 
 -- How a chain ends: its answer, "with answer 4 the failed block's answer number, 10 and up (otherwise 0)", the counts, and the
 -- world it leaves.
-pub record Outcome : Type 0 where
+pub record Ending : Type 0 where
   pub answer : RunAnswer
   pub failed : ℕ
   pub tally : Tally
   pub world : World
 
-abbrev pub ends : RunAnswer → ℕ → Tally → World → Outcome
+abbrev pub ends : RunAnswer → ℕ → Tally → World → Ending
 ends answer failed t w = record { answer = answer; failed = failed; tally = t; world = w }
 
 -- "a block fetched is a block run, refused or not"; "Sectors moved is the sum over the blocks of sectors copied"
@@ -35,13 +35,13 @@ counted t sectors = record { blocks = t .blocks + 1; sectors = t .sectors + sect
 
 -- What follows a block that ended so, where `next` is what fetching the next one comes to: "running it with LK set and status 80
 -- leads to fetching the next"; "A failed block's link isn't followed".
-abbrev pub follows : BlockAnswer → Bool → Tally → World → Outcome → Outcome
+abbrev pub follows : BlockAnswer → Bool → Tally → World → Ending → Ending
 follows (Failed r) link t w next = ends RunAnswer.BlockFailed (refusalNumber r) t w
 follows Ended false t w next = ends RunAnswer.Done 0 t w
 follows Ended true t w next = next
 
 -- The block at an address, as it stands now: its options and its link are those of the copy.
-abbrev pub executed : (Tally → ℕ → World → Outcome) → Tally → ℕ → World → Outcome
+abbrev pub executed : (Tally → ℕ → World → Ending) → Tally → ℕ → World → Ending
 executed fetch t at w =
     let b = blockAt (w .host) at in
     let e = effectAt at (t .blocks) w in
@@ -50,7 +50,7 @@ executed fetch t at w =
     follows (e .answer) (b .options .link) t′ w′ (fetch t′ (b .link) w′)
 
 -- "Each fetch spends one of the allowance": with none left the answer is 6, and 6 comes before 5.
-unfoldable pub fetched : ℕ → Tally → ℕ → World → Outcome
+unfoldable pub fetched : ℕ → Tally → ℕ → World → Ending
 fetched zero t at w = ends RunAnswer.AllowanceSpent 0 t w
 fetched (suc left) t at w =
     ite (inMemory? (w .host) at 28) (executed (fetched left) t at w) (ends RunAnswer.LinkBad 0 t w)
@@ -59,7 +59,7 @@ abbrev pub nothing : Tally
 nothing = record { blocks = 0; sectors = 0 }
 
 -- "Checks 1, 2, 3 in that order", and then the chain from the first block on.
-unfoldable pub ran : ℕ → ℕ → World → Outcome
+unfoldable pub ran : ℕ → ℕ → World → Ending
 ran first allowance w =
     ite (decLt (length (w .events)) 512) (ends RunAnswer.EventsShort 0 nothing w)
     (ite (Dec·not (Dec·and (decLe 1 allowance) (decLe allowance 64))) (ends RunAnswer.AllowanceBad 0 nothing w)

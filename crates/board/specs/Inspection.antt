@@ -11,18 +11,18 @@ use Rattle.request.specs.declared.UnitNumber.the-variants.{Zero, One}
 use Rattle.unit.specs.declared.Record.{Record}
 use Rattle.unit.specs.Standing.{CountsAsInitialized}
 use Rattle.unit.proofs.Decided.{counts?}
-use Rattle.board.specs.declared.Part.{Part}
+use Rattle.board.specs.declared.inspection.Part.{Part}
 
 -- "not initialized, place too large or image too short as in 17": none of it, of a unit's record, an image of so many bytes and
 -- a place.
 pub record Inspectable (u : Record) (long place : ℕ) : Type 0 where
   pub initialized : CountsAsInitialized u
-  pub place : place < driveSectors (u .geometry)
+  pub inside : place < driveSectors (u .geometry)
   pub image : need (u .geometry) ≤ long
 
 pub inspectable? : (u : Record) (long place : ℕ) → Dec (Inspectable u long place)
 inspectable? u long place =
-    map-dec (λ d. record { initialized = d .0; place = d .1 .0; image = d .1 .1 }) (λ i. (i .initialized, (i .place, i .image)))
+    map-dec (λ d. record { initialized = d .0; inside = d .1 .0; image = d .1 .1 }) (λ i. (i .initialized, (i .inside, i .image)))
     (Dec·and (counts? u) (Dec·and (decLt place (driveSectors (u .geometry))) (decLe (need (u .geometry)) long)))
 
 -- "a part of length 0 at the start of unit 0's image"

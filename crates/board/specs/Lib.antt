@@ -2,4 +2,5 @@ pub mod Block
 pub mod Chain
 pub mod Events
 pub mod Inspection
+pub mod Steps
 pub mod World

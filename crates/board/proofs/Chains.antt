@@ -1,0 +1,121 @@
+-- A block of a chain works on the drive of the unit that it names, and leaves the other as it was.
+-- Which drive that is, the block's unit bit says.
+use Prim.Native.Nat.{ℕ, suc, _+_, _-_, _*_, _≤_, _<_}
+use mathlib.Core.Bool.{true, false}
+use mathlib.Core.List.{List}
+use mathlib.Core.Logic.{if-neg, if-pos}
+use mathlib.Core.Path.{_≡_, refl, sym, ap, _∙_}
+use native.Mathlib.Omega.{arith}
+use lib.ListN.{length}
+use Rattle.answers.specs.declared.BlockAnswer.{BlockAnswer}
+use Rattle.answers.specs.declared.Refusal.{Refusal}
+use Rattle.answers.specs.declared.RunAnswer.{RunAnswer}
+use Rattle.answers.specs.Numbers.{refusalNumber}
+use Rattle.wire.specs.Memory.{InMemory, inMemory?}
+use Rattle.iopb.specs.declared.Block.{Block}
+use Rattle.iopb.specs.Layout.{blockAt}
+use Rattle.request.specs.declared.UnitNumber.{UnitNumber}
+use Rattle.transfer.specs.Stores.{Buffers, after}
+use Rattle.unit.specs.declared.Record.{Record}
+use Rattle.board.specs.declared.Units.{Units}
+use Rattle.board.specs.declared.block.Done.{Done}
+use Rattle.board.specs.declared.chain.Count.{Count}
+use Rattle.board.specs.declared.chain.Outcome.{Outcome}
+use Rattle.board.specs.declared.chain.Stepped.{Stepped}
+use Rattle.board.specs.Block.{Effect, effectAt, effectOn, unitAt, worldAfter}
+use Rattle.board.specs.Chain.{Ending, Tally, ends, executed, fetched}
+use Rattle.board.specs.Steps.{CameTo, Did, Spare, SteppedTo, countedOf, endedOf, tallyOf}
+use Rattle.board.specs.World.{World, buffersOf, changed, driveOf, worldOf}
+
+-- What a chain goes by, of a block that came to d.
+abbrev pub steppedOf : Block → Done → Units → Stepped
+steppedOf b d units =
+    record { units = units; answer = d .answer; sectors = d .sectors; linked = b .options .link; link = b .link }
+
+module _ (w : World) (at i : ℕ) (n : UnitNumber) (named : unitAt w at ≡ n) where
+  effect-named : effectAt at i w ≡ effectOn (w .host) (driveOf w n) at i
+  unfolding effectAt
+  effect-named = ap (λ (x : UnitNumber). effectOn (w .host) (driveOf w x) at i) named
+
+  pub step-made :
+      (m : Buffers) (d : Done) (units : Units) →
+      Did (effectOn (w .host) (driveOf w n) at i) (buffersOf w n) m d →
+      SteppedTo w at i (changed w n m (d .unit)) (steppedOf (blockAt (w .host) at) d units)
+  unfolding worldAfter
+  step-made m d units did =
+      rw (did .result, did .stored)
+      (record {
+        world = rw (effect-named, named);
+        answer = rw effect-named;
+        sectors = rw effect-named;
+        linked = refl;
+        link = refl;
+      })
+
+-- ---- what follows a block
+
+module _ (fetch : Tally → ℕ → World → Ending) (count : Count) (at : ℕ) (w w′ : World) (s : Stepped) (stepped : SteppedTo w at (count .blocks) w′ s) where
+  abbrev more : Tally
+  more = tallyOf (countedOf count (s .sectors))
+
+  pub executed-failed :
+      (r : Refusal) → s .answer ≡ BlockAnswer.Failed r →
+      executed fetch (tallyOf count) at w ≡ ends RunAnswer.BlockFailed (refusalNumber r) more w′
+  executed-failed r is = rw (stepped .world, stepped .sectors, sym (stepped .answer) ∙ is)
+
+  pub executed-done :
+      s .answer ≡ BlockAnswer.Ended → s .linked ≡ false → executed fetch (tallyOf count) at w ≡ ends RunAnswer.Done 0 more w′
+  executed-done is unlinked = rw (stepped .world, stepped .sectors, sym (stepped .answer) ∙ is, sym (stepped .linked) ∙ unlinked)
+
+  pub executed-on :
+      s .answer ≡ BlockAnswer.Ended → s .linked ≡ true → executed fetch (tallyOf count) at w ≡ fetch more (s .link) w′
+  executed-on is linked =
+      rw (stepped .world, stepped .sectors, stepped .link, sym (stepped .answer) ∙ is, sym (stepped .linked) ∙ linked)
+
+-- ---- fetching
+
+pub fetched-spent : (left : ℕ) (t : Tally) (at : ℕ) (w : World) → left ≡ 0 → fetched left t at w ≡ ends RunAnswer.AllowanceSpent 0 t w
+unfolding fetched
+fetched-spent left t at w none = rw none
+
+module _ (left : ℕ) (t : Tally) (at : ℕ) (w : World) (some : 0 < left) where
+  one-spent : left ≡ suc (left - 1)
+  one-spent = omega arith
+
+  pub fetched-bad : (InMemory (w .host) at 28 → ⊥) → fetched left t at w ≡ ends RunAnswer.LinkBad 0 t w
+  unfolding fetched
+  fetched-bad bad =
+      ap (λ (n : ℕ). fetched n t at w) one-spent ∙ if-neg (inMemory? (w .host) at 28) bad _ _
+
+  pub fetched-on : InMemory (w .host) at 28 → fetched left t at w ≡ executed (fetched (left - 1)) t at w
+  unfolding fetched
+  fetched-on good =
+      ap (λ (n : ℕ). fetched n t at w) one-spent ∙ if-pos (inMemory? (w .host) at 28) good _ _
+
+-- ---- an end
+
+pub came-to :
+    (answer : RunAnswer) (failed : ℕ) (count : Count) (units : Units) (host image0 image1 events : List ℕ) (e : Ending) →
+    e ≡ ends answer failed (tallyOf count) (worldOf host image0 image1 events units) →
+    CameTo e (worldOf host image0 image1 events units) (endedOf answer failed count units)
+came-to answer failed count units host image0 image1 events e is = rw is (record { result = refl; world = refl })
+
+-- An end that is another's.
+pub came-the-same : (e f : Ending) (w : World) (r : Outcome) → e ≡ f → CameTo f w r → CameTo e w r
+came-the-same e f w r same came = rw same came
+
+-- What is spare after a block.
+pub spare-less :
+    (events : List ℕ) (left : ℕ) (count : Count) (sectors : ℕ) → sectors ≤ 65535 →
+    Spare events (left + 1) (tallyOf count) → Spare events left (tallyOf (countedOf count sectors))
+spare-less events left count sectors few spare =
+    record {
+      entries = omega (arith, spare .entries);
+      blocks = omega (arith, spare .blocks);
+      sectors = omega (arith, spare .sectors);
+    }
+
+pub spare-kept :
+    (events events′ : List ℕ) (left : ℕ) (t : Tally) → length events′ ≡ length events → Spare events left t → Spare events′ left t
+spare-kept events events′ left t same spare =
+    record { entries = omega (arith, spare .entries, same); blocks = spare .blocks; sectors = spare .sectors }

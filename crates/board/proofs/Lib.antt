@@ -1,0 +1,10 @@
+pub mod Chains
+pub mod Complement
+pub mod Effects
+pub mod Entries
+pub mod Gathered
+pub mod Outcomes
+pub mod Parts
+pub mod Runs
+pub mod Transfers
+pub mod Travel

@@ -1,0 +1,216 @@
+-- The cycle of fetch and execute. A fetch has one more of the allowance than the block that it leads to, so the measure falls.
+-- Each way out is the chain's law of that name; the world is carried along by the block's own promise.
+use borrow.Author.Needs.{needs}
+use mathlib.Core.Path.{_≡_, _∙_}
+use native.Mathlib.Omega.{arith}
+use Rattle.answers.specs.declared.RunAnswer.{RunAnswer}
+use Rattle.answers.specs.Numbers.{refusalNumber}
+use Rattle.wire.proofs.Promises.{denied, granted}
+use Rattle.board.specs.Chain.{fetched}
+use Rattle.board.specs.Steps.{countedOf, tallyOf}
+use Rattle.board.specs.World.{worldOf}
+use Rattle.board.proofs.Chains.{came-the-same, came-to, executed-done, executed-failed, executed-on, fetched-bad, fetched-on, fetched-spent, spare-kept, spare-less}
+use Prim.Native.Nat.{ℕ, _+_, _-_, _*_, _<_}
+use borrow.Fn.Kinds.{In}
+use borrow.Fn.PlainCycle.{Measures, is, falls, and}
+use Rattle.board.proofs.chain.execute.Reads as execute
+use Rattle.board.proofs.chain.execute.Kinds as execute-kinds
+use Rattle.board.proofs.chain.+execute+fetch.Lts-execute as execute-lts
+use Rattle.board.proofs.chain.fetch.Reads as fetch
+use Rattle.board.proofs.chain.fetch.Kinds as fetch-kinds
+use Rattle.board.proofs.chain.+execute+fetch.Lts-fetch as fetch-lts
+use Rattle.answers.proofs.Refusal.number.Reads as number-reads
+use Rattle.board.proofs.chain.counted.Reads as counted-reads
+use Rattle.board.proofs.chain.ended.Reads as ended-reads
+use Rattle.board.proofs.chain.step.Reads as step-reads
+use Rattle.wire.proofs.holds.Reads as holds-reads
+use Rattle.board.proofs.chain.+execute+fetch.{statement}
+use Rattle.board.proofs.chain.+execute+fetch.Tie.{close}
+
+abbrev μ-execute : Measures 4 execute-kinds.ps ℕ
+μ-execute κs a = 2 * a .1 .1 .1 .1 .1 .1 .0 + 1
+
+abbrev μ-fetch : Measures 4 fetch-kinds.ps ℕ
+μ-fetch κs a = 2 * a .1 .1 .1 .1 .1 .1 .0
+
+abbrev execute-at : ℕ → In 4 execute-kinds.ps
+execute-at t = and 4 execute-kinds.ps (is 4 execute-kinds.ps μ-execute t) execute.Pre
+
+abbrev execute-below : ℕ → In 4 execute-kinds.ps
+execute-below t = and 4 execute-kinds.ps (falls 4 execute-kinds.ps _<_ μ-execute t) execute.Pre
+
+abbrev fetch-at : ℕ → In 4 fetch-kinds.ps
+fetch-at t = and 4 fetch-kinds.ps (is 4 fetch-kinds.ps μ-fetch t) fetch.Pre
+
+abbrev fetch-below : ℕ → In 4 fetch-kinds.ps
+fetch-below t = and 4 fetch-kinds.ps (falls 4 fetch-kinds.ps _<_ μ-fetch t) fetch.Pre
+
+module _ (t : ℕ) where
+  execute-cast-step : execute-lts.Need-cast-step (step-reads.Asked, step-reads.Learnt, counted-reads.Asked, counted-reads.Learnt, number-reads.Asked, number-reads.Learnt, ended-reads.Asked, ended-reads.Learnt, fetch-below t, fetch.Post) (execute-at t) execute.Post
+  execute-cast-step c = search needs
+
+  execute-step-requires : execute-lts.Need-step-requires (step-reads.Asked, step-reads.Learnt, counted-reads.Asked, counted-reads.Learnt, number-reads.Asked, number-reads.Learnt, ended-reads.Asked, ended-reads.Learnt, fetch-below t, fetch.Post) (execute-at t) execute.Post
+  execute-step-requires c κs = search needs
+
+  execute-counted-requires : execute-lts.Need-counted-requires (step-reads.Asked, step-reads.Learnt, counted-reads.Asked, counted-reads.Learnt, number-reads.Asked, number-reads.Learnt, ended-reads.Asked, ended-reads.Learnt, fetch-below t, fetch.Post) (execute-at t) execute.Post
+  execute-counted-requires c κs =
+      let spare = c .before .before .before .before .before .before .before .before .before .before .before .before .before .before .before .before .before .before .before .pre .1 .1 in
+      (omega (arith, spare .blocks), spare .sectors)
+
+  execute-enum-known-answer : execute-lts.Need-enum-known-answer (step-reads.Asked, step-reads.Learnt, counted-reads.Asked, counted-reads.Learnt, number-reads.Asked, number-reads.Learnt, ended-reads.Asked, ended-reads.Learnt, fetch-below t, fetch.Post) (execute-at t) execute.Post
+  execute-enum-known-answer c = search needs
+
+  execute-number-requires : execute-lts.Need-number-requires (step-reads.Asked, step-reads.Learnt, counted-reads.Asked, counted-reads.Learnt, number-reads.Asked, number-reads.Learnt, ended-reads.Asked, ended-reads.Learnt, fetch-below t, fetch.Post) (execute-at t) execute.Post
+  execute-number-requires c κs = search needs
+
+  execute-ended-requires : execute-lts.Need-ended-requires (step-reads.Asked, step-reads.Learnt, counted-reads.Asked, counted-reads.Learnt, number-reads.Asked, number-reads.Learnt, ended-reads.Asked, ended-reads.Learnt, fetch-below t, fetch.Post) (execute-at t) execute.Post
+  execute-ended-requires c κs = search needs
+
+  execute-enum-told : execute-lts.Need-enum-told (step-reads.Asked, step-reads.Learnt, counted-reads.Asked, counted-reads.Learnt, number-reads.Asked, number-reads.Learnt, ended-reads.Asked, ended-reads.Learnt, fetch-below t, fetch.Post) (execute-at t) execute.Post
+  execute-enum-told c = search needs
+
+  execute-fetch-requires : execute-lts.Need-fetch-requires (step-reads.Asked, step-reads.Learnt, counted-reads.Asked, counted-reads.Learnt, number-reads.Asked, number-reads.Learnt, ended-reads.Asked, ended-reads.Learnt, fetch-below t, fetch.Post) (execute-at t) execute.Post
+  execute-fetch-requires c κs =
+      let a = c .before .before .before .before .before .before .before .before .before .before .before .before .before .before .before .before .before .before .before .before .before .before .before .before .before .before .before .args in
+      let pre = c .before .before .before .before .before .before .before .before .before .before .before .before .before .before .before .before .before .before .before .before .before .before .before .before .before .before .before .pre in
+      let s = c .before .before .before .before .before .before .before .before .before .before .before .before .before .before .before .before .before .step in (
+        omega (arith, pre .0),
+        rw (c .before .before .before .before .before .before .before .counted .ensures)
+            (spare-less (s .last .1 .1 .1 .0) (a .left) (a .count) (s .result .sectors) (omega arith)
+            (spare-kept (a .events .now) (s .last .1 .1 .1 .0) (a .left + 1) (tallyOf (a .count)) (s .kept .1 .1 .1 .0) (pre .1 .1))),
+      )
+
+  execute-ended-requires-2 : execute-lts.Need-ended-requires-2 (step-reads.Asked, step-reads.Learnt, counted-reads.Asked, counted-reads.Learnt, number-reads.Asked, number-reads.Learnt, ended-reads.Asked, ended-reads.Learnt, fetch-below t, fetch.Post) (execute-at t) execute.Post
+  execute-ended-requires-2 c κs = search needs
+
+  execute-same-length : execute-lts.Need-same-length (step-reads.Asked, step-reads.Learnt, counted-reads.Asked, counted-reads.Learnt, number-reads.Asked, number-reads.Learnt, ended-reads.Asked, ended-reads.Learnt, fetch-below t, fetch.Post) (execute-at t) execute.Post
+  execute-same-length c = search needs
+
+  execute-same-length-2 : execute-lts.Need-same-length-2 (step-reads.Asked, step-reads.Learnt, counted-reads.Asked, counted-reads.Learnt, number-reads.Asked, number-reads.Learnt, ended-reads.Asked, ended-reads.Learnt, fetch-below t, fetch.Post) (execute-at t) execute.Post
+  execute-same-length-2 c = search needs
+
+  execute-same-length-3 : execute-lts.Need-same-length-3 (step-reads.Asked, step-reads.Learnt, counted-reads.Asked, counted-reads.Learnt, number-reads.Asked, number-reads.Learnt, ended-reads.Asked, ended-reads.Learnt, fetch-below t, fetch.Post) (execute-at t) execute.Post
+  execute-same-length-3 c = search needs
+
+  execute-same-length-4 : execute-lts.Need-same-length-4 (step-reads.Asked, step-reads.Learnt, counted-reads.Asked, counted-reads.Learnt, number-reads.Asked, number-reads.Learnt, ended-reads.Asked, ended-reads.Learnt, fetch-below t, fetch.Post) (execute-at t) execute.Post
+  execute-same-length-4 c = search needs
+
+  execute-returns : execute-lts.Need-returns (step-reads.Asked, step-reads.Learnt, counted-reads.Asked, counted-reads.Learnt, number-reads.Asked, number-reads.Learnt, ended-reads.Asked, ended-reads.Learnt, fetch-below t, fetch.Post) (execute-at t) execute.Post
+  execute-returns c =
+      let a = c .before .before .before .before .before .before .before .before .before .before .before .before .before .before .before .before .before .before .before .before .before .before .before .before .before .args in
+      let s = c .before .before .before .before .before .before .before .before .before .before .before .before .before .before .before .step in
+      let w = (worldOf (a .host .now) (a .image0 .now) (a .image1 .now) (a .events .now) (a .units)) in
+      let r = c .before .before .before .answer .given .0 .0 in
+      rw (c .ended .ensures, c .before .number .ensures, c .before .before .before .before .before .counted .ensures)
+      (came-to RunAnswer.BlockFailed (refusalNumber r) (countedOf (a .count) (s .result .sectors)) (s .result .units) (s .last .0) (s .last .1 .0) (s .last .1 .1 .0) (s .last .1 .1 .1 .0) _
+      (executed-failed (fetched (a .left)) (a .count) (a .at) w (worldOf (s .last .0) (s .last .1 .0) (s .last .1 .1 .0) (s .last .1 .1 .1 .0) (s .result .units)) (s .result) (s .ensures) r (cc)))
+
+  execute-same-length-5 : execute-lts.Need-same-length-5 (step-reads.Asked, step-reads.Learnt, counted-reads.Asked, counted-reads.Learnt, number-reads.Asked, number-reads.Learnt, ended-reads.Asked, ended-reads.Learnt, fetch-below t, fetch.Post) (execute-at t) execute.Post
+  execute-same-length-5 c = c .before .before .before .before .before .before .before .before .fetch .kept .0 ∙ c .before .before .before .before .before .before .before .before .before .before .before .before .before .before .before .before .before .before .before .before .before .before .before .before .before .before .step .kept .0
+
+  execute-same-length-6 : execute-lts.Need-same-length-6 (step-reads.Asked, step-reads.Learnt, counted-reads.Asked, counted-reads.Learnt, number-reads.Asked, number-reads.Learnt, ended-reads.Asked, ended-reads.Learnt, fetch-below t, fetch.Post) (execute-at t) execute.Post
+  execute-same-length-6 c = c .before .before .before .before .before .before .before .before .fetch .kept .1 .0 ∙ c .before .before .before .before .before .before .before .before .before .before .before .before .before .before .before .before .before .before .before .before .before .before .before .before .before .before .step .kept .1 .0
+
+  execute-same-length-7 : execute-lts.Need-same-length-7 (step-reads.Asked, step-reads.Learnt, counted-reads.Asked, counted-reads.Learnt, number-reads.Asked, number-reads.Learnt, ended-reads.Asked, ended-reads.Learnt, fetch-below t, fetch.Post) (execute-at t) execute.Post
+  execute-same-length-7 c = search needs
+
+  execute-same-length-8 : execute-lts.Need-same-length-8 (step-reads.Asked, step-reads.Learnt, counted-reads.Asked, counted-reads.Learnt, number-reads.Asked, number-reads.Learnt, ended-reads.Asked, ended-reads.Learnt, fetch-below t, fetch.Post) (execute-at t) execute.Post
+  execute-same-length-8 c = search needs
+
+  execute-returns-2 : execute-lts.Need-returns-2 (step-reads.Asked, step-reads.Learnt, counted-reads.Asked, counted-reads.Learnt, number-reads.Asked, number-reads.Learnt, ended-reads.Asked, ended-reads.Learnt, fetch-below t, fetch.Post) (execute-at t) execute.Post
+  execute-returns-2 c =
+      let a = c .before .before .before .before .before .before .before .before .before .before .before .before .before .before .before .before .before .before .before .before .before .before .before .before .before .before .before .before .before .before .before .before .before .before .before .before .args in
+      let s = c .before .before .before .before .before .before .before .before .before .before .before .before .before .before .before .before .before .before .before .before .before .before .before .before .before .before .step in
+      let w = (worldOf (a .host .now) (a .image0 .now) (a .image1 .now) (a .events .now) (a .units)) in
+      let f = c .before .before .before .before .before .before .before .before .fetch in
+      came-the-same _ _ _ (f .result)
+      (executed-on (fetched (a .left)) (a .count) (a .at) w (worldOf (s .last .0) (s .last .1 .0) (s .last .1 .1 .0) (s .last .1 .1 .1 .0) (s .result .units)) (s .result) (s .ensures) (c .before .before .before .before .before .before .before .before .before .before .before .before .before .before .enum-told .given .1) (c .before .before .before .before .before .before .before .before .before .before .before .before .before .if1 .taken))
+      (rw (c .before .before .before .before .before .before .before .before .before .before .before .before .before .before .before .before .counted .ensures) at (f .ensures))
+
+  execute-same-length-9 : execute-lts.Need-same-length-9 (step-reads.Asked, step-reads.Learnt, counted-reads.Asked, counted-reads.Learnt, number-reads.Asked, number-reads.Learnt, ended-reads.Asked, ended-reads.Learnt, fetch-below t, fetch.Post) (execute-at t) execute.Post
+  execute-same-length-9 c = search needs
+
+  execute-same-length-10 : execute-lts.Need-same-length-10 (step-reads.Asked, step-reads.Learnt, counted-reads.Asked, counted-reads.Learnt, number-reads.Asked, number-reads.Learnt, ended-reads.Asked, ended-reads.Learnt, fetch-below t, fetch.Post) (execute-at t) execute.Post
+  execute-same-length-10 c = search needs
+
+  execute-same-length-11 : execute-lts.Need-same-length-11 (step-reads.Asked, step-reads.Learnt, counted-reads.Asked, counted-reads.Learnt, number-reads.Asked, number-reads.Learnt, ended-reads.Asked, ended-reads.Learnt, fetch-below t, fetch.Post) (execute-at t) execute.Post
+  execute-same-length-11 c = search needs
+
+  execute-same-length-12 : execute-lts.Need-same-length-12 (step-reads.Asked, step-reads.Learnt, counted-reads.Asked, counted-reads.Learnt, number-reads.Asked, number-reads.Learnt, ended-reads.Asked, ended-reads.Learnt, fetch-below t, fetch.Post) (execute-at t) execute.Post
+  execute-same-length-12 c = search needs
+
+  execute-returns-3 : execute-lts.Need-returns-3 (step-reads.Asked, step-reads.Learnt, counted-reads.Asked, counted-reads.Learnt, number-reads.Asked, number-reads.Learnt, ended-reads.Asked, ended-reads.Learnt, fetch-below t, fetch.Post) (execute-at t) execute.Post
+  execute-returns-3 c =
+      let a = c .before .before .before .before .before .before .before .before .before .before .before .before .before .before .before .before .before .before .before .before .before .before .before .before .args in
+      let s = c .before .before .before .before .before .before .before .before .before .before .before .before .before .before .step in
+      let w = (worldOf (a .host .now) (a .image0 .now) (a .image1 .now) (a .events .now) (a .units)) in
+      rw (c .ended2 .ensures, c .before .before .before .before .counted .ensures)
+      (came-to RunAnswer.Done 0 (countedOf (a .count) (s .result .sectors)) (s .result .units) (s .last .0) (s .last .1 .0) (s .last .1 .1 .0) (s .last .1 .1 .1 .0) _
+      (executed-done (fetched (a .left)) (a .count) (a .at) w (worldOf (s .last .0) (s .last .1 .0) (s .last .1 .1 .0) (s .last .1 .1 .1 .0) (s .result .units)) (s .result) (s .ensures) (cc) (c .before .if1 .left)))
+
+  fetch-ended-requires : fetch-lts.Need-ended-requires (ended-reads.Asked, ended-reads.Learnt, holds-reads.Asked, holds-reads.Learnt, execute-below t, execute.Post) (fetch-at t) fetch.Post
+  fetch-ended-requires c κs = search needs
+
+  fetch-returns : fetch-lts.Need-returns (ended-reads.Asked, ended-reads.Learnt, holds-reads.Asked, holds-reads.Learnt, execute-below t, execute.Post) (fetch-at t) fetch.Post
+  fetch-returns c =
+      let a = c .before .before .before .before .before .before .args in
+      rw (c .ended .ensures)
+      (came-to RunAnswer.AllowanceSpent 0 (a .count) (a .units) (a .host .now) (a .image0 .now) (a .image1 .now) (a .events .now) _
+      (fetched-spent (a .left) (tallyOf (a .count)) (a .at) (worldOf (a .host .now) (a .image0 .now) (a .image1 .now) (a .events .now) (a .units)) (c .before .if1 .taken)))
+
+  fetch-holds-requires : fetch-lts.Need-holds-requires (ended-reads.Asked, ended-reads.Learnt, holds-reads.Asked, holds-reads.Learnt, execute-below t, execute.Post) (fetch-at t) fetch.Post
+  fetch-holds-requires c κs = search needs
+
+  fetch-ended-requires-2 : fetch-lts.Need-ended-requires-2 (ended-reads.Asked, ended-reads.Learnt, holds-reads.Asked, holds-reads.Learnt, execute-below t, execute.Post) (fetch-at t) fetch.Post
+  fetch-ended-requires-2 c κs = search needs
+
+  fetch-same-length : fetch-lts.Need-same-length (ended-reads.Asked, ended-reads.Learnt, holds-reads.Asked, holds-reads.Learnt, execute-below t, execute.Post) (fetch-at t) fetch.Post
+  fetch-same-length c = search needs
+
+  fetch-returns-2 : fetch-lts.Need-returns-2 (ended-reads.Asked, ended-reads.Learnt, holds-reads.Asked, holds-reads.Learnt, execute-below t, execute.Post) (fetch-at t) fetch.Post
+  fetch-returns-2 c =
+      let a = c .before .before .before .before .before .before .before .before .before .args in
+      let held = c .before .before .holds in
+      rw (c .ended2 .ensures)
+      (came-to RunAnswer.LinkBad 0 (a .count) (a .units) (a .host .now) (a .image0 .now) (a .image1 .now) (a .events .now) _
+      (fetched-bad (a .left) (tallyOf (a .count)) (a .at) (worldOf (a .host .now) (a .image0 .now) (a .image1 .now) (a .events .now) (a .units)) (omega arith) (denied (held .result) _ (c .before .if2 .taken) (held .ensures))))
+
+  fetch-sub-execute : fetch-lts.Need-sub-execute (ended-reads.Asked, ended-reads.Learnt, holds-reads.Asked, holds-reads.Learnt, execute-below t, execute.Post) (fetch-at t) fetch.Post
+  fetch-sub-execute c = search needs
+
+  fetch-execute-requires : fetch-lts.Need-execute-requires (ended-reads.Asked, ended-reads.Learnt, holds-reads.Asked, holds-reads.Learnt, execute-below t, execute.Post) (fetch-at t) fetch.Post
+  fetch-execute-requires c κs =
+      let a = c .before .before .before .before .before .before .before .before .before .before .before .before .args in
+      let pre = c .before .before .before .before .before .before .before .before .before .before .before .before .pre in
+      let held = c .before .before .before .before .before .holds in
+      let one : a .left - 1 + 1 ≡ a .left = omega arith in
+      (omega (arith, pre .0), (granted (held .result) _ (c .before .before .before .before .if2 .left) (held .ensures), rw one (pre .1)))
+
+  fetch-same-length-2 : fetch-lts.Need-same-length-2 (ended-reads.Asked, ended-reads.Learnt, holds-reads.Asked, holds-reads.Learnt, execute-below t, execute.Post) (fetch-at t) fetch.Post
+  fetch-same-length-2 c = search needs
+
+  fetch-same-length-3 : fetch-lts.Need-same-length-3 (ended-reads.Asked, ended-reads.Learnt, holds-reads.Asked, holds-reads.Learnt, execute-below t, execute.Post) (fetch-at t) fetch.Post
+  fetch-same-length-3 c = search needs
+
+  fetch-same-length-4 : fetch-lts.Need-same-length-4 (ended-reads.Asked, ended-reads.Learnt, holds-reads.Asked, holds-reads.Learnt, execute-below t, execute.Post) (fetch-at t) fetch.Post
+  fetch-same-length-4 c = search needs
+
+  fetch-same-length-5 : fetch-lts.Need-same-length-5 (ended-reads.Asked, ended-reads.Learnt, holds-reads.Asked, holds-reads.Learnt, execute-below t, execute.Post) (fetch-at t) fetch.Post
+  fetch-same-length-5 c = search needs
+
+  fetch-returns-3 : fetch-lts.Need-returns-3 (ended-reads.Asked, ended-reads.Learnt, holds-reads.Asked, holds-reads.Learnt, execute-below t, execute.Post) (fetch-at t) fetch.Post
+  fetch-returns-3 c =
+      let a = c .before .before .before .before .before .before .before .before .before .before .before .before .before .before .before .before .before .before .before .before .before .args in
+      let held = c .before .before .before .before .before .before .before .before .before .before .before .before .before .before .holds in
+      let e = c .before .before .before .before .before .before .before .before .execute in
+      came-the-same _ _ _ (e .result)
+      (fetched-on (a .left) (tallyOf (a .count)) (a .at) (worldOf (a .host .now) (a .image0 .now) (a .image1 .now) (a .events .now) (a .units)) (omega (arith, c .before .before .before .before .before .before .before .before .before .before .before .before .before .before .before .before .if1 .left)) (granted (held .result) _ (c .before .before .before .before .before .before .before .before .before .before .before .before .before .if2 .left) (held .ensures)))
+      (e .ensures)
+
+pub +execute+fetch-spec : {M : Type 1} → statement M
++execute+fetch-spec =
+    close μ-execute μ-fetch
+    (λ t. execute-lts.spec (step-reads.Asked, step-reads.Learnt, counted-reads.Asked, counted-reads.Learnt, number-reads.Asked, number-reads.Learnt, ended-reads.Asked, ended-reads.Learnt, fetch-below t, fetch.Post) (execute-at t) execute.Post
+    (execute-cast-step t) (execute-step-requires t) (execute-counted-requires t) (execute-enum-known-answer t) (execute-number-requires t) (execute-ended-requires t) (execute-enum-told t) (execute-fetch-requires t) (execute-ended-requires-2 t) (execute-same-length t) (execute-same-length-2 t) (execute-same-length-3 t) (execute-same-length-4 t) (execute-returns t) (execute-same-length-5 t) (execute-same-length-6 t) (execute-same-length-7 t) (execute-same-length-8 t) (execute-returns-2 t) (execute-same-length-9 t) (execute-same-length-10 t) (execute-same-length-11 t) (execute-same-length-12 t) (execute-returns-3 t))
+    (λ t. fetch-lts.spec (ended-reads.Asked, ended-reads.Learnt, holds-reads.Asked, holds-reads.Learnt, execute-below t, execute.Post) (fetch-at t) fetch.Post
+    (fetch-ended-requires t) (fetch-returns t) (fetch-holds-requires t) (fetch-ended-requires-2 t) (fetch-same-length t) (fetch-returns-2 t) (fetch-sub-execute t) (fetch-execute-requires t) (fetch-same-length-2 t) (fetch-same-length-3 t) (fetch-same-length-4 t) (fetch-same-length-5 t) (fetch-returns-3 t))

@@ -1,0 +1,75 @@
+-- Where the block can be fetched and has room for its entry, it is the step; elsewhere nothing is touched.
+use mathlib.Core.Path.{_≡_, refl}
+use native.Mathlib.Omega.{arith}
+use Rattle.wire.proofs.Promises.{denied, granted}
+use borrow.Author.Needs.{needs}
+use Rattle.board.proofs.chain.run_one.Statement.{statement}
+use Rattle.board.proofs.chain.run_one.Tie as tie
+use Rattle.board.proofs.chain.run_one.Reads as reads
+use Rattle.board.proofs.chain.run_one.Lts as lts
+use Rattle.board.proofs.chain.step.Reads as step-reads
+use Rattle.wire.proofs.holds.Reads as holds-reads
+
+holds-requires : tie.Need-holds-requires
+holds-requires c κs = search needs
+
+same-length : tie.Need-same-length
+same-length c = search needs
+
+returns : tie.Need-returns
+returns c =
+    let held = c .before .holds in
+    (λ f. denied (held .result) _ (c .if1 .taken) (held .ensures) (f .place), refl)
+
+mul-if2 : tie.Need-mul-if2
+mul-if2 c = search needs
+
+add-if2 : tie.Need-add-if2
+add-if2 c = search needs
+
+same-length-2 : tie.Need-same-length-2
+same-length-2 c = search needs
+
+returns-2 : tie.Need-returns-2
+returns-2 c = search needs
+
+step-requires : tie.Need-step-requires
+step-requires c κs =
+    let held = c .before .before .before .before .before .before .holds in
+    let place = granted (held .result) _ (c .before .before .before .before .before .if1 .left) (held .ensures) in
+    record { block = place .inside; entry = omega arith }
+
+same-length-3 : tie.Need-same-length-3
+same-length-3 c = search needs
+
+same-length-4 : tie.Need-same-length-4
+same-length-4 c = search needs
+
+same-length-5 : tie.Need-same-length-5
+same-length-5 c = search needs
+
+same-length-6 : tie.Need-same-length-6
+same-length-6 c = search needs
+
+returns-3 : tie.Need-returns-3
+returns-3 c =
+    let held = c .before .before .before .before .before .before .before .before .before .before .before .before .before .before .before .holds in
+    (record { place = granted (held .result) _ (c .before .before .before .before .before .before .before .before .before .before .before .before .before .before .if1 .left) (held .ensures); entry = omega (arith, c .before .before .before .before .before .before .before .before .before .before .before .before .before .if2 .left) }, c .before .before .before .before .before .before .before .before .step .ensures)
+
+pub run-one-spec : {M : Type 1} → statement M
+run-one-spec =
+    tie.close
+    (tie.spec
+    holds-requires
+    same-length
+    returns
+    mul-if2
+    add-if2
+    same-length-2
+    returns-2
+    step-requires
+    same-length-3
+    same-length-4
+    same-length-5
+    same-length-6
+    returns-3)

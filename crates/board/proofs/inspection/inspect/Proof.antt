@@ -1,0 +1,86 @@
+-- The part that was chosen lies in the image that it names, so it can be cut out there.
+-- What is cut out are the part's bytes, whichever of the two images that is.
+use Prim.Native.Nat.{_^_}
+use mathlib.Core.Path.{_≡_}
+use native.Mathlib.Omega.{arith}
+use borrow.Author.Needs.{needs}
+use denote.Ref.{now}
+use Rattle.request.specs.declared.UnitNumber.the-variants.{Zero, One}
+use Rattle.board.proofs.Parts.{InItsImage, image-below, part-cut, part-lies}
+use Rattle.board.proofs.inspection.inspect.Statement.{statement}
+use Rattle.board.proofs.inspection.inspect.Tie as tie
+
+lies :
+    (c : tie.After-part-of) →
+    let a = c .before .before .before .args in InItsImage (now (a .image0)) (now (a .image1)) (c .part-of .result)
+lies c =
+    let a = c .before .before .before .args in
+    rw (c .part-of .ensures)
+    (part-lies (now (a .image0)) (now (a .image1)) (a .units .zero) (a .units .one) (a .unit) (a .place))
+
+part-of-requires : tie.Need-part-of-requires
+part-of-requires c κs = search needs
+
+add-end : tie.Need-add-end
+add-end c =
+    let p = c .before .part-of .result in
+    let a = c .before .before .before .before .args in
+    let fits = image-below (now (a .image0)) (now (a .image1)) (p .unit) (2 ^ 64) (omega arith) (omega arith) in
+    omega (arith, lies (c .before))
+
+enum-told : tie.Need-enum-told
+enum-told c = search needs
+
+sub-result : tie.Need-sub-result
+sub-result c = search needs
+
+part-result-start : tie.Need-part-result-start
+part-result-start c = search needs
+
+part-result-end : tie.Need-part-result-end
+part-result-end c =
+    let is : c .before .before .before .part-of .result .unit ≡ Zero = cc in
+    rw is at (lies (c .before .before .before))
+
+returns : tie.Need-returns
+returns c =
+    let a = c .before .before .before .before .before .before .before .args in
+    let p = c .before .before .before .before .part-of in
+    rw (← p .ensures) (part-cut (now (a .image0)) (now (a .image1)) (p .result) Zero (cc))
+
+enum-told-2 : tie.Need-enum-told-2
+enum-told-2 c = search needs
+
+sub-result-2 : tie.Need-sub-result-2
+sub-result-2 c = search needs
+
+part-result-start-2 : tie.Need-part-result-start-2
+part-result-start-2 c = search needs
+
+part-result-end-2 : tie.Need-part-result-end-2
+part-result-end-2 c =
+    let is : c .before .before .before .part-of .result .unit ≡ One = cc in
+    rw is at (lies (c .before .before .before))
+
+returns-2 : tie.Need-returns-2
+returns-2 c =
+    let a = c .before .before .before .before .before .before .before .args in
+    let p = c .before .before .before .before .part-of in
+    rw (← p .ensures) (part-cut (now (a .image0)) (now (a .image1)) (p .result) One (cc))
+
+pub inspect-spec : {M : Type 1} → statement M
+inspect-spec =
+    tie.close
+    (tie.spec
+    part-of-requires
+    add-end
+    enum-told
+    sub-result
+    part-result-start
+    part-result-end
+    returns
+    enum-told-2
+    sub-result-2
+    part-result-start-2
+    part-result-end-2
+    returns-2)

@@ -1,0 +1,122 @@
+-- What the functions of one block promise, between the code and the definitions of Block.
+use Prim.Native.Nat.{ℕ, _+_, _*_, _≤_}
+use mathlib.Core.List.{List}
+use mathlib.Core.Path.{_≡_}
+use lib.ListN.{length}
+use lib.Seq.{sets}
+use Rattle.iopb.specs.declared.Block.{Block}
+use Rattle.iopb.specs.Ask.{taskOf}
+use Rattle.judge.specs.declared.Job.{Job}
+use Rattle.judge.specs.declared.Plan.{Plan}
+use Rattle.judge.specs.declared.Verdict.{Verdict}
+use Rattle.judge.specs.Verdict.{verdict}
+use Rattle.transfer.specs.declared.Moved.{Moved}
+use Rattle.transfer.specs.declared.Span.{Span}
+use Rattle.transfer.specs.Stores.{Buffers, after}
+use Rattle.unit.specs.declared.Record.{Record}
+use Rattle.unit.specs.Standing.{recordOf}
+use Rattle.board.specs.declared.block.Done.{Done}
+use Rattle.wire.specs.Memory.{InMemory}
+use Rattle.iopb.specs.Layout.{blockAt}
+use Rattle.answers.specs.declared.RunAnswer.{RunAnswer}
+use Rattle.board.specs.declared.Units.{Units}
+use Rattle.board.specs.declared.chain.Count.{Count}
+use Rattle.board.specs.declared.chain.Outcome.{Outcome}
+use Rattle.board.specs.declared.chain.Single.{Single}
+use Rattle.board.specs.declared.chain.Single.the-variants.{Ran, NoRoom}
+use Rattle.board.specs.declared.chain.Stepped.{Stepped}
+use Rattle.board.specs.Block.{Effect, effectAt, worldAfter}
+use Rattle.board.specs.Chain.{Ending, Tally}
+use Rattle.board.specs.World.{Drive, World, worldOf}
+
+-- Bytes once some numbers are stored in them one after the other, from an index on.
+unfoldable pub written : List ℕ → ℕ → List ℕ → List ℕ
+written bytes at ns = sets bytes at ns
+
+-- What a block works on, as it is lent.
+abbrev pub three : List ℕ → List ℕ → List ℕ → Buffers
+three host image events = record { host = host; image = image; events = events }
+
+-- There is room for the block and for its event entry.
+pub record Room (host events : List ℕ) (at i : ℕ) : Type 0 where
+  pub block : at + 28 ≤ length host
+  pub entry : 8 * i + 8 ≤ length events
+
+abbrev pub driveWith : Record → List ℕ → Drive
+driveWith u image = record { unit = u; image = image }
+
+abbrev pub doneOf : Effect → Done
+doneOf e = record { unit = e .unit; answer = e .answer; sectors = e .sectors }
+
+-- A block's effect is what was done: what is returned, and every byte.
+pub record Did (e : Effect) (m m′ : Buffers) (d : Done) : Type 0 where
+  pub result : d ≡ doneOf e
+  pub stored : m′ ≡ after (e .stores) m
+
+-- What a transfer leaves: the heads on its cylinder.
+abbrev pub concluded : Record → Moved → Done
+concluded u m =
+    record { unit = recordOf (u .initialized) (u .geometry) (m .cylinder); answer = m .answer; sectors = m .sectors }
+
+-- The sectors of a job.
+abbrev pub spanOf : Job → Span
+spanOf j = record { volume = j .volume; first = j .first; count = j .count }
+
+-- The judgement let the block through, with what is to be done.
+abbrev pub LetThrough : List ℕ → List ℕ → Record → Block → Plan → Type 0
+LetThrough host image u b plan =
+    verdict (record { task = taskOf host b; unit = u; image = length image; host = host }) ≡ Verdict.Do plan
+
+-- A block of a chain: the world after it, and what the chain goes by.
+pub record SteppedTo (w : World) (at i : ℕ) (w′ : World) (s : Stepped) : Type 0 where
+  pub world : w′ ≡ worldAfter at i w
+  pub answer : s .answer ≡ effectAt at i w .answer
+  pub sectors : s .sectors ≡ effectAt at i w .sectors
+  pub linked : s .linked ≡ blockAt (w .host) at .options .link
+  pub link : s .link ≡ blockAt (w .host) at .link
+
+-- A chain that has come to its end: what is returned, and the world.
+abbrev pub outcomeOf : Ending → Outcome
+outcomeOf e =
+    record {
+      answer = e .answer;
+      failed = e .failed;
+      blocks = e .tally .blocks;
+      sectors = e .tally .sectors;
+      units = record { zero = e .world .drive0 .unit; one = e .world .drive1 .unit };
+    }
+
+pub record CameTo (e : Ending) (w : World) (r : Outcome) : Type 0 where
+  pub result : r ≡ outcomeOf e
+  pub world : w ≡ e .world
+
+-- The allowance is within what the event buffer and the counts can hold.
+pub record Spare (events : List ℕ) (left : ℕ) (t : Tally) : Type 0 where
+  pub entries : 8 * (t .blocks + left) ≤ length events
+  pub blocks : t .blocks + left ≤ 64
+  pub sectors : t .sectors ≤ 65535 * t .blocks
+
+abbrev pub tallyOf : Count → Tally
+tallyOf t = record { blocks = t .blocks; sectors = t .sectors }
+
+abbrev pub countedOf : Count → ℕ → Count
+countedOf t sectors = record { blocks = t .blocks + 1; sectors = t .sectors + sectors }
+
+abbrev pub endedOf : RunAnswer → ℕ → Count → Units → Outcome
+endedOf answer failed t units =
+    record { answer = answer; failed = failed; blocks = t .blocks; sectors = t .sectors; units = units }
+
+abbrev pub nothingCounted : Count
+nothingCounted = record { blocks = 0; sectors = 0 }
+
+-- A block alone: where it can be fetched and has room for its entry it is run, and elsewhere nothing is done.
+pub record Fetchable (w : World) (at i : ℕ) : Type 0 where
+  pub place : InMemory (w .host) at 28
+  pub entry : 8 * i + 8 ≤ length (w .events)
+
+abbrev pub RanOne : World → ℕ → ℕ → (host image0 image1 events : List ℕ) → Single → Type 0
+RanOne w at i host image0 image1 events (Ran s) =
+    Fetchable w at i × SteppedTo w at i (worldOf host image0 image1 events (s .units)) s
+RanOne w at i host image0 image1 events NoRoom =
+    (Fetchable w at i → ⊥) ×
+    (worldOf host image0 image1 events (record { zero = w .drive0 .unit; one = w .drive1 .unit }) ≡ w)

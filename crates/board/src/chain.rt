@@ -1,0 +1,235 @@
+// A chain: each block is fetched and executed, and one that ends with a link leads to fetching the next.
+use crate::Units;
+use crate::block::run_block;
+use answers::BlockAnswer;
+use answers::RunAnswer;
+use iopb::Block;
+ghost use mathlib.Core.Path.{_≡_};
+ghost use Prim.Native.Nat.{_+_, _*_, _≤_};
+ghost use lib.ListN.{length};
+ghost use Rattle.board.specs.Chain.{executed, fetched, ran};
+ghost use Rattle.board.specs.Steps.{CameTo, RanOne, Room, Spare, SteppedTo, countedOf, endedOf, nothingCounted, tallyOf};
+ghost use Rattle.board.specs.World.{worldOf};
+ghost use Rattle.wire.specs.Memory.{InMemory};
+
+// What a chain goes by after a block.
+pub struct Stepped {
+    pub units: Units,
+    pub answer: BlockAnswer,
+    pub sectors: u16,
+    pub linked: bool,
+    pub link: u32,
+}
+
+// The blocks run and the sectors moved so far.
+pub(crate) struct Count {
+    pub blocks: u32,
+    pub sectors: u32,
+}
+
+// What a run came to. `failed` is the failed block's number with the answer BlockFailed, and 0 with any other.
+pub struct Outcome {
+    pub answer: RunAnswer,
+    pub failed: u8,
+    pub blocks: u32,
+    pub sectors: u32,
+    pub units: Units,
+}
+
+// One block of a chain, on the drive of the unit that it names.
+pub(crate) fn step(
+    host: &mut [u8],
+    image0: &mut [u8],
+    image1: &mut [u8],
+    events: &mut [u8],
+    units: Units,
+    at: usize,
+    i: usize,
+) -> Stepped
+    requires { ⌜ Room (now host) (now events) at i ⌝ }
+    ensures { λ s. ⌜ SteppedTo (worldOf (now (host .entry)) (now (image0 .entry)) (now (image1 .entry)) (now (events .entry)) units) at i (worldOf (now (host .exit)) (now (image0 .exit)) (now (image1 .exit)) (now (events .exit)) (s .units)) s ⌝ }
+{
+    let b = Block::read(host, at);
+    let options = b.options;
+    let zero = units.zero;
+    let one = units.one;
+    if options.unit {
+        let done = run_block(host, image1, events, one, b, at, i);
+        let unit = done.unit;
+        let answer = done.answer;
+        Stepped {
+            units: Units { zero, one: unit },
+            answer,
+            sectors: done.sectors,
+            linked: options.link,
+            link: b.link,
+        }
+    } else {
+        let done = run_block(host, image0, events, zero, b, at, i);
+        let unit = done.unit;
+        let answer = done.answer;
+        Stepped {
+            units: Units { zero: unit, one },
+            answer,
+            sectors: done.sectors,
+            linked: options.link,
+            link: b.link,
+        }
+    }
+}
+
+fn ended(answer: RunAnswer, failed: u8, count: Count, units: Units) -> Outcome
+    ensures { λ r. ⌜ r ≡ endedOf answer failed count units ⌝ }
+{
+    Outcome {
+        answer,
+        failed,
+        blocks: count.blocks,
+        sectors: count.sectors,
+        units,
+    }
+}
+
+// Each fetch spends one of the allowance. What is asked first, before the block's address is looked at, is whether any is left.
+fn fetch(
+    host: &mut [u8],
+    image0: &mut [u8],
+    image1: &mut [u8],
+    events: &mut [u8],
+    units: Units,
+    at: u32,
+    left: u32,
+    count: Count,
+) -> Outcome
+    requires { ⌜ Spare (now events) left (tallyOf count) ⌝ }
+    ensures { λ r. ⌜ CameTo (fetched left (tallyOf count) at (worldOf (now (host .entry)) (now (image0 .entry)) (now (image1 .entry)) (now (events .entry)) units)) (worldOf (now (host .exit)) (now (image0 .exit)) (now (image1 .exit)) (now (events .exit)) (r .units)) r ⌝ }
+{
+    if left == 0 {
+        return ended(RunAnswer::AllowanceSpent, 0, count, units);
+    }
+    if !wire::holds(host, at, 28) {
+        return ended(RunAnswer::LinkBad, 0, count, units);
+    }
+    execute(host, image0, image1, events, units, at, left - 1, count)
+}
+
+// A block that ended with a link leads to the next fetch. The link of a failed block is not followed.
+fn execute(
+    host: &mut [u8],
+    image0: &mut [u8],
+    image1: &mut [u8],
+    events: &mut [u8],
+    units: Units,
+    at: u32,
+    left: u32,
+    count: Count,
+) -> Outcome
+    requires { ⌜ InMemory (now host) at 28 × Spare (now events) (left + 1) (tallyOf count) ⌝ }
+    ensures { λ r. ⌜ CameTo (executed (fetched left) (tallyOf count) at (worldOf (now (host .entry)) (now (image0 .entry)) (now (image1 .entry)) (now (events .entry)) units)) (worldOf (now (host .exit)) (now (image0 .exit)) (now (image1 .exit)) (now (events .exit)) (r .units)) r ⌝ }
+{
+    let s = step(
+        host,
+        image0,
+        image1,
+        events,
+        units,
+        at as usize,
+        count.blocks as usize,
+    );
+    let units = s.units;
+    let answer = s.answer;
+    let count = counted(count, s.sectors);
+    match answer {
+        BlockAnswer::Failed(r) => ended(RunAnswer::BlockFailed, r.number(), count, units),
+        BlockAnswer::Ended => {
+            if s.linked {
+                fetch(host, image0, image1, events, units, s.link, left, count)
+            } else {
+                ended(RunAnswer::Done, 0, count, units)
+            }
+        }
+    }
+}
+
+fn counted(count: Count, sectors: u16) -> Count
+    requires { ⌜ (count .blocks ≤ 64) × (count .sectors ≤ 65535 * count .blocks) ⌝ }
+    ensures { λ r. ⌜ r ≡ countedOf count sectors ⌝ }
+{
+    Count {
+        blocks: count.blocks + 1,
+        sectors: count.sectors + (sectors as u32),
+    }
+}
+
+// Nothing counted: what a refused run answers, and what a chain begins with.
+fn nothing() -> Count
+    ensures { λ r. ⌜ r ≡ nothingCounted ⌝ }
+{
+    Count {
+        blocks: 0,
+        sectors: 0,
+    }
+}
+
+// Runs the chain from the first block on, once the event buffer, the allowance and that block's place have been found good.
+pub fn run(
+    host: &mut [u8],
+    image0: &mut [u8],
+    image1: &mut [u8],
+    events: &mut [u8],
+    units: Units,
+    first: u32,
+    allowance: u32,
+) -> Outcome
+    ensures { λ r. ⌜ CameTo (ran first allowance (worldOf (now (host .entry)) (now (image0 .entry)) (now (image1 .entry)) (now (events .entry)) units)) (worldOf (now (host .exit)) (now (image0 .exit)) (now (image1 .exit)) (now (events .exit)) (r .units)) r ⌝ }
+{
+    if events.len() < 512 {
+        return ended(RunAnswer::EventsShort, 0, nothing(), units);
+    }
+    if allowance == 0 {
+        return ended(RunAnswer::AllowanceBad, 0, nothing(), units);
+    }
+    if 64 < allowance {
+        return ended(RunAnswer::AllowanceBad, 0, nothing(), units);
+    }
+    if !wire::holds(host, first, 28) {
+        return ended(RunAnswer::FirstBad, 0, nothing(), units);
+    }
+    fetch(
+        host,
+        image0,
+        image1,
+        events,
+        units,
+        first,
+        allowance,
+        nothing(),
+    )
+}
+
+// What a block alone came to, or that it cannot be fetched or has no room for its entry.
+pub enum Single {
+    Ran(Stepped),
+    NoRoom,
+}
+
+// Runs the one block at an address, as the block of a run after i others, and follows no link.
+pub fn run_one(
+    host: &mut [u8],
+    image0: &mut [u8],
+    image1: &mut [u8],
+    events: &mut [u8],
+    units: Units,
+    at: u32,
+    i: u32,
+) -> Single
+    ensures { λ r. ⌜ RanOne (worldOf (now (host .entry)) (now (image0 .entry)) (now (image1 .entry)) (now (events .entry)) units) at i (now (host .exit)) (now (image0 .exit)) (now (image1 .exit)) (now (events .exit)) r ⌝ }
+{
+    if !wire::holds(host, at, 28) {
+        return Single::NoRoom;
+    }
+    if (events.len() as u64) < 8 * (i as u64) + 8 {
+        return Single::NoRoom;
+    }
+    Single::Ran(step(host, image0, image1, events, units, at as usize, i as usize))
+}
