@@ -1,10 +1,12 @@
 pub mod Chains
 pub mod Complement
 pub mod Effects
+pub mod Endings
 pub mod Entries
 pub mod Gathered
 pub mod Outcomes
 pub mod Parts
+pub mod RunAnswers
 pub mod Runs
 pub mod Transfers
 pub mod Travel

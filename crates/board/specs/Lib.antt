@@ -3,4 +3,5 @@ pub mod Chain
 pub mod Events
 pub mod Inspection
 pub mod Steps
+pub mod Visits
 pub mod World
