@@ -33,10 +33,10 @@ pub record Told (e : Ending) (vs : List Visit) (left : ℕ) (t : Tally) (first :
   pub leaves : e .world ≡ worldThen (lastOf first rest)
 
 module _ (left : ℕ) (t : Tally) (at : ℕ) (w : World) where
-  abbrev here : Visit
+  abbrev pub here : Visit
   here = record { at = at; index = t .blocks; world = w }
 
-  abbrev then : Tally
+  abbrev pub then : Tally
   then = counted t (effectOf here .sectors)
 
   abbrev Next : Type 0
@@ -111,11 +111,11 @@ module _ (left : ℕ) (t : Tally) (at : ℕ) (w : World) where
       (alone RunAnswer.AllowanceSpent 0 (refl, (is, (linked, spent)))))
 
 module _ (n : ℕ) (t : Tally) (at : ℕ) (w : World) (good : InMemory (w .host) at 28) where
-  fetched-step : fetched (suc n) t at w ≡ executed (fetched n) t at w
+  pub fetched-step : fetched (suc n) t at w ≡ executed (fetched n) t at w
   unfolding fetched
   fetched-step = if-pos (inMemory? (w .host) at 28) good _ _
 
-  visits-step :
+  pub visits-step :
       visits (suc n) (t .blocks) at w ≡
       here n t at w ∷
       onwards (effectOf (here n t at w) .answer) (blockOf (here n t at w) .options .link)

@@ -4,6 +4,7 @@ pub mod Effects
 pub mod Endings
 pub mod Entries
 pub mod Gathered
+pub mod Keeps
 pub mod Outcomes
 pub mod Parts
 pub mod RunAnswers

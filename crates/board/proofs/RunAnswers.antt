@@ -16,7 +16,7 @@ use Rattle.answers.specs.declared.RunAnswer.{RunAnswer}
 use Rattle.answers.specs.declared.RunAnswer.the-variants.{Done, EventsShort, AllowanceBad, FirstBad, BlockFailed, LinkBad, AllowanceSpent}
 use Rattle.answers.specs.Numbers.{refusalNumber, runNumber}
 use Rattle.board.specs.Chain.{Ending, Tally, ends, fetched, nothing, ran}
-use Rattle.board.specs.Visits.{EndsWith, Visit, blockOf, effectOf, lastOf, sectorsOf, visits, worldThen}
+use Rattle.board.specs.Visits.{EndsWith, Passes, Visit, blockOf, effectOf, lastOf, sectorsOf, visits, worldThen}
 use Rattle.board.specs.World.{World}
 use Rattle.board.proofs.Endings.{Told, chain-told, visits-few}
 use Rattle.board.proofs.Runs.{ran-allowance-bad, ran-chain, ran-events-short, ran-first-bad}
@@ -66,13 +66,6 @@ no-refusal AllowanceBad f left v so least most = so
 no-refusal FirstBad f left v so least most = so
 
 -- ---- the whole run
-
--- What checks 1, 2 and 3 ask.
-pub record Passes (first allowance : ℕ) (w : World) : Type 0 where
-  pub events : 512 ≤ length (w .events)
-  pub least : 1 ≤ allowance
-  pub most : allowance ≤ 64
-  pub place : InMemory (w .host) first 28
 
 module _ (first allowance : ℕ) (w : World) where
   abbrev end : Ending
@@ -195,3 +188,13 @@ module _ (first allowance : ℕ) (w : World) where
   blocks-within-the-allowance passes =
       let told = run-told passes in
       omega (arith, told .blocks, ap length (told .are), visits-few allowance 0 first w)
+
+  -- A run that does not pass leaves the world as it was.
+  pub not-passed : (Passes first allowance w → ⊥) → end .world ≡ w
+  not-passed refused = by-standing stands
+    where
+      by-standing : Stands → end .world ≡ w
+      by-standing (short less e) = ap (λ (x : Ending). x .world) e
+      by-standing (bad long no-good e) = ap (λ (x : Ending). x .world) e
+      by-standing (misplaced long good out e) = ap (λ (x : Ending). x .world) e
+      by-standing (past passes) = absurd (refused passes)

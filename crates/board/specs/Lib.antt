@@ -1,6 +1,7 @@
 pub mod Block
 pub mod Chain
 pub mod Events
+pub mod Footprint
 pub mod Inspection
 pub mod Steps
 pub mod Visits

@@ -3,8 +3,9 @@
 use Prim.Native.Nat.{ℕ, zero, suc, _+_, _-_, _≤_, _<_}
 use mathlib.Core.Bool.{Bool, true, false}
 use mathlib.Core.List.{List, [], _∷_}
-use mathlib.Core.Logic.{ite}
+use mathlib.Core.Logic.{ite, Dec·and}
 use mathlib.Core.Path.{_≡_}
+use native.Mathlib.Decide.{decLe, map-dec}
 use lib.ListN.{length}
 use Rattle.answers.specs.declared.BlockAnswer.{BlockAnswer}
 use Rattle.answers.specs.declared.BlockAnswer.the-variants.{Ended, Failed}
@@ -47,6 +48,24 @@ visits (suc left) i at w =
     ite (inMemory? (w .host) at 28)
     (v ∷ onwards (effectOf v .answer) (blockOf v .options .link) (visits left (i + 1) (blockOf v .link) (worldThen v)))
     []
+
+-- What checks 1, 2 and 3 ask of a run.
+pub record Passes (first allowance : ℕ) (w : World) : Type 0 where
+  pub events : 512 ≤ length (w .events)
+  pub least : 1 ≤ allowance
+  pub most : allowance ≤ 64
+  pub place : InMemory (w .host) first 28
+
+pub passes? : (first allowance : ℕ) (w : World) → Dec (Passes first allowance w)
+passes? first allowance w =
+    map-dec (λ d. record { events = d .0; least = d .1 .0; most = d .1 .1 .0; place = d .1 .1 .1 })
+    (λ p. (p .events, (p .least, (p .most, p .place))))
+    (Dec·and (decLe 512 (length (w .events)))
+    (Dec·and (decLe 1 allowance) (Dec·and (decLe allowance 64) (inMemory? (w .host) first 28))))
+
+-- The blocks that a run fetches: a refused run fetches none.
+unfoldable pub fetchedBy : ℕ → ℕ → World → List Visit
+fetchedBy first allowance w = ite (passes? first allowance w) (visits allowance 0 first w) []
 
 -- The last of some blocks, of which there is at least the first.
 abbrev pub lastOf : Visit → List Visit → Visit
