@@ -11,3 +11,4 @@ pub mod RunAnswers
 pub mod Runs
 pub mod Transfers
 pub mod Travel
+pub mod Written
