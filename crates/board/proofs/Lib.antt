@@ -1,3 +1,4 @@
+pub mod BlockLaws
 pub mod Chains
 pub mod Complement
 pub mod Effects

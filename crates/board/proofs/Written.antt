@@ -56,7 +56,7 @@ module _ (c d : Cell) (same : c ≡ d) where
 in-row : (cell : ℕ → Cell) (at : ℕ) (ns : List ℕ) (x : ℕ) → Among at (length ns) x → Stored (bytesFrom cell at ns) (cell x)
 in-row cell at ns x among = bytes-stored cell at ns (cell x) (x, (among, refl))
 
-of-host-row : (at : ℕ) (ns : List ℕ) (x : ℕ) → Stored (bytesFrom hostByte at ns) (hostByte x) → Among at (length ns) x
+pub of-host-row : (at : ℕ) (ns : List ℕ) (x : ℕ) → Stored (bytesFrom hostByte at ns) (hostByte x) → Among at (length ns) x
 unfolding index
 of-host-row at ns x there =
     let y = stored-of-bytes hostByte at ns (hostByte x) there in
@@ -114,7 +114,7 @@ module _ (image : List ℕ) (t : Transfer) where
           (is, (k, (less, one-index (imageByte (diskByte (t .geometry) (t .place) k)) (imageByte x) (rw is at same))))
       by-way true is k less same = absurd (never (one-kind (hostByte _) (imageByte x) (rw is at same)))
 
-  data-disk :
+  pub data-disk :
       (x : ℕ) → t .to-host ≡ false → (k : ℕ) × ((k < all) × (diskByte (t .geometry) (t .place) k ≡ x)) →
       Stored (dataOn image t) (imageByte x)
   unfolding dataOn
@@ -140,7 +140,7 @@ module _ (image : List ℕ) (t : Transfer) where
 
 module _ (b : Block) (at i : ℕ) (answer : BlockAnswer) (travel : ℤ) where
   -- A finish writes word 1 and the entry, and no image.
-  finish-host : (x : ℕ) → Stored (finish b at i answer travel) (hostByte x) → Among (at + 2) 2 x
+  pub finish-host : (x : ℕ) → Stored (finish b at i answer travel) (hostByte x) → Among (at + 2) 2 x
   unfolding kind
   finish-host x there =
       ⊎-elim (λ word. of-host-row (at + 2) (statusOf answer ∷ errorByte answer ∷ []) x word)
@@ -213,27 +213,27 @@ module _ (v : Visit) where
   abbrev image : List ℕ
   image = driveIn v .image
 
-  effect-is : (verd : Verdict) → verdictOf v ≡ verd → effectOf v ≡ judged (blockOf v) (v .at) (v .index) (v .world .host) (driveIn v) verd
+  pub effect-is : (verd : Verdict) → verdictOf v ≡ verd → effectOf v ≡ judged (blockOf v) (v .at) (v .index) (v .world .host) (driveIn v) verd
   unfolding effectAt
   effect-is verd is = effect-judged (v .world .host) (driveIn v) (v .at) (v .index) (blockOf v) verd refl is
 
   -- What comes between mark and finish.
-  between : Plan → List Store
+  pub between : Plan → List Store
   between Report = bytesFrom hostByte (v .at + 4) identityBytes
   between (Initialize g) = []
   between (Heads c) = []
   between (Format spot buffer) = dataOn image (formatting (driveIn v .unit) spot buffer)
   between (Move j) = dataOn image (transferOf (driveIn v .unit) j (dataByte (v .world .host) (j .buffer)))
 
-  record Stages (plan : Plan) : Type 0 where
-    answer : BlockAnswer
-    travel : ℤ
-    stores : effectOf v .stores ≡ staged (blockOf v) (v .at) (v .index) (between plan) answer travel
+  pub record Stages (plan : Plan) : Type 0 where
+    pub answer : BlockAnswer
+    pub travel : ℤ
+    pub stores : effectOf v .stores ≡ staged (blockOf v) (v .at) (v .index) (between plan) answer travel
 
   abbrev done : Plan → Effect
   done plan = judged (blockOf v) (v .at) (v .index) (v .world .host) (driveIn v) (Do plan)
 
-  stages : (plan : Plan) → verdictOf v ≡ Do plan → Stages plan
+  pub stages : (plan : Plan) → verdictOf v ≡ Do plan → Stages plan
   unfolding between
   stages Report is =
       record {
@@ -267,7 +267,7 @@ module _ (v : Visit) where
       }
 
   -- The transfer that a plan makes has its bytes between, and as many as the block moved.
-  made :
+  pub made :
       (plan : Plan) (t : Transfer) → verdictOf v ≡ Do plan → makes v plan t →
       (between plan ≡ dataOn image t) × (effectOf v .sectors ≡ progressOn image t .sectors)
   unfolding between

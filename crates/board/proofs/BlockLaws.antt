@@ -1,0 +1,111 @@
+-- What is asked of a block, in the reader's words: what a refusal leaves, that no mark changes, and what a stopped read leaves.
+-- Each is the exact footprint, or the transfer's own law met between the mark and the finish.
+use Prim.Native.Nat.{ℕ, _+_, _*_, _≤_, _<_}
+use mathlib.Core.Bool.{Bool, true, false}
+use mathlib.Core.List.{List, [], _∷_, _++_}
+use mathlib.Core.Logic.{_⊎_, inl, inr, ⊎-elim}
+use mathlib.Core.Path.{_≡_, refl, sym, ap, _∙_}
+use native.Mathlib.Omega.{arith}
+use lib.IntN.{pos}
+use lib.ListN.{getD, length}
+use lib.Seq.{length-sets}
+use Rattle.wire.specs.Memory.{Among}
+use Rattle.wire.proofs.Promises.{never}
+use Rattle.answers.specs.declared.BlockAnswer.{BlockAnswer}
+use Rattle.answers.specs.declared.Refusal.{Refusal}
+use Rattle.geometry.specs.Drive.{B, marksAt}
+use Rattle.judge.specs.declared.Plan.{Plan}
+use Rattle.judge.specs.declared.Plan.the-variants.{Report, Initialize, Heads, Format, Move}
+use Rattle.judge.specs.declared.Verdict.{Verdict}
+use Rattle.judge.specs.declared.Verdict.the-variants.{Refused, Do}
+use Rattle.judge.proofs.LetThrough.{format-let-through, move-let-through}
+use Rattle.request.specs.declared.UnitNumber.{UnitNumber}
+use Rattle.request.specs.declared.UnitNumber.the-variants.{Zero, One}
+use Rattle.transfer.specs.Data.{Transfer, dataOn, progressOn}
+use Rattle.transfer.specs.Stores.{Stored, after, hostByte, imageByte}
+use Rattle.transfer.proofs.Earlier.{host-has-byte, onDisk}
+use Rattle.transfer.proofs.Marks.{StandsOnDrive, formatting-on-drive, moving-on-drive, no-mark-stored}
+use Rattle.transfer.proofs.Stays.{unstored-stays}
+use Rattle.board.specs.Block.{Effect, dataByte, effectAt, worldAfter}
+use Rattle.board.specs.Footprint.{HostData, HostWritten, ImageWritten, Makes, driveIn, makes, names, verdictOf}
+use Rattle.board.specs.Visits.{Visit, blockOf, effectOf, worldThen}
+use Rattle.board.specs.World.{Drive, World, buffersOf, changed, driveOf}
+use Rattle.board.proofs.Keeps.{block-keeps-drive, block-keeps-events, block-keeps-host, block-keeps-image}
+use Rattle.board.proofs.Written.{data-disk, effect-is, event-written-exactly, host-written-exactly, image-written-exactly, made}
+
+no-verdict : (r : Refusal) (p : Plan) → Refused r ≡ Do p → ⊥
+no-verdict r p e = never cc
+
+module _ (v : Visit) where
+  -- ---- a block refused before transfer
+
+  module _ (r : Refusal) (refused : verdictOf v ≡ Refused r) where
+    no-plan : (p : Plan) → verdictOf v ≡ Do p → ⊥
+    no-plan p is = no-verdict r p (sym refused ∙ is)
+
+    only-word-1 : (x : ℕ) → HostWritten v x → Among (v .at + 2) 2 x
+    only-word-1 x (inl word) = word
+    only-word-1 x (inr (inl (is, among))) = absurd (no-plan Report is)
+    only-word-1 x (inr (inr (t, ((plan, (is, mk)), rest)))) = absurd (no-plan plan is)
+
+    no-image : (x : ℕ) → ImageWritten v x → ⊥
+    no-image x (t, ((plan, (is, mk)), rest)) = no-plan plan is
+
+    -- "A block refused before transfer changes only its own status word and its event entry" (00, demand 1). Every other host
+    -- byte is as it was,
+    pub refusal-keeps-host : (x : ℕ) → (Among (v .at + 2) 2 x → ⊥) → getD (worldThen v .host) x 0 ≡ getD (v .world .host) x 0
+    refusal-keeps-host x outside = block-keeps-host v x (λ there. outside (only-word-1 x (host-written-exactly v x .1 there)))
+
+    -- every other event byte,
+    pub refusal-keeps-events : (x : ℕ) → (Among (8 * v .index) 8 x → ⊥) → getD (worldThen v .events) x 0 ≡ getD (v .world .events) x 0
+    refusal-keeps-events x outside = block-keeps-events v x (λ there. outside (event-written-exactly v x .1 there))
+
+    -- every image byte of both units,
+    pub refusal-keeps-images :
+        (n : UnitNumber) (x : ℕ) → getD (driveOf (worldThen v) n .image) x 0 ≡ getD (driveOf (v .world) n .image) x 0
+    refusal-keeps-images n x = block-keeps-image v n x (λ there. no-image x (image-written-exactly v x .1 (there .1)))
+
+    -- both records; and it moved nothing.
+    pub refusal-keeps-records : (n : UnitNumber) → driveOf (worldThen v) n .unit ≡ driveOf (v .world) n .unit
+    unfolding worldAfter
+    refusal-keeps-records n = by-unit (names v) refl n
+      where
+        by-unit :
+            (m : UnitNumber) → names v ≡ m → (n : UnitNumber) →
+            driveOf (changed (v .world) m (after (effectOf v .stores) (buffersOf (v .world) m)) (effectOf v .unit)) n .unit ≡
+            driveOf (v .world) n .unit
+        by-unit Zero is Zero = ap (λ (e : Effect). e .unit) (effect-is v (Refused r) refused) ∙ ap (λ (m : UnitNumber). driveOf (v .world) m .unit) is
+        by-unit Zero is One = refl
+        by-unit One is Zero = refl
+        by-unit One is One = ap (λ (e : Effect). e .unit) (effect-is v (Refused r) refused) ∙ ap (λ (m : UnitNumber). driveOf (v .world) m .unit) is
+
+    pub refusal-moves-nothing : (effectOf v .sectors ≡ 0) × (effectOf v .answer ≡ BlockAnswer.Failed r)
+    refusal-moves-nothing = (
+      ap (λ (e : Effect). e .sectors) (effect-is v (Refused r) refused),
+      ap (λ (e : Effect). e .answer) (effect-is v (Refused r) refused),
+    )
+
+  -- ---- marks
+
+  on-drive : (plan : Plan) (t : Transfer) → verdictOf v ≡ Do plan → makes v plan t → StandsOnDrive t × (t .geometry ≡ driveIn v .unit .geometry)
+  on-drive (Move j) t is mk =
+      rw mk
+      (moving-on-drive (driveIn v .unit) (j .«to_host») (j .«past_marks») (j .volume) (j .first) (j .count) (dataByte (v .world .host) (j .buffer))
+      (move-let-through _ j is .sectors), refl)
+  on-drive (Format s b) t is mk = rw mk (formatting-on-drive (driveIn v .unit) s b (format-let-through _ s b is .track), refl)
+  on-drive Report t is mk = absurd mk
+  on-drive (Initialize g) t is mk = absurd mk
+  on-drive (Heads c) t is mk = absurd mk
+
+  -- "No command changes a mark" (01, One run), and "Bytes after that are never touched" (01, Geometry): whatever a block does, every
+  -- byte of its unit's image from the marks on is as it was.
+  pub no-mark-changes :
+      (x : ℕ) → marksAt (driveIn v .unit .geometry) ≤ x →
+      getD (driveOf (worldThen v) (names v) .image) x 0 ≡ getD (driveIn v .image) x 0
+  no-mark-changes x from = block-keeps-image v (names v) x (λ there. none (image-written-exactly v x .1 (there .1)))
+    where
+      none : ImageWritten v x → ⊥
+      none (t, ((plan, (is, mk)), (way, (k, (less, here))))) =
+          let on = on-drive plan t is mk in
+          no-mark-stored (driveIn v .image) t (on .0) x (rw (on .1) from)
+          (data-disk (driveIn v .image) t x way (k, (rw (made v plan t is mk .1) at less, here)))
