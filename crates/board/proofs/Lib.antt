@@ -12,4 +12,5 @@ pub mod RunAnswers
 pub mod Runs
 pub mod Transfers
 pub mod Travel
+pub mod VersionTwo
 pub mod Written

@@ -9,6 +9,7 @@ pub mod Outcomes
 pub mod Progress
 pub mod Rows
 pub mod Stays
+pub mod Stops
 pub mod Stores
 pub mod Survey
 pub mod Tracks

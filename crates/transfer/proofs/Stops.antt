@@ -1,0 +1,100 @@
+-- Answer 20 in its case: a transfer that was stopped as unreadable heeds the marks, and the sector that stopped it is the first
+-- whose mark is not 0. The fate of each sector says which it was.
+use Prim.Native.Nat.{ℕ, zero, suc, _+_, _≤_, _<_}
+use mathlib.Core.Bool.{Bool, true, false, cond}
+use mathlib.Core.List.{List}
+use mathlib.Core.Logic.{by-cases, if-neg, if-pos}
+use mathlib.Core.Path.{_≡_, refl, sym, ap, _∙_}
+use native.Mathlib.Nat.{zero-add}
+use native.Mathlib.Omega.{arith}
+use borrow.Author.Tests.{eqb-false, eqb-true}
+use lib.Dec.{eqb}
+use lib.ListN.{getD, length}
+use Rattle.answers.specs.declared.BlockAnswer.{BlockAnswer}
+use Rattle.answers.specs.declared.Refusal.{Refusal}
+use Rattle.answers.specs.Numbers.{refusalNumber}
+use Rattle.geometry.specs.declared.Geometry.{Geometry}
+use Rattle.geometry.specs.Sectors.{markByte}
+use Rattle.transfer.specs.Data.{Transfer, progressOn}
+use Rattle.transfer.specs.Progress.{Fate, Progress, fateAt, inImage?, moves, onward, progress, stops}
+use Rattle.transfer.proofs.Progress.{Counts, progress-counts, progress-moved}
+
+-- The number of a fate: 0 moved, and otherwise its answer's.
+fate-number : Fate → ℕ
+fate-number moves = 0
+fate-number (stops r) = refusalNumber r
+
+answer-number : BlockAnswer → ℕ
+answer-number BlockAnswer.Ended = 0
+answer-number (BlockAnswer.Failed r) = refusalNumber r
+
+-- The sector after those that were moved is the one that stopped a transfer, with that answer.
+pub stopped-there :
+    (fate : ℕ → Fate) (j n : ℕ) (r : Refusal) →
+    progress fate j n .answer ≡ BlockAnswer.Failed r → fate (progress fate j n .sectors) ≡ stops r
+unfolding progress answer-number
+stopped-there fate j zero r is = let z : _≡_ {A = ℕ} 0 1 = cc in absurd (omega arith)
+stopped-there fate j (suc n) r is = by-fate (fate j) refl is (stopped-there fate (suc j) n r)
+  where
+    by-fate :
+        (f : Fate) → fate j ≡ f → onward f j (progress fate (suc j) n) .answer ≡ BlockAnswer.Failed r →
+        (progress fate (suc j) n .answer ≡ BlockAnswer.Failed r → fate (progress fate (suc j) n .sectors) ≡ stops r) →
+        fate (onward f j (progress fate (suc j) n) .sectors) ≡ stops r
+    by-fate moves here is rest = rest is
+    by-fate (stops x) here is rest = let same : x ≡ r = cc in here ∙ ap stops same
+
+module _ (image : List ℕ) (g : Geometry) (place : ℕ) where
+  abbrev mark : ℕ
+  mark = getD image (markByte g place) 0
+
+  unreadable-fate : (heeds : Bool) → fateAt image g heeds place ≡ stops Refusal.Unreadable → (heeds ≡ true) × (mark ≡ 0 → ⊥)
+  unfolding fateAt fate-number
+  unreadable-fate heeds is =
+      by-cases (inImage? g (length image) place)
+      (λ in-it. by-heeds heeds refl (sym (if-pos (inImage? g (length image) place) in-it _ _) ∙ is))
+      (λ out. absurd (omega (arith, ap fate-number (sym (if-neg (inImage? g (length image) place) out _ _) ∙ is))))
+    where
+      by-mark :
+          (zero? : Bool) → eqb mark 0 ≡ zero? → cond zero? moves (stops Refusal.Unreadable) ≡ stops Refusal.Unreadable → mark ≡ 0 → ⊥
+      by-mark true e same good = omega (arith, ap fate-number same)
+      by-mark false e same good = eqb-false mark 0 e good
+
+      by-heeds :
+          (h : Bool) → heeds ≡ h → cond h (cond (eqb mark 0) moves (stops Refusal.Unreadable)) moves ≡ stops Refusal.Unreadable →
+          (heeds ≡ true) × (mark ≡ 0 → ⊥)
+      by-heeds true e same = (e, by-mark (eqb mark 0) refl same)
+      by-heeds false e same = absurd (omega (arith, ap fate-number same))
+
+  moved-fate : fateAt image g true place ≡ moves → mark ≡ 0
+  unfolding fateAt fate-number
+  moved-fate is =
+      by-cases (inImage? g (length image) place)
+      (λ in-it. by-mark (eqb mark 0) refl (sym (if-pos (inImage? g (length image) place) in-it _ _) ∙ is))
+      (λ out. absurd (omega (arith, ap fate-number (sym (if-neg (inImage? g (length image) place) out _ _) ∙ is))))
+    where
+      by-mark : (zero? : Bool) → eqb mark 0 ≡ zero? → cond zero? moves (stops Refusal.Unreadable) ≡ moves → mark ≡ 0
+      by-mark true e same = eqb-true mark 0 e
+      by-mark false e same = absurd (omega (arith, ap fate-number same))
+
+-- A transfer stopped as unreadable: it heeds the marks, j sectors were moved, all of them good, and the next is there and is not.
+pub record StoppedAtAMark (image : List ℕ) (t : Transfer) : Type 0 where
+  pub heeds : t .heeds ≡ true
+  pub there : progressOn image t .sectors < t .count
+  pub bad : getD image (markByte (t .geometry) (t .place (progressOn image t .sectors))) 0 ≡ 0 → ⊥
+  pub good : (j : ℕ) → j < progressOn image t .sectors → getD image (markByte (t .geometry) (t .place j)) 0 ≡ 0
+
+pub unreadable-means :
+    (image : List ℕ) (t : Transfer) → progressOn image t .answer ≡ BlockAnswer.Failed Refusal.Unreadable → StoppedAtAMark image t
+unreadable-means image t is =
+    let fate : ℕ → Fate = λ j. fateAt image (t .geometry) (t .heeds) (t .place j) in
+    let s = progressOn image t .sectors in
+    let stop = unreadable-fate image (t .geometry) (t .place s) (t .heeds) (stopped-there fate 0 (t .count) Refusal.Unreadable is) in
+    let short : s < 0 + t .count = rw is at (progress-counts fate 0 (t .count) .1) in
+    record {
+      heeds = stop .0;
+      there = rw zero-add at short;
+      bad = stop .1;
+      good = λ j j<.
+          moved-fate image (t .geometry) (t .place j)
+          (rw (stop .0) at (progress-moved fate 0 (t .count) j (omega arith) j<));
+    }
