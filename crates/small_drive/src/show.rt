@@ -1,0 +1,84 @@
+// Lines of output. What a run came to is printed as the paper's session program prints it.
+use crate::bytes::at;
+use board::Outcome;
+use libc::STDOUT_FILENO;
+
+pub fn text(text: &[u8]) {
+    io::write_all(STDOUT_FILENO, text);
+}
+
+pub fn decimal(text: &[u8], number: u64) {
+    io::write_all(STDOUT_FILENO, text);
+    io::print_decimal(STDOUT_FILENO, number);
+}
+
+pub fn line(text: &[u8], number: u64) {
+    decimal(text, number);
+    io::write_all(STDOUT_FILENO, b"\n");
+}
+
+// A byte in two hex digits.
+pub fn hex(text: &[u8], byte: u8) {
+    io::write_all(STDOUT_FILENO, text);
+    io::print_hex(STDOUT_FILENO, byte as u64, 2);
+}
+
+// Two bytes in hex, the one at a place and the next.
+pub fn pair(text: &[u8], bytes: &[u8], from: u32, i: u8) {
+    hex(text, at(bytes, from, i as u32));
+    hex(b" ", at(bytes, from, (i as u32) + 1));
+    io::write_all(STDOUT_FILENO, b"\n");
+}
+
+// A word in four hex digits, with no line end.
+pub fn word(text: &[u8], bytes: &[u8], from: u32, i: u8) {
+    hex(text, at(bytes, from, i as u32));
+    hex(b"", at(bytes, from, (i as u32) + 1));
+}
+
+// A travel, from the 32 bits of its two's complement.
+fn travel(bits: u32) {
+    io::write_all(STDOUT_FILENO, b" travel ");
+    if bits < 0x8000_0000 {
+        line(b"", bits as u64);
+    } else {
+        line(b"-", 0x1_0000_0000 - (bits as u64));
+    }
+}
+
+fn long(bytes: &[u8], from: u32, i: u8) -> u32 {
+    let k = i as u32;
+    let a = at(bytes, from, k) as u32;
+    let b = at(bytes, from, k + 1) as u32;
+    let c = at(bytes, from, k + 2) as u32;
+    let d = at(bytes, from, k + 3) as u32;
+    a * 0x100_0000 + b * 0x1_0000 + c * 0x100 + d
+}
+
+// The event entry of the block with the index i, counted from 0. No run has more than 64.
+fn entry(events: &[u8], i: u32) {
+    let from = i % 64 * 8;
+    decimal(b"block ", (i as u64) + 1);
+    hex(b" status ", at(events, from, 0));
+    hex(b" error ", at(events, from, 1));
+    hex(b" level ", at(events, from, 2));
+    hex(b" vector ", at(events, from, 3));
+    travel(long(events, from, 4));
+}
+
+// A run, and each block that it ran.
+pub fn run(out: Outcome, events: &[u8]) {
+    let answer = out.answer;
+    decimal(b"run answer ", answer.number() as u64);
+    decimal(b" blocks ", out.blocks as u64);
+    line(b" sectors ", out.sectors as u64);
+    entries(events, out.blocks);
+}
+
+fn entries(events: &[u8], n: u32) {
+    let mut i = 0;
+    while i < n {
+        entry(events, i);
+        i += 1;
+    }
+}
