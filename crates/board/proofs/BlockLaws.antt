@@ -3,31 +3,31 @@
 use Prim.Native.Nat.{ℕ, _+_, _*_, _≤_, _<_}
 use mathlib.Core.Bool.{Bool, true, false}
 use mathlib.Core.List.{List, [], _∷_, _++_}
-use mathlib.Core.Logic.{_⊎_, inl, inr, ⊎-elim}
+use mathlib.Core.Logic.{_⊎_, _↔_, inl, inr}
 use mathlib.Core.Path.{_≡_, refl, sym, ap, _∙_}
 use native.Mathlib.Omega.{arith}
-use lib.IntN.{pos}
 use lib.ListN.{getD, length}
-use lib.Seq.{length-sets}
 use Rattle.wire.specs.Memory.{Among}
 use Rattle.wire.proofs.Promises.{never}
 use Rattle.answers.specs.declared.BlockAnswer.{BlockAnswer}
 use Rattle.answers.specs.declared.Refusal.{Refusal}
-use Rattle.geometry.specs.Drive.{B, marksAt}
+use Rattle.answers.specs.Numbers.{refusalNumber}
+use Rattle.geometry.specs.Drive.{marksAt, need}
+use Rattle.geometry.proofs.Laws.{sector-in-image}
 use Rattle.judge.specs.declared.Plan.{Plan}
 use Rattle.judge.specs.declared.Plan.the-variants.{Report, Initialize, Heads, Format, Move}
 use Rattle.judge.specs.declared.Verdict.{Verdict}
 use Rattle.judge.specs.declared.Verdict.the-variants.{Refused, Do}
-use Rattle.judge.proofs.LetThrough.{format-let-through, move-let-through}
+use Rattle.judge.proofs.LetThrough.{format-let-through, move-let-through, refused-before-transfer}
 use Rattle.request.specs.declared.UnitNumber.{UnitNumber}
 use Rattle.request.specs.declared.UnitNumber.the-variants.{Zero, One}
-use Rattle.transfer.specs.Data.{Transfer, dataOn, progressOn}
-use Rattle.transfer.specs.Stores.{Stored, after, hostByte, imageByte}
-use Rattle.transfer.proofs.Earlier.{host-has-byte, onDisk}
+use Rattle.transfer.specs.Data.{Transfer, formatting, progressOn}
+use Rattle.transfer.specs.Progress.{InImage}
+use Rattle.transfer.proofs.Stops.{StoppedAtAMark, means-unreadable, unreadable-means}
+use Rattle.transfer.specs.Stores.{after}
 use Rattle.transfer.proofs.Marks.{StandsOnDrive, formatting-on-drive, moving-on-drive, no-mark-stored}
-use Rattle.transfer.proofs.Stays.{unstored-stays}
-use Rattle.board.specs.Block.{Effect, dataByte, effectAt, worldAfter}
-use Rattle.board.specs.Footprint.{HostData, HostWritten, ImageWritten, Makes, driveIn, makes, names, verdictOf}
+use Rattle.board.specs.Block.{Effect, dataByte, transferOf, worldAfter}
+use Rattle.board.specs.Footprint.{HostWritten, ImageWritten, Makes, driveIn, makes, names, verdictOf}
 use Rattle.board.specs.Visits.{Visit, blockOf, effectOf, worldThen}
 use Rattle.board.specs.World.{Drive, World, buffersOf, changed, driveOf}
 use Rattle.board.proofs.Keeps.{block-keeps-drive, block-keeps-events, block-keeps-host, block-keeps-image}
@@ -89,9 +89,11 @@ module _ (v : Visit) where
 
   on-drive : (plan : Plan) (t : Transfer) → verdictOf v ≡ Do plan → makes v plan t → StandsOnDrive t × (t .geometry ≡ driveIn v .unit .geometry)
   on-drive (Move j) t is mk =
-      rw mk
-      (moving-on-drive (driveIn v .unit) (j .«to_host») (j .«past_marks») (j .volume) (j .first) (j .count) (dataByte (v .world .host) (j .buffer))
-      (move-let-through _ j is .sectors), refl)
+      rw mk (
+        moving-on-drive (driveIn v .unit) (j .«to_host») (j .«past_marks») (j .volume) (j .first) (j .count) (dataByte (v .world .host) (j .buffer))
+            (move-let-through _ j is .sectors),
+        refl,
+      )
   on-drive (Format s b) t is mk = rw mk (formatting-on-drive (driveIn v .unit) s b (format-let-through _ s b is .track), refl)
   on-drive Report t is mk = absurd mk
   on-drive (Initialize g) t is mk = absurd mk
@@ -109,3 +111,74 @@ module _ (v : Visit) where
           let on = on-drive plan t is mk in
           no-mark-stored (driveIn v .image) t (on .0) x (rw (on .1) from)
           (data-disk (driveIn v .image) t x way (k, (rw (made v plan t is mk .1) at less, here)))
+
+  -- ---- answer 20
+
+  answer-number : BlockAnswer → ℕ
+  answer-number BlockAnswer.Ended = 0
+  answer-number (BlockAnswer.Failed r) = refusalNumber r
+
+  transfer-answers :
+      (plan : Plan) (t : Transfer) → verdictOf v ≡ Do plan → makes v plan t → effectOf v .answer ≡ progressOn (driveIn v .image) t .answer
+  transfer-answers (Move j) t is mk = rw mk (ap (λ (e : Effect). e .answer) (effect-is v (Do (Move j)) is))
+  transfer-answers (Format s b) t is mk = rw mk (ap (λ (e : Effect). e .answer) (effect-is v (Do (Format s b)) is))
+  transfer-answers Report t is mk = absurd mk
+  transfer-answers (Initialize g) t is mk = absurd mk
+  transfer-answers (Heads c) t is mk = absurd mk
+
+  -- A transfer that was let through has every sector in the image.
+  all-in-image :
+      (plan : Plan) (t : Transfer) → verdictOf v ≡ Do plan → makes v plan t → (j : ℕ) → j < t .count →
+      InImage (t .geometry) (length (driveIn v .image)) (t .place j)
+  all-in-image plan t is mk j less =
+      let on = on-drive plan t is mk in
+      let long : need (t .geometry) ≤ length (driveIn v .image) = rw (on .1) (long-enough plan t is mk) in
+      let image = sector-in-image (t .geometry) (length (driveIn v .image)) (t .place j) long (on .0 j less) in
+      record { bytes = image .0; mark = image .1 }
+    where
+      long-enough : (q : Plan) (s : Transfer) → verdictOf v ≡ Do q → makes v q s → need (driveIn v .unit .geometry) ≤ length (driveIn v .image)
+      long-enough (Move j) s is mk = move-let-through _ j is .image
+      long-enough (Format x y) s is mk = format-let-through _ x y is .image
+      long-enough Report s is mk = absurd mk
+      long-enough (Initialize g) s is mk = absurd mk
+      long-enough (Heads c) s is mk = absurd mk
+
+  abbrev Stopped : Type 0
+  Stopped = (t : Transfer) × (Makes v t × StoppedAtAMark (driveIn v .image) t)
+
+  -- 20: "unreadable sector, DE clear; earlier sectors moved", exactly where the block makes a transfer that heeds the marks and
+  -- that comes to one that is not 0, all before it being 0.
+  pub answer-20-exactly : (effectOf v .answer ≡ BlockAnswer.Failed Refusal.Unreadable) ↔ Stopped
+  unfolding answer-number
+  answer-20-exactly = (by-verdict (verdictOf v) refl, by-stop)
+    where
+      by-plan :
+          (plan : Plan) → verdictOf v ≡ Do plan → effectOf v .answer ≡ BlockAnswer.Failed Refusal.Unreadable → Stopped
+      by-plan (Move j) is e =
+          let t = transferOf (driveIn v .unit) j (dataByte (v .world .host) (j .buffer)) in
+          (t, ((Move j, (is, refl)), unreadable-means (driveIn v .image) t (sym (transfer-answers (Move j) t is refl) ∙ e)))
+      by-plan (Format s b) is e =
+          let t = formatting (driveIn v .unit) s b in
+          (t, ((Format s b, (is, refl)), unreadable-means (driveIn v .image) t (sym (transfer-answers (Format s b) t is refl) ∙ e)))
+      by-plan Report is e =
+          absurd (omega (arith, ap answer-number (sym (ap (λ (x : Effect). x .answer) (effect-is v (Do Report) is)) ∙ e)))
+      by-plan (Initialize g) is e =
+          absurd (omega (arith, ap answer-number (sym (ap (λ (x : Effect). x .answer) (effect-is v (Do (Initialize g)) is)) ∙ e)))
+      by-plan (Heads c) is e =
+          absurd (omega (arith, ap answer-number (sym (ap (λ (x : Effect). x .answer) (effect-is v (Do (Heads c)) is)) ∙ e)))
+
+      by-verdict :
+          (verd : Verdict) → verdictOf v ≡ verd → effectOf v .answer ≡ BlockAnswer.Failed Refusal.Unreadable → Stopped
+      by-verdict (Refused r) is e =
+          absurd
+          (omega (
+            arith,
+            refused-before-transfer _ r is,
+            ap answer-number (sym (ap (λ (x : Effect). x .answer) (effect-is v (Refused r) is)) ∙ e),
+          ))
+      by-verdict (Do plan) is e = by-plan plan is e
+
+      by-stop : Stopped → effectOf v .answer ≡ BlockAnswer.Failed Refusal.Unreadable
+      by-stop (t, ((plan, (is, mk)), stop)) =
+          transfer-answers plan t is mk
+          ∙ means-unreadable (driveIn v .image) t (all-in-image plan t is mk (progressOn (driveIn v .image) t .sectors) (stop .there)) stop

@@ -3,11 +3,12 @@
 use Prim.Native.Nat.{ℕ, _+_, _*_, _≤_, _<_}
 use mathlib.Core.List.{List, [], _∷_}
 use mathlib.Core.Logic.{by-cases, if-neg, if-pos}
-use mathlib.Core.Path.{_≡_, refl, sym, ap, _∙_}
+use mathlib.Core.Path.{_≡_, refl, sym, ap, subst, _∙_}
 use native.Mathlib.Omega.{arith}
 use Rattle.wire.specs.Memory.{InMemory}
 use Rattle.wire.proofs.Promises.{never as impossible}
 use Rattle.answers.specs.declared.Refusal.{Refusal}
+use Rattle.answers.specs.Numbers.{refusalNumber}
 use Rattle.geometry.specs.declared.Number.{Number}
 use Rattle.geometry.specs.declared.Number.the-variants.{Is, Outside}
 use Rattle.geometry.specs.Drive.{B, S, driveSectors, need, volumeSectors}
@@ -163,3 +164,29 @@ move-let-through a j e = not-a-move (a .unit) (a .image) (a .host) (a .task) j e
 pub format-let-through :
     (a : Asked) (spot : Spot) (buffer : ℕ) → verdict a ≡ Verdict.Do (Plan.Format spot buffer) → FormatAccepted a spot buffer
 format-let-through a spot buffer e = not-a-format (a .unit) (a .image) (a .host) (a .task) spot buffer e
+
+-- ---- what a refusal's answer may be
+
+AllAnswers : (Refusal → Type 0) → List Check → Type 0
+AllAnswers P [] = Unit {0}
+AllAnswers P (k ∷ ks) = P (k .answer) × AllAnswers P ks
+
+answer-is : (r s : Refusal) → Verdict.Refused r ≡ Verdict.Refused s → r ≡ s
+answer-is r s e = cc
+
+-- A refusal is the answer of one of the checks.
+refused-by : (P : Refusal → Type 0) (ks : List Check) (p : Plan) (r : Refusal) → AllAnswers P ks → first ks p ≡ Verdict.Refused r → P r
+unfolding first AllAnswers
+refused-by P [] p r all e = absurd (no-refusal (sym e))
+refused-by P (k ∷ ks) p r all e =
+    by-cases (k .given?)
+    (λ given. subst P (answer-is (k .answer) r (sym (if-pos (k .given?) given _ _) ∙ e)) (all .0))
+    (λ out. refused-by P ks p r (all .1) (sym (if-neg (k .given?) out _ _) ∙ e))
+
+-- So it is one of 10 to 19: the judgement knows no others.
+pub refused-before-transfer : (a : Asked) (r : Refusal) → verdict a ≡ Verdict.Refused r → (10 ≤ refusalNumber r) × (refusalNumber r ≤ 19)
+unfolding verdict AllAnswers
+refused-before-transfer a r e =
+    refused-by (λ s. (10 ≤ refusalNumber s) × (refusalNumber s ≤ 19)) (checks a) _ r
+    ((omega arith), ((omega arith), ((omega arith), ((omega arith), ((omega arith), ((omega arith), ((omega arith), ((omega arith), ((omega arith), ((omega arith), tt))))))))))
+    e

@@ -7,7 +7,7 @@ use mathlib.Core.Logic.{by-cases, if-neg, if-pos}
 use mathlib.Core.Path.{_≡_, refl, sym, ap, _∙_}
 use native.Mathlib.Nat.{zero-add}
 use native.Mathlib.Omega.{arith}
-use borrow.Author.Tests.{eqb-false, eqb-true}
+use borrow.Author.Tests.{eqb-false, eqb-true, ne-eqb}
 use lib.Dec.{eqb}
 use lib.ListN.{getD, length}
 use Rattle.answers.specs.declared.BlockAnswer.{BlockAnswer}
@@ -16,7 +16,7 @@ use Rattle.answers.specs.Numbers.{refusalNumber}
 use Rattle.geometry.specs.declared.Geometry.{Geometry}
 use Rattle.geometry.specs.Sectors.{markByte}
 use Rattle.transfer.specs.Data.{Transfer, progressOn}
-use Rattle.transfer.specs.Progress.{Fate, Progress, fateAt, inImage?, moves, onward, progress, stops}
+use Rattle.transfer.specs.Progress.{Fate, InImage, Progress, fateAt, inImage?, moves, onward, progress, stops}
 use Rattle.transfer.proofs.Progress.{Counts, progress-counts, progress-moved}
 
 -- The number of a fate: 0 moved, and otherwise its answer's.
@@ -76,6 +76,12 @@ module _ (image : List ℕ) (g : Geometry) (place : ℕ) where
       by-mark true e same = eqb-true mark 0 e
       by-mark false e same = absurd (omega (arith, ap fate-number same))
 
+  marked-fate :
+      (heeds : Bool) → InImage g (length image) place → heeds ≡ true → (mark ≡ 0 → ⊥) → fateAt image g heeds place ≡ stops Refusal.Unreadable
+  unfolding fateAt
+  marked-fate heeds in-it heeded bad =
+      if-pos (inImage? g (length image) place) in-it _ _ ∙ rw (heeded, ne-eqb mark 0 bad)
+
 -- A transfer stopped as unreadable: it heeds the marks, j sectors were moved, all of them good, and the next is there and is not.
 pub record StoppedAtAMark (image : List ℕ) (t : Transfer) : Type 0 where
   pub heeds : t .heeds ≡ true
@@ -98,3 +104,25 @@ unreadable-means image t is =
           moved-fate image (t .geometry) (t .place j)
           (rw (stop .0) at (progress-moved fate 0 (t .count) j (omega arith) j<));
     }
+
+-- The other way: where the sector that comes next is in the image and its mark, heeded, is not 0, that is the answer.
+pub means-unreadable :
+    (image : List ℕ) (t : Transfer) → InImage (t .geometry) (length image) (t .place (progressOn image t .sectors)) →
+    StoppedAtAMark image t → progressOn image t .answer ≡ BlockAnswer.Failed Refusal.Unreadable
+means-unreadable image t in-it stop =
+    by-answer (progressOn image t .answer) refl
+    (progress-counts (λ j. fateAt image (t .geometry) (t .heeds) (t .place j)) 0 (t .count) .1)
+  where
+    here : fateAt image (t .geometry) (t .heeds) (t .place (progressOn image t .sectors)) ≡ stops Refusal.Unreadable
+    here = marked-fate image (t .geometry) (t .place (progressOn image t .sectors)) (t .heeds) in-it (stop .heeds) (stop .bad)
+
+    by-answer :
+        (x : BlockAnswer) → progressOn image t .answer ≡ x → Counts x (progressOn image t .sectors) (0 + t .count) →
+        x ≡ BlockAnswer.Failed Refusal.Unreadable
+    by-answer BlockAnswer.Ended is counts = absurd (omega (arith, stop .there))
+    by-answer (BlockAnswer.Failed r) is counts =
+        ap (λ (x : Refusal). BlockAnswer.Failed x)
+        (same-stop (sym (stopped-there (λ j. fateAt image (t .geometry) (t .heeds) (t .place j)) 0 (t .count) r is) ∙ here))
+      where
+        same-stop : stops r ≡ stops Refusal.Unreadable → r ≡ Refusal.Unreadable
+        same-stop e = cc
