@@ -27,8 +27,8 @@ use Rattle.transfer.proofs.Stops.{StoppedAtAMark, means-unreadable, unreadable-
 use Rattle.transfer.specs.Stores.{after}
 use Rattle.transfer.proofs.Marks.{StandsOnDrive, formatting-on-drive, moving-on-drive, no-mark-stored}
 use Rattle.board.specs.Block.{Effect, dataByte, transferOf, worldAfter}
-use Rattle.board.specs.Footprint.{HostWritten, ImageWritten, Makes, driveIn, makes, names, verdictOf}
-use Rattle.board.specs.Visits.{Visit, blockOf, effectOf, worldThen}
+use Rattle.board.specs.Footprint.{HostWritten, ImageWritten, Makes, namedDrive, makes, names, verdictOf}
+use Rattle.board.specs.Visits.{Visit, blockOf, effectOf, worldLeft}
 use Rattle.board.specs.World.{Drive, World, buffersOf, changed, driveOf}
 use Rattle.board.proofs.Keeps.{block-keeps-drive, block-keeps-events, block-keeps-host, block-keeps-image}
 use Rattle.board.proofs.Written.{data-disk, effect-is, event-written-exactly, host-written-exactly, image-written-exactly, made}
@@ -53,20 +53,20 @@ module _ (v : Visit) where
 
     -- "A block refused before transfer changes only its own status word and its event entry" (00, demand 1). Every other host
     -- byte is as it was,
-    pub refusal-keeps-host : (x : ℕ) → (Among (v .at + 2) 2 x → ⊥) → getD (worldThen v .host) x 0 ≡ getD (v .world .host) x 0
+    pub refusal-keeps-host : (x : ℕ) → (Among (v .at + 2) 2 x → ⊥) → getD (worldLeft v .host) x 0 ≡ getD (v .world .host) x 0
     refusal-keeps-host x outside = block-keeps-host v x (λ there. outside (only-word-1 x (host-written-exactly v x .1 there)))
 
     -- every other event byte,
-    pub refusal-keeps-events : (x : ℕ) → (Among (8 * v .index) 8 x → ⊥) → getD (worldThen v .events) x 0 ≡ getD (v .world .events) x 0
+    pub refusal-keeps-events : (x : ℕ) → (Among (8 * v .index) 8 x → ⊥) → getD (worldLeft v .events) x 0 ≡ getD (v .world .events) x 0
     refusal-keeps-events x outside = block-keeps-events v x (λ there. outside (event-written-exactly v x .1 there))
 
     -- every image byte of both units,
     pub refusal-keeps-images :
-        (n : UnitNumber) (x : ℕ) → getD (driveOf (worldThen v) n .image) x 0 ≡ getD (driveOf (v .world) n .image) x 0
+        (n : UnitNumber) (x : ℕ) → getD (driveOf (worldLeft v) n .image) x 0 ≡ getD (driveOf (v .world) n .image) x 0
     refusal-keeps-images n x = block-keeps-image v n x (λ there. no-image x (image-written-exactly v x .1 (there .1)))
 
     -- both records; and it moved nothing.
-    pub refusal-keeps-records : (n : UnitNumber) → driveOf (worldThen v) n .unit ≡ driveOf (v .world) n .unit
+    pub refusal-keeps-records : (n : UnitNumber) → driveOf (worldLeft v) n .unit ≡ driveOf (v .world) n .unit
     unfolding worldAfter
     refusal-keeps-records n = by-unit (names v) refl n
       where
@@ -87,14 +87,14 @@ module _ (v : Visit) where
 
   -- ---- marks
 
-  on-drive : (plan : Plan) (t : Transfer) → verdictOf v ≡ Do plan → makes v plan t → StandsOnDrive t × (t .geometry ≡ driveIn v .unit .geometry)
+  on-drive : (plan : Plan) (t : Transfer) → verdictOf v ≡ Do plan → makes v plan t → StandsOnDrive t × (t .geometry ≡ namedDrive v .unit .geometry)
   on-drive (Move j) t is mk =
       rw mk (
-        moving-on-drive (driveIn v .unit) (j .«to_host») (j .«past_marks») (j .volume) (j .first) (j .count) (dataByte (v .world .host) (j .buffer))
+        moving-on-drive (namedDrive v .unit) (j .«to_host») (j .«past_marks») (j .volume) (j .first) (j .count) (dataByte (v .world .host) (j .buffer))
             (move-let-through _ j is .sectors),
         refl,
       )
-  on-drive (Format s b) t is mk = rw mk (formatting-on-drive (driveIn v .unit) s b (format-let-through _ s b is .track), refl)
+  on-drive (Format s b) t is mk = rw mk (formatting-on-drive (namedDrive v .unit) s b (format-let-through _ s b is .track), refl)
   on-drive Report t is mk = absurd mk
   on-drive (Initialize g) t is mk = absurd mk
   on-drive (Heads c) t is mk = absurd mk
@@ -102,15 +102,15 @@ module _ (v : Visit) where
   -- "No command changes a mark" (01, One run), and "Bytes after that are never touched" (01, Geometry): whatever a block does, every
   -- byte of its unit's image from the marks on is as it was.
   pub no-mark-changes :
-      (x : ℕ) → marksAt (driveIn v .unit .geometry) ≤ x →
-      getD (driveOf (worldThen v) (names v) .image) x 0 ≡ getD (driveIn v .image) x 0
+      (x : ℕ) → marksAt (namedDrive v .unit .geometry) ≤ x →
+      getD (driveOf (worldLeft v) (names v) .image) x 0 ≡ getD (namedDrive v .image) x 0
   no-mark-changes x from = block-keeps-image v (names v) x (λ there. none (image-written-exactly v x .1 (there .1)))
     where
       none : ImageWritten v x → ⊥
       none (t, ((plan, (is, mk)), (way, (k, (less, here))))) =
           let on = on-drive plan t is mk in
-          no-mark-stored (driveIn v .image) t (on .0) x (rw (on .1) from)
-          (data-disk (driveIn v .image) t x way (k, (rw (made v plan t is mk .1) at less, here)))
+          no-mark-stored (namedDrive v .image) t (on .0) x (rw (on .1) from)
+          (data-disk (namedDrive v .image) t x way (k, (rw (made v plan t is mk .1) at less, here)))
 
   -- ---- answer 20
 
@@ -119,7 +119,7 @@ module _ (v : Visit) where
   answer-number (BlockAnswer.Failed r) = refusalNumber r
 
   transfer-answers :
-      (plan : Plan) (t : Transfer) → verdictOf v ≡ Do plan → makes v plan t → effectOf v .answer ≡ progressOn (driveIn v .image) t .answer
+      (plan : Plan) (t : Transfer) → verdictOf v ≡ Do plan → makes v plan t → effectOf v .answer ≡ progressOn (namedDrive v .image) t .answer
   transfer-answers (Move j) t is mk = rw mk (ap (λ (e : Effect). e .answer) (effect-is v (Do (Move j)) is))
   transfer-answers (Format s b) t is mk = rw mk (ap (λ (e : Effect). e .answer) (effect-is v (Do (Format s b)) is))
   transfer-answers Report t is mk = absurd mk
@@ -129,14 +129,14 @@ module _ (v : Visit) where
   -- A transfer that was let through has every sector in the image.
   all-in-image :
       (plan : Plan) (t : Transfer) → verdictOf v ≡ Do plan → makes v plan t → (j : ℕ) → j < t .count →
-      InImage (t .geometry) (length (driveIn v .image)) (t .place j)
+      InImage (t .geometry) (length (namedDrive v .image)) (t .place j)
   all-in-image plan t is mk j less =
       let on = on-drive plan t is mk in
-      let long : need (t .geometry) ≤ length (driveIn v .image) = rw (on .1) (long-enough plan t is mk) in
-      let image = sector-in-image (t .geometry) (length (driveIn v .image)) (t .place j) long (on .0 j less) in
+      let long : need (t .geometry) ≤ length (namedDrive v .image) = rw (on .1) (long-enough plan t is mk) in
+      let image = sector-in-image (t .geometry) (length (namedDrive v .image)) (t .place j) long (on .0 j less) in
       record { bytes = image .0; mark = image .1 }
     where
-      long-enough : (q : Plan) (s : Transfer) → verdictOf v ≡ Do q → makes v q s → need (driveIn v .unit .geometry) ≤ length (driveIn v .image)
+      long-enough : (q : Plan) (s : Transfer) → verdictOf v ≡ Do q → makes v q s → need (namedDrive v .unit .geometry) ≤ length (namedDrive v .image)
       long-enough (Move j) s is mk = move-let-through _ j is .image
       long-enough (Format x y) s is mk = format-let-through _ x y is .image
       long-enough Report s is mk = absurd mk
@@ -144,7 +144,7 @@ module _ (v : Visit) where
       long-enough (Heads c) s is mk = absurd mk
 
   abbrev Stopped : Type 0
-  Stopped = (t : Transfer) × (Makes v t × StoppedAtAMark (driveIn v .image) t)
+  Stopped = (t : Transfer) × (Makes v t × StoppedAtAMark (namedDrive v .image) t)
 
   -- 20: "unreadable sector, DE clear; earlier sectors moved", exactly where the block makes a transfer that heeds the marks and
   -- that comes to one that is not 0, all before it being 0.
@@ -155,11 +155,11 @@ module _ (v : Visit) where
       by-plan :
           (plan : Plan) → verdictOf v ≡ Do plan → effectOf v .answer ≡ BlockAnswer.Failed Refusal.Unreadable → Stopped
       by-plan (Move j) is e =
-          let t = transferOf (driveIn v .unit) j (dataByte (v .world .host) (j .buffer)) in
-          (t, ((Move j, (is, refl)), unreadable-means (driveIn v .image) t (sym (transfer-answers (Move j) t is refl) ∙ e)))
+          let t = transferOf (namedDrive v .unit) j (dataByte (v .world .host) (j .buffer)) in
+          (t, ((Move j, (is, refl)), unreadable-means (namedDrive v .image) t (sym (transfer-answers (Move j) t is refl) ∙ e)))
       by-plan (Format s b) is e =
-          let t = formatting (driveIn v .unit) s b in
-          (t, ((Format s b, (is, refl)), unreadable-means (driveIn v .image) t (sym (transfer-answers (Format s b) t is refl) ∙ e)))
+          let t = formatting (namedDrive v .unit) s b in
+          (t, ((Format s b, (is, refl)), unreadable-means (namedDrive v .image) t (sym (transfer-answers (Format s b) t is refl) ∙ e)))
       by-plan Report is e =
           absurd (omega (arith, ap answer-number (sym (ap (λ (x : Effect). x .answer) (effect-is v (Do Report) is)) ∙ e)))
       by-plan (Initialize g) is e =
@@ -181,4 +181,4 @@ module _ (v : Visit) where
       by-stop : Stopped → effectOf v .answer ≡ BlockAnswer.Failed Refusal.Unreadable
       by-stop (t, ((plan, (is, mk)), stop)) =
           transfer-answers plan t is mk
-          ∙ means-unreadable (driveIn v .image) t (all-in-image plan t is mk (progressOn (driveIn v .image) t .sectors) (stop .there)) stop
+          ∙ means-unreadable (namedDrive v .image) t (all-in-image plan t is mk (progressOn (namedDrive v .image) t .sectors) (stop .there)) stop

@@ -18,7 +18,7 @@ use Rattle.iopb.specs.declared.Block.{Block}
 use Rattle.iopb.specs.Layout.{blockAt}
 use Rattle.board.specs.Block.{effectAt, worldAfter}
 use Rattle.board.specs.Chain.{Ending, Tally, counted, ends, executed, fetched, follows}
-use Rattle.board.specs.Visits.{EndsWith, Visit, blockOf, effectOf, lastOf, onwards, sectorsOf, visits, worldThen}
+use Rattle.board.specs.Visits.{EndsWith, Linked, Visit, blockOf, effectOf, lastOf, leadsOn, onwards, sectorsOf, visits, worldLeft}
 use Rattle.board.specs.World.{World}
 use Rattle.board.proofs.Chains.{fetched-bad, fetched-on, fetched-spent}
 
@@ -30,7 +30,7 @@ pub record Told (e : Ending) (vs : List Visit) (left : ℕ) (t : Tally) (first :
   pub blocks : e .tally .blocks ≡ t .blocks + length (first ∷ rest)
   pub sectors : e .tally .sectors ≡ t .sectors + sectorsOf (first ∷ rest)
   pub last : EndsWith (e .answer) (e .failed) (left - length (first ∷ rest)) (lastOf first rest)
-  pub leaves : e .world ≡ worldThen (lastOf first rest)
+  pub leaves : e .world ≡ worldLeft (lastOf first rest)
 
 module _ (left : ℕ) (t : Tally) (at : ℕ) (w : World) where
   abbrev pub here : Visit
@@ -41,15 +41,15 @@ module _ (left : ℕ) (t : Tally) (at : ℕ) (w : World) where
 
   abbrev Next : Type 0
   Next =
-      InMemory (worldThen here .host) (blockOf here .link) 28 →
+      InMemory (worldLeft here .host) (blockOf here .link) 28 →
       (less : 0 < left) →
-      Told (fetched left then (blockOf here .link) (worldThen here)) (visits left (t .blocks + 1) (blockOf here .link) (worldThen here)) left then
-      (record { at = blockOf here .link; index = t .blocks + 1; world = worldThen here })
+      Told (fetched left then (blockOf here .link) (worldLeft here)) (visits left (t .blocks + 1) (blockOf here .link) (worldLeft here)) left then
+      (record { at = blockOf here .link; index = t .blocks + 1; world = worldLeft here })
 
   -- A chain that ends with its first block.
   alone :
       (answer : RunAnswer) (failed : ℕ) → EndsWith answer failed left here →
-      Told (ends answer failed then (worldThen here)) (here ∷ []) (suc left) t here
+      Told (ends answer failed then (worldLeft here)) (here ∷ []) (suc left) t here
   alone answer failed so =
       record {
         rest = [];
@@ -80,34 +80,34 @@ module _ (left : ℕ) (t : Tally) (at : ℕ) (w : World) where
       fewer = omega arith
 
   visits-bad :
-      0 < left → (InMemory (worldThen here .host) (blockOf here .link) 28 → ⊥) →
-      visits left (t .blocks + 1) (blockOf here .link) (worldThen here) ≡ []
+      0 < left → (InMemory (worldLeft here .host) (blockOf here .link) 28 → ⊥) →
+      visits left (t .blocks + 1) (blockOf here .link) (worldLeft here) ≡ []
   unfolding visits
   visits-bad some bad =
       let one : left ≡ suc (left - 1) = omega arith in
-      ap (λ (n : ℕ). visits n (t .blocks + 1) (blockOf here .link) (worldThen here)) one
-      ∙ if-neg (inMemory? (worldThen here .host) (blockOf here .link) 28) bad _ _
+      ap (λ (n : ℕ). visits n (t .blocks + 1) (blockOf here .link) (worldLeft here)) one
+      ∙ if-neg (inMemory? (worldLeft here .host) (blockOf here .link) 28) bad _ _
 
-  visits-spent : left ≡ 0 → visits left (t .blocks + 1) (blockOf here .link) (worldThen here) ≡ []
+  visits-spent : left ≡ 0 → visits left (t .blocks + 1) (blockOf here .link) (worldLeft here) ≡ []
   unfolding visits
-  visits-spent spent = ap (λ (n : ℕ). visits n (t .blocks + 1) (blockOf here .link) (worldThen here)) spent
+  visits-spent spent = ap (λ (n : ℕ). visits n (t .blocks + 1) (blockOf here .link) (worldLeft here)) spent
 
   -- By how the first block ended, and what is left.
   by-end :
       (a : BlockAnswer) (k : Bool) → effectOf here .answer ≡ a → blockOf here .options .link ≡ k → Next →
-      Told (follows a k then (worldThen here) (fetched left then (blockOf here .link) (worldThen here)))
-      (here ∷ onwards a k (visits left (t .blocks + 1) (blockOf here .link) (worldThen here))) (suc left) t here
+      Told (follows a k then (worldLeft here) (fetched left then (blockOf here .link) (worldLeft here)))
+      (here ∷ onwards a k (visits left (t .blocks + 1) (blockOf here .link) (worldLeft here))) (suc left) t here
   by-end (Failed r) k is linked next = alone RunAnswer.BlockFailed _ (r, (refl, is))
   by-end Ended false is linked next = alone RunAnswer.Done 0 (refl, (is, linked))
   by-end Ended true is linked next =
       by-cases (decLt 0 left)
       (λ some.
-      by-cases (inMemory? (worldThen here .host) (blockOf here .link) 28)
+      by-cases (inMemory? (worldLeft here .host) (blockOf here .link) 28)
       (λ good. on _ _ _ (next good some))
-      (λ bad. rw (fetched-bad left then (blockOf here .link) (worldThen here) some bad, visits-bad some bad) (alone RunAnswer.LinkBad 0 (refl, (is, (linked, (some, bad)))))))
+      (λ bad. rw (fetched-bad left then (blockOf here .link) (worldLeft here) some bad, visits-bad some bad) (alone RunAnswer.LinkBad 0 (refl, (is, (linked, (some, bad)))))))
       (λ none.
       let spent : left ≡ 0 = omega arith in
-      rw (fetched-spent left then (blockOf here .link) (worldThen here) spent, visits-spent spent)
+      rw (fetched-spent left then (blockOf here .link) (worldLeft here) spent, visits-spent spent)
       (alone RunAnswer.AllowanceSpent 0 (refl, (is, (linked, spent)))))
 
 module _ (n : ℕ) (t : Tally) (at : ℕ) (w : World) (good : InMemory (w .host) at 28) where
@@ -119,7 +119,7 @@ module _ (n : ℕ) (t : Tally) (at : ℕ) (w : World) (good : InMemory (w .host)
       visits (suc n) (t .blocks) at w ≡
       here n t at w ∷
       onwards (effectOf (here n t at w) .answer) (blockOf (here n t at w) .options .link)
-      (visits n (t .blocks + 1) (blockOf (here n t at w) .link) (worldThen (here n t at w)))
+      (visits n (t .blocks + 1) (blockOf (here n t at w) .link) (worldLeft (here n t at w)))
   unfolding visits
   visits-step = if-pos (inMemory? (w .host) at 28) good _ _
 
@@ -146,9 +146,44 @@ unfolding visits
 visits-few zero i at w = omega arith
 visits-few (suc n) i at w =
     let v : Visit = record { at = at; index = i; world = w } in
-    let rest = visits n (i + 1) (blockOf v .link) (worldThen v) in
+    let rest = visits n (i + 1) (blockOf v .link) (worldLeft v) in
     by-cases (inMemory? (w .host) at 28)
     (λ good.
     rw (if-pos (inMemory? (w .host) at 28) good _ _)
-    (omega (arith, onwards-few (effectOf v .answer) (blockOf v .options .link) rest, visits-few n (i + 1) (blockOf v .link) (worldThen v))))
+    (omega (arith, onwards-few (effectOf v .answer) (blockOf v .options .link) rest, visits-few n (i + 1) (blockOf v .link) (worldLeft v))))
     (λ bad. rw (if-neg (inMemory? (w .host) at 28) bad _ _) (omega arith))
+
+-- What a chain fetches first, if anything, is the block at its address.
+first-of :
+    (n i at : ℕ) (w : World) (v : Visit) → effectOf v .answer ≡ Ended → blockOf v .options .link ≡ true →
+    at ≡ blockOf v .link → i ≡ v .index + 1 → w ≡ worldLeft v → leadsOn v (visits n i at w)
+unfolding visits
+first-of zero i at w v is linked a b c = tt
+first-of (suc n) i at w v is linked a b c =
+    by-cases (inMemory? (w .host) at 28)
+    (λ good.
+    rw (if-pos (inMemory? (w .host) at 28) good _ _) (record { ended = is; linked = linked; at = a; index = b; world = c }))
+    (λ bad. rw (if-neg (inMemory? (w .host) at 28) bad _ _) tt)
+
+-- Every block that a chain fetches but the last ended 80 with LK set, and the next one is the one at its link, in the world that it
+-- left: "blocks in link order" (00, demand 2), and no failed block's link is followed.
+pub visits-linked : (left i at : ℕ) (w : World) → Linked (visits left i at w)
+unfolding visits
+visits-linked zero i at w = tt
+visits-linked (suc n) i at w =
+    by-cases (inMemory? (w .host) at 28)
+    (λ good.
+    rw (if-pos (inMemory? (w .host) at 28) good _ _)
+    (linked-by (effectOf v .answer) (blockOf v .options .link) refl refl (visits-linked n (i + 1) (blockOf v .link) (worldLeft v))))
+    (λ bad. rw (if-neg (inMemory? (w .host) at 28) bad _ _) tt)
+  where
+    v : Visit
+    v = record { at = at; index = i; world = w }
+
+    linked-by :
+        (a : BlockAnswer) (k : Bool) → effectOf v .answer ≡ a → blockOf v .options .link ≡ k →
+        Linked (visits n (i + 1) (blockOf v .link) (worldLeft v)) →
+        Linked (v ∷ onwards a k (visits n (i + 1) (blockOf v .link) (worldLeft v)))
+    linked-by (Failed r) k is linked rest = (tt, tt)
+    linked-by Ended false is linked rest = (tt, tt)
+    linked-by Ended true is linked rest = (first-of n (i + 1) (blockOf v .link) (worldLeft v) v is linked refl refl refl, rest)

@@ -6,6 +6,7 @@ use mathlib.Core.List.{List, [], _∷_}
 use mathlib.Core.Logic.{_↔_, Dec·and, by-cases, ite, if-neg, if-pos}
 use mathlib.Core.Path.{_≡_, refl, sym, ap, subst, _∙_}
 use native.Mathlib.Decide.{decLe, decLt, ℕ-discrete}
+use native.Mathlib.Nat.{zero-add}
 use native.Mathlib.Omega.{arith}
 use lib.ListN.{length}
 use Rattle.wire.specs.Memory.{InMemory, inMemory?}
@@ -16,7 +17,7 @@ use Rattle.answers.specs.declared.RunAnswer.{RunAnswer}
 use Rattle.answers.specs.declared.RunAnswer.the-variants.{Done, EventsShort, AllowanceBad, FirstBad, BlockFailed, LinkBad, AllowanceSpent}
 use Rattle.answers.specs.Numbers.{refusalNumber, runNumber}
 use Rattle.board.specs.Chain.{Ending, Tally, ends, fetched, nothing, ran}
-use Rattle.board.specs.Visits.{EndsWith, Passes, Visit, blockOf, effectOf, lastOf, sectorsOf, visits, worldThen}
+use Rattle.board.specs.Visits.{EndsWith, Passes, Visit, blockOf, effectOf, fetchedBy, lastOf, passes?, sectorsOf, visits}
 use Rattle.board.specs.World.{World}
 use Rattle.board.proofs.Endings.{Told, chain-told, visits-few}
 use Rattle.board.proofs.Runs.{ran-allowance-bad, ran-chain, ran-events-short, ran-first-bad}
@@ -86,8 +87,8 @@ module _ (first allowance : ℕ) (w : World) where
       rw (ran-chain first allowance w (passes .events) (passes .least, passes .most) (passes .place), some)
       (chain-told (allowance - 1) nothing first w (passes .place))
 
-  -- 0, 4, 5 and 6: such a run has an answer, with a failed number, exactly where its last block ends it so. After that block the
-  -- allowance has so much left as there are fewer blocks.
+  -- 0, 4, 5 and 6: such a run has an answer, with a failed number, exactly where its last block ends it so. What is left is the
+  -- allowance less the blocks run.
   pub answered-exactly :
       (passes : Passes first allowance w) (a : RunAnswer) (f : ℕ) →
       ((end .answer ≡ a) × (end .failed ≡ f)) ↔
@@ -183,11 +184,34 @@ module _ (first allowance : ℕ) (w : World) where
       by-standing (misplaced long good out e) = unchanged FirstBad e
       by-standing (past passes) = absurd (not-refused passes least most)
 
-  -- "a block fetched is a block run", and each spends one of the allowance: never more blocks than the allowance.
-  pub blocks-within-the-allowance : Passes first allowance w → end .tally .blocks ≤ allowance
-  blocks-within-the-allowance passes =
+  -- "a block fetched is a block run": the two counts of any run, refused or not, are the number of the blocks that it fetches and
+  -- the sum of their sectors.
+  pub counts-are-the-blocks : (end .tally .blocks ≡ length (fetchedBy first allowance w)) × (end .tally .sectors ≡ sectorsOf (fetchedBy first allowance w))
+  unfolding fetchedBy
+  counts-are-the-blocks =
+      by-cases (passes? first allowance w)
+      (λ passes.
       let told = run-told passes in
-      omega (arith, told .blocks, ap length (told .are), visits-few allowance 0 first w)
+      rw (if-pos (passes? first allowance w) passes _ _, told .are) (told .blocks ∙ zero-add _, told .sectors ∙ zero-add _))
+      (λ refused.
+      let e = by-standing refused stands in
+      rw (if-neg (passes? first allowance w) refused _ _) (ap (λ (t : Tally). t .blocks) e, ap (λ (t : Tally). t .sectors) e))
+    where
+      by-standing : (Passes first allowance w → ⊥) → Stands → end .tally ≡ nothing
+      by-standing refused (short less e) = ap (λ (x : Ending). x .tally) e
+      by-standing refused (bad long no-good e) = ap (λ (x : Ending). x .tally) e
+      by-standing refused (misplaced long good out e) = ap (λ (x : Ending). x .tally) e
+      by-standing refused (past passes) = absurd (refused passes)
+
+  -- Each spends one of the allowance: never more blocks than the allowance.
+  pub blocks-within-the-allowance : end .tally .blocks ≤ allowance
+  unfolding fetchedBy
+  blocks-within-the-allowance =
+      by-cases (passes? first allowance w)
+      (λ passes.
+      let told = run-told passes in
+      omega (arith, told .blocks, ap length (told .are), visits-few allowance 0 first w))
+      (λ refused. omega (arith, counts-are-the-blocks .0, ap length (if-neg (passes? first allowance w) refused (visits allowance 0 first w) [])))
 
   -- A run that does not pass leaves the world as it was.
   pub not-passed : (Passes first allowance w → ⊥) → end .world ≡ w

@@ -23,8 +23,8 @@ use Rattle.transfer.proofs.Earlier.{host-has-byte}
 use Rattle.transfer.proofs.Stays.{host-bytes-stored, lengths-stay, unstored-stays}
 use Rattle.transfer.proofs.Stores.{after-append}
 use Rattle.board.specs.Block.{Effect, finish, worldAfter}
-use Rattle.board.specs.Footprint.{HostData, HostWritten, Makes, driveIn, makes, names, verdictOf}
-use Rattle.board.specs.Visits.{Visit, blockOf, effectOf, worldThen}
+use Rattle.board.specs.Footprint.{HostData, HostWritten, Makes, namedDrive, makes, names, verdictOf}
+use Rattle.board.specs.Visits.{Visit, blockOf, effectOf, worldLeft}
 use Rattle.board.specs.World.{World, buffersOf, changed, driveOf}
 use Rattle.board.proofs.Keeps.{block-keeps-host}
 use Rattle.board.proofs.Written.{between, finish-host, host-written-exactly, made, stages}
@@ -48,12 +48,12 @@ module _ (v : Visit) (t : Transfer) (m : Makes v t) (reads : t .to-host ≡ true
       by-plan (Heads c) s a b = absurd a
 
   -- The count says how many sectors came.
-  pub count-says : effectOf v .sectors ≡ progressOn (driveIn v .image) t .sectors
+  pub count-says : effectOf v .sectors ≡ progressOn (namedDrive v .image) t .sectors
   count-says = made v plan t (m .1 .0) (m .1 .1) .1
 
   -- Nothing of the rest: a host byte that is neither in word 1 nor one of the bytes that came is as it was.
   pub nothing-of-the-rest :
-      (x : ℕ) → (Among (v .at + 2) 2 x → ⊥) → (HostData v t x → ⊥) → getD (worldThen v .host) x 0 ≡ getD (v .world .host) x 0
+      (x : ℕ) → (Among (v .at + 2) 2 x → ⊥) → (HostData v t x → ⊥) → getD (worldLeft v .host) x 0 ≡ getD (v .world .host) x 0
   nothing-of-the-rest x outside other = block-keeps-host v x (λ there. none (host-written-exactly v x .1 there))
     where
       none : HostWritten v x → ⊥
@@ -72,14 +72,14 @@ module _ (v : Visit) (t : Transfer) (m : Makes v t) (reads : t .to-host ≡ true
     begun b = after (bytesFrom hostByte (v .at + 2) (0x81 ∷ 0x00 ∷ [])) b
 
     data-there :
-        (b : Buffers) → b .image ≡ driveIn v .image → length (b .host) ≡ length (v .world .host) →
-        getD (after (effectOf v .stores) b .host) (t .host-byte k) 0 ≡ getD (driveIn v .image) (diskByte (t .geometry) (t .place) k) 0
+        (b : Buffers) → b .image ≡ namedDrive v .image → length (b .host) ≡ length (v .world .host) →
+        getD (after (effectOf v .stores) b .host) (t .host-byte k) 0 ≡ getD (namedDrive v .image) (diskByte (t .geometry) (t .place) k) 0
     data-there b same long =
         let s = stages v plan (m .1 .0) in
         let d = made v plan t (m .1 .0) (m .1 .1) in
         let begin = bytesFrom hostByte (v .at + 2) (0x81 ∷ 0x00 ∷ []) in
         let close = finish (blockOf v) (v .at) (v .index) (s .answer) (s .travel) in
-        let marked-image : begun b .image ≡ driveIn v .image = ap (λ (x : Buffers). x .image) (host-bytes-stored (0x81 ∷ 0x00 ∷ []) (v .at + 2) b) ∙ same in
+        let marked-image : begun b .image ≡ namedDrive v .image = ap (λ (x : Buffers). x .image) (host-bytes-stored (0x81 ∷ 0x00 ∷ []) (v .at + 2) b) ∙ same in
         let amount : effectOf v .sectors ≡ progressOn (begun b .image) t .sectors =
         d .1 ∙ ap (λ (i : List ℕ). progressOn i t .sectors) (sym marked-image) in
         ap (λ ss. getD (after ss b .host) (t .host-byte k) 0) (s .stores)
@@ -93,13 +93,13 @@ module _ (v : Visit) (t : Transfer) (m : Makes v t) (reads : t .to-host ≡ true
         ∙ ap (λ (i : List ℕ). getD i (diskByte (t .geometry) (t .place) k) 0) marked-image
 
     pub disk-byte-is-there :
-        getD (worldThen v .host) (t .host-byte k) 0 ≡ getD (driveIn v .image) (diskByte (t .geometry) (t .place) k) 0
+        getD (worldLeft v .host) (t .host-byte k) 0 ≡ getD (namedDrive v .image) (diskByte (t .geometry) (t .place) k) 0
     unfolding worldAfter
     disk-byte-is-there = by-unit (names v) refl
       where
         by-unit :
             (n : UnitNumber) → names v ≡ n →
             getD (changed (v .world) n (after (effectOf v .stores) (buffersOf (v .world) n)) (effectOf v .unit) .host) (t .host-byte k) 0 ≡
-            getD (driveIn v .image) (diskByte (t .geometry) (t .place) k) 0
+            getD (namedDrive v .image) (diskByte (t .geometry) (t .place) k) 0
         by-unit Zero is = data-there (buffersOf (v .world) Zero) (ap (λ (n : UnitNumber). driveOf (v .world) n .image) (sym is)) refl
         by-unit One is = data-there (buffersOf (v .world) One) (ap (λ (n : UnitNumber). driveOf (v .world) n .image) (sym is)) refl

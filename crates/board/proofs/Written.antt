@@ -26,7 +26,7 @@ use Rattle.transfer.specs.Stores.{Cell, Store, Stored, bytesFrom, eventByte, ho
 use Rattle.transfer.proofs.Stays.{append-stored, bytes-stored, stored-of-append, stored-of-bytes, stored-of-upTo, upTo-stored}
 use Rattle.board.specs.Block.{Effect, dataByte, effectAt, finish, judged, staged, transferOf}
 use Rattle.board.specs.Events.{entry, travelTo}
-use Rattle.board.specs.Footprint.{DiskData, EventWritten, HostData, HostWritten, ImageWritten, driveIn, makes, verdictOf}
+use Rattle.board.specs.Footprint.{DiskData, EventWritten, HostData, HostWritten, ImageWritten, namedDrive, makes, verdictOf}
 use Rattle.board.specs.Visits.{Visit, blockOf, effectOf}
 use Rattle.board.proofs.Effects.{effect-judged}
 
@@ -211,19 +211,19 @@ module _ (b : Block) (at i : ℕ) (answer : BlockAnswer) (travel : ℤ) where
 
 module _ (v : Visit) where
   abbrev image : List ℕ
-  image = driveIn v .image
+  image = namedDrive v .image
 
-  pub effect-is : (verd : Verdict) → verdictOf v ≡ verd → effectOf v ≡ judged (blockOf v) (v .at) (v .index) (v .world .host) (driveIn v) verd
+  pub effect-is : (verd : Verdict) → verdictOf v ≡ verd → effectOf v ≡ judged (blockOf v) (v .at) (v .index) (v .world .host) (namedDrive v) verd
   unfolding effectAt
-  effect-is verd is = effect-judged (v .world .host) (driveIn v) (v .at) (v .index) (blockOf v) verd refl is
+  effect-is verd is = effect-judged (v .world .host) (namedDrive v) (v .at) (v .index) (blockOf v) verd refl is
 
   -- What comes between mark and finish.
   pub between : Plan → List Store
   between Report = bytesFrom hostByte (v .at + 4) identityBytes
   between (Initialize g) = []
   between (Heads c) = []
-  between (Format spot buffer) = dataOn image (formatting (driveIn v .unit) spot buffer)
-  between (Move j) = dataOn image (transferOf (driveIn v .unit) j (dataByte (v .world .host) (j .buffer)))
+  between (Format spot buffer) = dataOn image (formatting (namedDrive v .unit) spot buffer)
+  between (Move j) = dataOn image (transferOf (namedDrive v .unit) j (dataByte (v .world .host) (j .buffer)))
 
   pub record Stages (plan : Plan) : Type 0 where
     pub answer : BlockAnswer
@@ -231,7 +231,7 @@ module _ (v : Visit) where
     pub stores : effectOf v .stores ≡ staged (blockOf v) (v .at) (v .index) (between plan) answer travel
 
   abbrev done : Plan → Effect
-  done plan = judged (blockOf v) (v .at) (v .index) (v .world .host) (driveIn v) (Do plan)
+  done plan = judged (blockOf v) (v .at) (v .index) (v .world .host) (namedDrive v) (Do plan)
 
   pub stages : (plan : Plan) → verdictOf v ≡ Do plan → Stages plan
   unfolding between
@@ -250,19 +250,19 @@ module _ (v : Visit) where
   stages (Heads c) is =
       record {
         answer = done (Heads c) .answer;
-        travel = travelTo (driveIn v .unit .cylinder) (done (Heads c) .unit .cylinder);
+        travel = travelTo (namedDrive v .unit .cylinder) (done (Heads c) .unit .cylinder);
         stores = ap (λ (e : Effect). e .stores) (effect-is (Do (Heads c)) is);
       }
   stages (Format s b) is =
       record {
         answer = done (Format s b) .answer;
-        travel = travelTo (driveIn v .unit .cylinder) (done (Format s b) .unit .cylinder);
+        travel = travelTo (namedDrive v .unit .cylinder) (done (Format s b) .unit .cylinder);
         stores = ap (λ (e : Effect). e .stores) (effect-is (Do (Format s b)) is);
       }
   stages (Move j) is =
       record {
         answer = done (Move j) .answer;
-        travel = travelTo (driveIn v .unit .cylinder) (done (Move j) .unit .cylinder);
+        travel = travelTo (namedDrive v .unit .cylinder) (done (Move j) .unit .cylinder);
         stores = ap (λ (e : Effect). e .stores) (effect-is (Do (Move j)) is);
       }
 
@@ -313,9 +313,9 @@ module _ (v : Visit) where
     between-is-written (Initialize g) is there = absurd there
     between-is-written (Heads c) is there = absurd there
     between-is-written (Format s b) is there =
-        absurd (false≢true (host-data image (formatting (driveIn v .unit) s b) x there .0))
+        absurd (false≢true (host-data image (formatting (namedDrive v .unit) s b) x there .0))
     between-is-written (Move j) is there =
-        let t = transferOf (driveIn v .unit) j (dataByte (v .world .host) (j .buffer)) in
+        let t = transferOf (namedDrive v .unit) j (dataByte (v .world .host) (j .buffer)) in
         let d = host-data image t x there in
         let m = made (Move j) t is refl in
         inr (inr (t, ((Move j, (is, refl)), (d .0, (d .1 .0, (rw (m .1) (d .1 .1 .0), d .1 .1 .1))))))
@@ -353,12 +353,12 @@ module _ (v : Visit) where
     between-reached (Initialize g) is there = absurd there
     between-reached (Heads c) is there = absurd there
     between-reached (Format s b) is there =
-        let t = formatting (driveIn v .unit) s b in
+        let t = formatting (namedDrive v .unit) s b in
         let d = disk-data image t x there in
         let m = made (Format s b) t is refl in
         (t, ((Format s b, (is, refl)), (d .0, (d .1 .0, (rw (m .1) (d .1 .1 .0), d .1 .1 .1)))))
     between-reached (Move j) is there =
-        let t = transferOf (driveIn v .unit) j (dataByte (v .world .host) (j .buffer)) in
+        let t = transferOf (namedDrive v .unit) j (dataByte (v .world .host) (j .buffer)) in
         let d = disk-data image t x there in
         let m = made (Move j) t is refl in
         (t, ((Move j, (is, refl)), (d .0, (d .1 .0, (rw (m .1) (d .1 .1 .0), d .1 .1 .1)))))
@@ -384,8 +384,8 @@ module _ (v : Visit) where
     between-no-event Report there = other-kind hostByte (v .at + 4) identityBytes (eventByte x) (λ y e. omega arith) there
     between-no-event (Initialize g) there = there
     between-no-event (Heads c) there = there
-    between-no-event (Format s b) there = no-event image (formatting (driveIn v .unit) s b) x there
-    between-no-event (Move j) there = no-event image (transferOf (driveIn v .unit) j (dataByte (v .world .host) (j .buffer))) x there
+    between-no-event (Format s b) there = no-event image (formatting (namedDrive v .unit) s b) x there
+    between-no-event (Move j) there = no-event image (transferOf (namedDrive v .unit) j (dataByte (v .world .host) (j .buffer))) x there
 
     entry-stored : (verd : Verdict) → verdictOf v ≡ verd → EventWritten v x → Stored (effectOf v .stores) (eventByte x)
     entry-stored (Refused r) is among =

@@ -106,17 +106,17 @@ module _ (b : Block) (at i : ℕ) where
       let last = lastTried (progressOn image t .sectors) (j .count) in
       transferred image u t (spotOf u (j .volume) (j .first + last) .cylinder)
 
-  abbrev pub effectOf : List ℕ → Drive → Plan → Effect
-  effectOf host d Report = reported (d .unit)
-  effectOf host d (Initialize g) = initialized g
+  abbrev pub performed : List ℕ → Drive → Plan → Effect
+  performed host d Report = reported (d .unit)
+  performed host d (Initialize g) = initialized g
   -- "89 goes to cylinder 0. 8A goes to the address given."
-  effectOf host d (Heads c) = headed [] BlockAnswer.Ended (d .unit) c 0
-  effectOf host d (Format spot buffer) = formatted (d .image) (d .unit) spot buffer
-  effectOf host d (Move j) = moved (d .image) (d .unit) j (dataByte host (j .buffer))
+  performed host d (Heads c) = headed [] BlockAnswer.Ended (d .unit) c 0
+  performed host d (Format spot buffer) = formatted (d .image) (d .unit) spot buffer
+  performed host d (Move j) = moved (d .image) (d .unit) j (dataByte host (j .buffer))
 
   abbrev pub judged : List ℕ → Drive → Verdict → Effect
   judged host d (Refused r) = refused (d .unit) r
-  judged host d (Do plan) = effectOf host d plan
+  judged host d (Do plan) = performed host d plan
 
 -- What the block at an address does on a unit's drive, run after i others: "The 28 bytes are copied out, then judged."
 unfoldable pub effectOn : List ℕ → Drive → ℕ → ℕ → Effect

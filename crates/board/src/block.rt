@@ -26,7 +26,7 @@ ghost use Rattle.iopb.specs.Layout.{blockAt};
 ghost use Rattle.geometry.specs.Drive.{B};
 ghost use Rattle.judge.specs.declared.Plan.{Plan};
 ghost use Rattle.request.specs.declared.Buffer.{Buffer};
-ghost use Rattle.board.specs.Block.{dataByte, effectOf, effectOn, finish, formatted, headed, initialized, moved, refused, reported};
+ghost use Rattle.board.specs.Block.{dataByte, effectOn, finish, formatted, headed, initialized, moved, performed, refused, reported};
 ghost use Rattle.board.specs.Events.{entry, travelTo};
 ghost use Rattle.board.specs.Steps.{Did, LetThrough, Room, concluded, driveWith, spanOf, three, written};
 ghost use Rattle.transfer.specs.Runs.{pieceByte};
@@ -367,7 +367,7 @@ fn accept(
     plan: Plan,
 ) -> Done
     requires { ⌜ Room (now host) (now events) at i × LetThrough (now host) (now image) u b plan ⌝ }
-    ensures { λ d. ⌜ Did (effectOf b at i (now (host .entry)) (driveWith u (now (image .entry))) plan) (three (now (host .entry)) (now (image .entry)) (now (events .entry))) (three (now (host .exit)) (now (image .exit)) (now (events .exit))) d ⌝ }
+    ensures { λ d. ⌜ Did (performed b at i (now (host .entry)) (driveWith u (now (image .entry))) plan) (three (now (host .entry)) (now (image .entry)) (now (events .entry))) (three (now (host .exit)) (now (image .exit)) (now (events .exit))) d ⌝ }
 {
     match plan {
         Plan::Report => report(host, image, events, u, b, at, i),

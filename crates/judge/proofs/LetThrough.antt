@@ -190,3 +190,25 @@ refused-before-transfer a r e =
     refused-by (λ s. (10 ≤ refusalNumber s) × (refusalNumber s ≤ 19)) (checks a) _ r
     ((omega arith), ((omega arith), ((omega arith), ((omega arith), ((omega arith), ((omega arith), ((omega arith), ((omega arith), ((omega arith), ((omega arith), tt))))))))))
     e
+
+-- ---- a plan that moves the heads
+
+heads-by-task :
+    (u : Record) (image : ℕ) (host : List ℕ) (t : Task) (c : ℕ) →
+    verdict (asking u image host t) ≡ Verdict.Do (Plan.Heads c) → CountsAsInitialized u
+unfolding verdict None
+heads-by-task u image host Unknown c e = absurd (all-passed (checks (asking u image host Unknown)) _ _ e .0 .0 tt)
+heads-by-task u image host (Moves m) c e = absurd (impossible (cc (all-passed (checks (asking u image host (Moves m))) _ _ e .1)))
+heads-by-task u image host Handshake c e = absurd (impossible (cc (all-passed (checks (asking u image host Handshake)) _ _ e .1)))
+heads-by-task u image host (Initialize Misplaced) c e =
+    absurd (impossible (cc (all-passed (checks (asking u image host (Initialize Misplaced))) _ _ e .1)))
+heads-by-task u image host (Initialize (Says g)) c e =
+    absurd (impossible (cc (all-passed (checks (asking u image host (Initialize (Says g)))) _ _ e .1)))
+heads-by-task u image host Restore c e =
+    by-cases (counts? u) (λ h. h) (λ out. absurd (all-passed (checks (asking u image host Restore)) _ _ e .0 .1 .0 out))
+heads-by-task u image host (Seek t) c e =
+    by-cases (counts? u) (λ h. h) (λ out. absurd (all-passed (checks (asking u image host (Seek t))) _ _ e .0 .1 .0 out))
+heads-by-task u image host (Format k) c e = absurd (impossible (cc (all-passed (checks (asking u image host (Format k))) _ _ e .1)))
+
+pub heads-let-through : (a : Asked) (c : ℕ) → verdict a ≡ Verdict.Do (Plan.Heads c) → CountsAsInitialized (a .unit)
+heads-let-through a c e = heads-by-task (a .unit) (a .image) (a .host) (a .task) c e
