@@ -1,9 +1,7 @@
 -- What is asked of a block, in the reader's words: what a refusal leaves, that no mark changes, and what a stopped read leaves.
--- Each is the exact footprint, or the transfer's own law met between the mark and the finish.
+-- Each is the exact footprint, or the transfer's own law met between the 81 00 and the finish.
 use Prim.Native.Nat.{ℕ, _+_, _*_, _≤_, _<_}
-use mathlib.Core.Bool.{Bool, true, false}
-use mathlib.Core.List.{List, [], _∷_, _++_}
-use mathlib.Core.Logic.{_⊎_, _↔_, inl, inr}
+use mathlib.Core.Logic.{_↔_, inl, inr}
 use mathlib.Core.Path.{_≡_, refl, sym, ap, _∙_}
 use native.Mathlib.Omega.{arith}
 use lib.ListN.{getD, length}
@@ -28,10 +26,10 @@ use Rattle.transfer.specs.Stores.{after}
 use Rattle.transfer.proofs.Marks.{StandsOnDrive, formatting-on-drive, moving-on-drive, no-mark-stored}
 use Rattle.board.specs.Block.{Effect, dataByte, transferOf, worldAfter}
 use Rattle.board.specs.Footprint.{HostWritten, ImageWritten, Makes, namedDrive, makes, names, verdictOf}
-use Rattle.board.specs.Visits.{Visit, blockOf, effectOf, worldLeft}
-use Rattle.board.specs.World.{Drive, World, buffersOf, changed, driveOf}
-use Rattle.board.proofs.Keeps.{block-keeps-drive, block-keeps-events, block-keeps-host, block-keeps-image}
-use Rattle.board.proofs.Written.{data-disk, effect-is, event-written-exactly, host-written-exactly, image-written-exactly, made}
+use Rattle.board.specs.Visits.{Visit, effectOf, worldLeft}
+use Rattle.board.specs.World.{buffersOf, changed, driveOf}
+use Rattle.board.proofs.Keeps.{block-keeps-events, block-keeps-host, block-keeps-image}
+use Rattle.board.proofs.Written.{data-disk, effect-is, event-written-exactly, host-written-exactly, image-written-exactly, made, reports}
 
 no-verdict : (r : Refusal) (p : Plan) → Refused r ≡ Do p → ⊥
 no-verdict r p e = never cc
@@ -45,7 +43,7 @@ module _ (v : Visit) where
 
     only-word-1 : (x : ℕ) → HostWritten v x → Among (v .at + 2) 2 x
     only-word-1 x (inl word) = word
-    only-word-1 x (inr (inl (is, among))) = absurd (no-plan Report is)
+    only-word-1 x (inr (inl (is, among))) = absurd (no-plan Report (reports v is))
     only-word-1 x (inr (inr (t, ((plan, (is, mk)), rest)))) = absurd (no-plan plan is)
 
     no-image : (x : ℕ) → ImageWritten v x → ⊥

@@ -1,6 +1,6 @@
 -- A block of a chain works on the drive of the unit that it names, and leaves the other as it was.
 -- Which drive that is, the block's unit bit says.
-use Prim.Native.Nat.{ℕ, suc, _+_, _-_, _*_, _≤_, _<_}
+use Prim.Native.Nat.{ℕ, suc, _+_, _-_, _≤_, _<_}
 use mathlib.Core.Bool.{true, false}
 use mathlib.Core.List.{List}
 use mathlib.Core.Logic.{if-neg, if-pos}
@@ -15,14 +15,13 @@ use Rattle.wire.specs.Memory.{InMemory, inMemory?}
 use Rattle.iopb.specs.declared.Block.{Block}
 use Rattle.iopb.specs.Layout.{blockAt}
 use Rattle.request.specs.declared.UnitNumber.{UnitNumber}
-use Rattle.transfer.specs.Stores.{Buffers, after}
-use Rattle.unit.specs.declared.Record.{Record}
+use Rattle.transfer.specs.Stores.{Buffers}
 use Rattle.board.specs.declared.Units.{Units}
 use Rattle.board.specs.declared.block.Done.{Done}
 use Rattle.board.specs.declared.chain.Count.{Count}
 use Rattle.board.specs.declared.chain.Outcome.{Outcome}
 use Rattle.board.specs.declared.chain.Stepped.{Stepped}
-use Rattle.board.specs.Block.{Effect, effectAt, effectOn, unitAt, worldAfter}
+use Rattle.board.specs.Block.{effectAt, effectOn, unitAt, worldAfter}
 use Rattle.board.specs.Chain.{Ending, Tally, ends, executed, fetched}
 use Rattle.board.specs.Steps.{CameTo, Did, Spare, SteppedTo, countedOf, endedOf, tallyOf}
 use Rattle.board.specs.World.{World, buffersOf, changed, driveOf, worldOf}

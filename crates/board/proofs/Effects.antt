@@ -1,8 +1,8 @@
--- The stores of a block in their segments: word 1 marked, what comes between, and the finish.
+-- The stores of a block in their segments: 81 00 in word 1, what comes between, and the finish.
 -- Bytes stored in a row are written into one buffer; segments follow one another.
 use Prim.Native.Nat.{ℕ, _+_, _*_}
 use mathlib.Core.List.{List, [], _∷_, _++_}
-use mathlib.Core.Path.{_≡_, refl, sym, ap, _∙_}
+use mathlib.Core.Path.{_≡_, sym, ap, _∙_}
 use lib.IntN.{ℤ}
 use lib.ListN.{length}
 use Rattle.answers.specs.declared.BlockAnswer.{BlockAnswer}
@@ -55,7 +55,7 @@ module _ (b : Block) (at i : ℕ) (answer : BlockAnswer) (travel : ℤ) where
       three host′ image events′ ≡ after (finish b at i answer travel) (three host image events)
   finish-made host image events host′ events′ h e = (λ t. three (h t) image (e t)) ∙ sym (finished host image events)
 
-  -- The stages of an accepted block: marked 81 00, what comes between, the finish.
+  -- The stages of an accepted block: 81 00, what comes between, the finish.
   pub stages-made :
       (between : List Store) (host image events : List ℕ) (m m′ : Buffers) →
       after between (three (written host (at + 2) (0x81 ∷ 0x00 ∷ [])) image events) ≡ m →

@@ -3,8 +3,8 @@
 use Prim.Native.Nat.{ℕ, zero, suc, _+_, _-_, _≤_, _<_}
 use mathlib.Core.Bool.{Bool, true, false}
 use mathlib.Core.List.{List, [], _∷_}
-use mathlib.Core.Logic.{_↔_, by-cases, if-neg, if-pos}
-use mathlib.Core.Path.{_≡_, refl, sym, ap, subst, _∙_}
+use mathlib.Core.Logic.{by-cases, if-neg, if-pos}
+use mathlib.Core.Path.{_≡_, refl, ap, _∙_}
 use native.Mathlib.Decide.{decLt}
 use native.Mathlib.Nat.{add-assoc, add-zero}
 use native.Mathlib.Omega.{arith}
@@ -12,15 +12,11 @@ use lib.ListN.{length}
 use Rattle.wire.specs.Memory.{InMemory, inMemory?}
 use Rattle.answers.specs.declared.BlockAnswer.{BlockAnswer}
 use Rattle.answers.specs.declared.BlockAnswer.the-variants.{Ended, Failed}
-use Rattle.answers.specs.declared.Refusal.{Refusal}
 use Rattle.answers.specs.declared.RunAnswer.{RunAnswer}
-use Rattle.iopb.specs.declared.Block.{Block}
-use Rattle.iopb.specs.Layout.{blockAt}
-use Rattle.board.specs.Block.{effectAt, worldAfter}
 use Rattle.board.specs.Chain.{Ending, Tally, counted, ends, executed, fetched, follows}
 use Rattle.board.specs.Visits.{EndsWith, Linked, Visit, blockOf, effectOf, lastOf, leadsOn, onwards, sectorsOf, visits, worldLeft}
 use Rattle.board.specs.World.{World}
-use Rattle.board.proofs.Chains.{fetched-bad, fetched-on, fetched-spent}
+use Rattle.board.proofs.Chains.{fetched-bad, fetched-spent}
 
 -- What a chain comes to, told by the blocks that it fetches: a first one and the rest. Its counts are theirs, the last of them ends
 -- it, and what that one leaves is what the chain leaves.

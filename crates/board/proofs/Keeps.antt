@@ -3,20 +3,19 @@
 use Prim.Native.Nat.{ℕ, zero, suc, _+_}
 use mathlib.Core.Bool.{Bool, true, false}
 use mathlib.Core.List.{List, [], _∷_}
-use mathlib.Core.Logic.{_⊎_, inl, inr, by-cases, if-neg, if-pos}
-use mathlib.Core.Path.{_≡_, refl, sym, ap, subst, _∙_}
+use mathlib.Core.Logic.{inl, inr, by-cases, if-pos}
+use mathlib.Core.Path.{_≡_, refl, ap, subst, _∙_}
 use native.Mathlib.Omega.{arith}
 use lib.ListN.{getD, length}
 use Rattle.answers.specs.declared.BlockAnswer.{BlockAnswer}
 use Rattle.answers.specs.declared.BlockAnswer.the-variants.{Ended, Failed}
-use Rattle.answers.specs.declared.RunAnswer.{RunAnswer}
 use Rattle.request.specs.declared.UnitNumber.{UnitNumber}
 use Rattle.request.specs.declared.UnitNumber.the-variants.{Zero, One}
 use Rattle.transfer.specs.Stores.{Cell, Stored, after, eventByte, hostByte, imageByte}
 use Rattle.transfer.proofs.Stays.{lengths-stay, unstored-stays}
-use Rattle.wire.specs.Memory.{InMemory, inMemory?}
+use Rattle.wire.specs.Memory.{inMemory?}
 use Rattle.board.specs.Block.{Effect, worldAfter}
-use Rattle.board.specs.Chain.{Ending, Tally, counted, ends, fetched, follows, nothing, ran}
+use Rattle.board.specs.Chain.{Ending, Tally, fetched, follows, nothing, ran}
 use Rattle.board.specs.Footprint.{EventWritten, HostWritten, ImageWritten, RecordWritten, RunNames, RunWrites, RunWritesEvents, RunWritesImage, RunWritesRecord, Some, changesRecord, namedDrive, names, verdictOf}
 use Rattle.board.proofs.Written.{effect-is, event-written-exactly, host-written-exactly, image-written-exactly}
 use Rattle.geometry.specs.declared.Geometry.{Geometry}
@@ -25,7 +24,7 @@ use Rattle.judge.specs.declared.Plan.the-variants.{Report, Initialize, Heads, F
 use Rattle.judge.specs.declared.Verdict.{Verdict}
 use Rattle.judge.specs.declared.Verdict.the-variants.{Refused, Do}
 use Rattle.judge.proofs.LetThrough.{format-let-through, heads-let-through, move-let-through}
-use Rattle.board.specs.Visits.{Passes, Visit, blockOf, effectOf, fetchedBy, onwards, passes?, visits, worldLeft}
+use Rattle.board.specs.Visits.{Visit, blockOf, effectOf, fetchedBy, onwards, passes?, visits, worldLeft}
 use Rattle.board.specs.World.{Drive, World, buffersOf, changed, driveOf}
 use Rattle.board.proofs.Chains.{fetched-bad, fetched-spent}
 use Rattle.board.proofs.Endings.{fetched-step, here, then, visits-step}

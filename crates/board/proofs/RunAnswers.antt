@@ -1,22 +1,21 @@
 -- Demand 1 of runs: each answer 0 to 6 exactly in its case, and a refused run changes nothing.
 -- The first three are the checks in their order; the others are told by the last block, whose end leaves one answer.
-use Prim.Native.Nat.{ℕ, zero, suc, _+_, _-_, _≤_, _<_}
+use Prim.Native.Nat.{ℕ, zero, suc, _-_, _≤_, _<_}
 use mathlib.Core.Bool.{Bool, true, false}
-use mathlib.Core.List.{List, [], _∷_}
-use mathlib.Core.Logic.{_↔_, Dec·and, by-cases, ite, if-neg, if-pos}
-use mathlib.Core.Path.{_≡_, refl, sym, ap, subst, _∙_}
-use native.Mathlib.Decide.{decLe, decLt, ℕ-discrete}
+use mathlib.Core.List.{List, []}
+use mathlib.Core.Logic.{_↔_, Dec·and, by-cases, if-neg, if-pos}
+use mathlib.Core.Path.{_≡_, sym, ap, _∙_}
+use native.Mathlib.Decide.{decLe, decLt}
 use native.Mathlib.Nat.{zero-add}
 use native.Mathlib.Omega.{arith}
 use lib.ListN.{length}
 use Rattle.wire.specs.Memory.{InMemory, inMemory?}
-use Rattle.wire.proofs.Promises.{never}
 use Rattle.answers.specs.declared.BlockAnswer.{BlockAnswer}
 use Rattle.answers.specs.declared.BlockAnswer.the-variants.{Ended, Failed}
 use Rattle.answers.specs.declared.RunAnswer.{RunAnswer}
 use Rattle.answers.specs.declared.RunAnswer.the-variants.{Done, EventsShort, AllowanceBad, FirstBad, BlockFailed, LinkBad, AllowanceSpent}
 use Rattle.answers.specs.Numbers.{refusalNumber, runNumber}
-use Rattle.board.specs.Chain.{Ending, Tally, ends, fetched, nothing, ran}
+use Rattle.board.specs.Chain.{Ending, Tally, ends, nothing, ran}
 use Rattle.board.specs.Visits.{EndsWith, Passes, Visit, blockOf, effectOf, fetchedBy, lastOf, passes?, sectorsOf, visits}
 use Rattle.board.specs.World.{World}
 use Rattle.board.proofs.Endings.{Told, chain-told, visits-few}

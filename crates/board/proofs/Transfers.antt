@@ -1,13 +1,12 @@
 -- A block that makes a transfer: its data leave the event buffer alone, so they are what the transfer says of host and image.
 -- Marked before and finished after, that is the block's effect.
-use Prim.Native.Nat.{ℕ, zero, suc, _+_, _*_}
+use Prim.Native.Nat.{ℕ, zero, suc, _+_}
 use mathlib.Core.Bool.{Bool, true, false}
 use mathlib.Core.List.{List, [], _∷_}
 use mathlib.Core.Path.{_≡_, refl, sym, ap, _∙_}
-use lib.ListN.{getD, set}
 use Rattle.iopb.specs.declared.Block.{Block}
 use Rattle.transfer.specs.declared.Moved.{Moved}
-use Rattle.transfer.specs.Data.{Transfer, dataOn, move, moveAt, progressOn}
+use Rattle.transfer.specs.Data.{Transfer, dataOn, move, progressOn}
 use Rattle.transfer.specs.Runs.{lent}
 use Rattle.transfer.specs.Stores.{Buffers, Store, after, upTo}
 use Rattle.transfer.specs.Whole.{movedOn}

@@ -1,33 +1,31 @@
 -- "Nobody could say which half was true" (00, of version two): after a block that read from the disk, the host has the disk's bytes
 -- for the sectors that the count says, and nothing of the rest.
--- The data stand between the mark and the finish, and of host memory these two write word 1 alone.
+-- The data stand between the 81 00 and the finish, and of host memory these two write word 1 alone.
 use Prim.Native.Nat.{ℕ, _+_, _*_, _<_}
-use mathlib.Core.Bool.{true, false}
+use mathlib.Core.Bool.{true}
 use mathlib.Core.List.{List, [], _∷_, _++_}
-use mathlib.Core.Logic.{_⊎_, inl, inr}
+use mathlib.Core.Logic.{inl, inr}
 use mathlib.Core.Path.{_≡_, refl, sym, ap, subst, _∙_}
 use native.Mathlib.Omega.{arith}
 use lib.ListN.{getD, length}
 use Rattle.wire.specs.Memory.{Among}
-use Rattle.wire.proofs.Promises.{never}
 use Rattle.geometry.specs.Drive.{B}
 use Rattle.judge.specs.declared.Plan.{Plan}
 use Rattle.judge.specs.declared.Plan.the-variants.{Report, Initialize, Heads, Format, Move}
-use Rattle.judge.specs.declared.Verdict.{Verdict}
-use Rattle.judge.specs.declared.Verdict.the-variants.{Refused, Do}
+use Rattle.judge.specs.declared.Verdict.the-variants.{Do}
 use Rattle.request.specs.declared.UnitNumber.{UnitNumber}
 use Rattle.request.specs.declared.UnitNumber.the-variants.{Zero, One}
 use Rattle.transfer.specs.Data.{Transfer, dataOn, diskByte, progressOn}
-use Rattle.transfer.specs.Stores.{Buffers, Stored, after, bytesFrom, hostByte}
+use Rattle.transfer.specs.Stores.{Buffers, after, bytesFrom, hostByte}
 use Rattle.transfer.proofs.Earlier.{host-has-byte}
 use Rattle.transfer.proofs.Stays.{host-bytes-stored, lengths-stay, unstored-stays}
 use Rattle.transfer.proofs.Stores.{after-append}
-use Rattle.board.specs.Block.{Effect, finish, worldAfter}
-use Rattle.board.specs.Footprint.{HostData, HostWritten, Makes, namedDrive, makes, names, verdictOf}
+use Rattle.board.specs.Block.{finish, worldAfter}
+use Rattle.board.specs.Footprint.{HostData, HostWritten, Makes, namedDrive, makes, names}
 use Rattle.board.specs.Visits.{Visit, blockOf, effectOf, worldLeft}
-use Rattle.board.specs.World.{World, buffersOf, changed, driveOf}
+use Rattle.board.specs.World.{buffersOf, changed, driveOf}
 use Rattle.board.proofs.Keeps.{block-keeps-host}
-use Rattle.board.proofs.Written.{between, finish-host, host-written-exactly, made, stages}
+use Rattle.board.proofs.Written.{between, finish-host, host-written-exactly, made, reports, stages}
 
 same-plan : (p q : Plan) → Do p ≡ Do q → p ≡ q
 same-plan p q e = cc
@@ -58,7 +56,7 @@ module _ (v : Visit) (t : Transfer) (m : Makes v t) (reads : t .to-host ≡ true
     where
       none : HostWritten v x → ⊥
       none (inl word) = outside word
-      none (inr (inl (is, among))) = subst (λ (p : Plan). makes v p t) (same-plan plan Report (sym (m .1 .0) ∙ is)) (m .1 .1)
+      none (inr (inl (is, among))) = subst (λ (p : Plan). makes v p t) (same-plan plan Report (sym (m .1 .0) ∙ reports v is)) (m .1 .1)
       none (inr (inr (s, ((q, (is, mk)), (way, here))))) =
           other (rw (← one-transfer q s (same-plan plan q (sym (m .1 .0) ∙ is)) mk) at here)
 

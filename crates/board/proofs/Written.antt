@@ -1,10 +1,10 @@
 -- The footprint is exact: a byte is written, in the paper's words, exactly where some store of the block has it as its target.
--- The stores are taken apart by segment, and the verdict says what comes between the mark and the finish.
+-- The stores are taken apart by segment, and the verdict says what comes between the 81 00 and the finish.
 use Prim.Native.Nat.{ℕ, _+_, _*_, _<_}
-use mathlib.Core.Bool.{Bool, true, false, true≢false, false≢true}
+use mathlib.Core.Bool.{Bool, true, false, false≢true}
 use mathlib.Core.List.{List, [], _∷_, _++_}
 use mathlib.Core.Logic.{_⊎_, _↔_, inl, inr, ⊎-elim}
-use mathlib.Core.Path.{_≡_, refl, sym, ap, _∙_}
+use mathlib.Core.Path.{_≡_, refl, sym, ap}
 use native.Mathlib.Omega.{arith}
 use lib.IntN.{ℤ, pos}
 use lib.ListN.{length}
@@ -17,16 +17,18 @@ use Rattle.geometry.specs.Drive.{B}
 use Rattle.iopb.specs.declared.Block.{Block}
 use Rattle.iopb.specs.Errors.{errorByte}
 use Rattle.iopb.specs.Identity.{identityBytes}
+use Rattle.iopb.proofs.Handshake.{asked-by-86, handshake-is-86}
+use Rattle.judge.proofs.LetThrough.{handshake-reports, report-let-through}
 use Rattle.judge.specs.declared.Plan.{Plan}
 use Rattle.judge.specs.declared.Plan.the-variants.{Report, Initialize, Heads, Format, Move}
 use Rattle.judge.specs.declared.Verdict.{Verdict}
 use Rattle.judge.specs.declared.Verdict.the-variants.{Refused, Do}
 use Rattle.transfer.specs.Data.{Transfer, dataOn, diskByte, formatting, moveAt, progressOn}
-use Rattle.transfer.specs.Stores.{Cell, Store, Stored, bytesFrom, eventByte, hostByte, imageByte, upTo}
+use Rattle.transfer.specs.Stores.{Cell, Store, Stored, bytesFrom, eventByte, hostByte, imageByte}
 use Rattle.transfer.proofs.Stays.{append-stored, bytes-stored, stored-of-append, stored-of-bytes, stored-of-upTo, upTo-stored}
 use Rattle.board.specs.Block.{Effect, dataByte, effectAt, finish, judged, staged, transferOf}
 use Rattle.board.specs.Events.{entry, travelTo}
-use Rattle.board.specs.Footprint.{DiskData, EventWritten, HostData, HostWritten, ImageWritten, namedDrive, makes, verdictOf}
+use Rattle.board.specs.Footprint.{EventWritten, HostWritten, ImageWritten, namedDrive, makes, verdictOf}
 use Rattle.board.specs.Visits.{Visit, blockOf, effectOf}
 use Rattle.board.proofs.Effects.{effect-judged}
 
@@ -136,7 +138,7 @@ module _ (image : List ℕ) (t : Transfer) where
           two : _≡_ {A = ℕ} 1 2 → ⊥
           two e = omega arith
 
--- ---- mark and finish
+-- ---- the 81 00 and the finish
 
 module _ (b : Block) (at i : ℕ) (answer : BlockAnswer) (travel : ℤ) where
   -- A finish writes word 1 and the entry, and no image.
@@ -171,7 +173,7 @@ module _ (b : Block) (at i : ℕ) (answer : BlockAnswer) (travel : ℤ) where
       (λ entry-byte. other-kind eventByte (8 * i) (entry b answer travel) (imageByte x) (λ y e. omega arith) entry-byte)
       (stored-of-append (bytesFrom hostByte (at + 2) (statusOf answer ∷ errorByte answer ∷ [])) (bytesFrom eventByte (8 * i) (entry b answer travel)) (imageByte x) there)
 
-  -- The stages write what the mark, what comes between and the finish write.
+  -- The stages write what the 81 00, what comes between and the finish write.
   module _ (between : List Store) where
     abbrev begin : List Store
     begin = bytesFrom hostByte (at + 2) (0x81 ∷ 0x00 ∷ [])
@@ -217,7 +219,7 @@ module _ (v : Visit) where
   unfolding effectAt
   effect-is verd is = effect-judged (v .world .host) (namedDrive v) (v .at) (v .index) (blockOf v) verd refl is
 
-  -- What comes between mark and finish.
+  -- What comes between the 81 00 and the finish.
   pub between : Plan → List Store
   between Report = bytesFrom hostByte (v .at + 4) identityBytes
   between (Initialize g) = []
@@ -280,6 +282,13 @@ module _ (v : Visit) where
   refused-stores : (r : Refusal) → verdictOf v ≡ Refused r → (a : BlockAnswer) × ((tr : ℤ) × (effectOf v .stores ≡ finish (blockOf v) (v .at) (v .index) a tr))
   refused-stores r is = (BlockAnswer.Failed r, (pos 0, ap (λ (e : Effect). e .stores) (effect-is (Refused r) is)))
 
+  -- A report is what command 86 comes to.
+  pub reports : blockOf v .command ≡ 0x86 → verdictOf v ≡ Do Report
+  reports is = handshake-reports _ (asked-by-86 (v .world .host) (blockOf v) is)
+
+  pub reports-86 : verdictOf v ≡ Do Report → blockOf v .command ≡ 0x86
+  reports-86 is = handshake-is-86 (v .world .host) (blockOf v) (report-let-through _ is)
+
   -- ---- host bytes
 
   module _ (x : ℕ) where
@@ -302,14 +311,14 @@ module _ (v : Visit) where
     written-is-stored : HostWritten v x → Target
     unfolding between
     written-is-stored (inl word) = word-stored (verdictOf v) refl word
-    written-is-stored (inr (inl (is, among))) = middle-stored Report is (in-row hostByte (v .at + 4) identityBytes x among)
+    written-is-stored (inr (inl (is, among))) = middle-stored Report (reports is) (in-row hostByte (v .at + 4) identityBytes x among)
     written-is-stored (inr (inr (t, ((plan, (is, mk)), (to, (k, (less, here))))))) =
         let m = made plan t is mk in
         middle-stored plan is (rw (m .0) (data-host image t x to (k, (rw (m .1) at less, here))))
 
     between-is-written : (plan : Plan) → verdictOf v ≡ Do plan → Stored (between plan) (hostByte x) → HostWritten v x
     unfolding between Stored
-    between-is-written Report is there = inr (inl (is, of-host-row (v .at + 4) identityBytes x there))
+    between-is-written Report is there = inr (inl (reports-86 is, of-host-row (v .at + 4) identityBytes x there))
     between-is-written (Initialize g) is there = absurd there
     between-is-written (Heads c) is there = absurd there
     between-is-written (Format s b) is there =

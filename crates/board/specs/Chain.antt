@@ -1,5 +1,5 @@
 -- A chain of blocks, and the run (01, One run and Answer numbers 0 to 6).
-use Prim.Native.Nat.{ℕ, zero, suc, _+_, _≤_, _<_}
+use Prim.Native.Nat.{ℕ, zero, suc, _+_}
 use mathlib.Core.Bool.{Bool, true, false}
 use mathlib.Core.Logic.{ite, Dec·and, Dec·not}
 use native.Mathlib.Decide.{decLe, decLt}

@@ -1,6 +1,6 @@
 -- The event entry of a block (01, One run: "status, error, level, vector, then travel").
-use Prim.Native.Nat.{ℕ, _+_, _-_, _*_, _/_, _%_, _^_}
-use mathlib.Core.Bool.{Bool, true, false, cond}
+use Prim.Native.Nat.{ℕ, _+_, _-_, _/_, _%_, _^_}
+use mathlib.Core.Bool.{cond}
 use mathlib.Core.List.{List, [], _∷_}
 use lib.IntN.{ℤ, pos, negsuc, _-ℤ_}
 use Rattle.answers.specs.declared.BlockAnswer.{BlockAnswer}

@@ -72,7 +72,7 @@ HostRead v x =
 abbrev pub HostWritten : Visit → ℕ → Type 0
 HostWritten v x =
     Among (v .at + 2) 2 x ⊎
-    (((verdictOf v ≡ Do Report) × Among (v .at + 4) 12 x) ⊎
+    (((blockOf v .command ≡ 0x86) × Among (v .at + 4) 12 x) ⊎
     ((t : Transfer) × (Makes v t × ((t .to-host ≡ true) × HostData v t x))))
 
 -- Of the named unit's image: the data of 82, A2 and 8C is written.

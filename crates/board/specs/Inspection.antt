@@ -3,7 +3,7 @@ use Prim.Native.Nat.{ℕ, zero, suc, _≤_, _<_}
 use mathlib.Core.List.{List}
 use mathlib.Core.Logic.{ite, Dec·and}
 use native.Mathlib.Decide.{decLe, decLt, map-dec}
-use lib.ListN.{drop, length, take}
+use lib.ListN.{drop, take}
 use Rattle.geometry.specs.Drive.{B, driveSectors, need}
 use Rattle.geometry.specs.Sectors.{firstByte}
 use Rattle.request.specs.declared.UnitNumber.{UnitNumber}

@@ -29,6 +29,7 @@ use Rattle.unit.proofs.Laws.{track-inside, track-whole}
 use Rattle.memory.specs.Lists.{ListGood, Ranges}
 use Rattle.memory.proofs.Decided.{listGood?, ranges?}
 use Rattle.wire.specs.Memory.{inMemory?}
+use Rattle.judge.proofs.Tasks.{handshake}
 use Rattle.judge.specs.declared.Job.{Job}
 use Rattle.judge.specs.declared.Plan.{Plan}
 use Rattle.judge.specs.declared.Verdict.{Verdict}
@@ -212,3 +213,29 @@ heads-by-task u image host (Format k) c e = absurd (impossible (cc (all-passed (
 
 pub heads-let-through : (a : Asked) (c : ℕ) → verdict a ≡ Verdict.Do (Plan.Heads c) → CountsAsInitialized (a .unit)
 heads-let-through a c e = heads-by-task (a .unit) (a .image) (a .host) (a .task) c e
+
+-- ---- a plan to report
+
+report-by-task :
+    (u : Record) (image : ℕ) (host : List ℕ) (t : Task) → verdict (asking u image host t) ≡ Verdict.Do Plan.Report → t ≡ Handshake
+unfolding verdict None
+report-by-task u image host Unknown e = absurd (all-passed (checks (asking u image host Unknown)) _ _ e .0 .0 tt)
+report-by-task u image host (Moves m) e = absurd (impossible (cc (all-passed (checks (asking u image host (Moves m))) _ _ e .1)))
+report-by-task u image host Handshake e = refl
+report-by-task u image host (Initialize Misplaced) e =
+    absurd (all-passed (checks (asking u image host (Initialize Misplaced))) _ _ e .0 .1 .1 .0 tt)
+report-by-task u image host (Initialize (Says g)) e =
+    absurd (impossible (cc (all-passed (checks (asking u image host (Initialize (Says g)))) _ _ e .1)))
+report-by-task u image host Restore e = absurd (impossible (cc (all-passed (checks (asking u image host Restore)) _ _ e .1)))
+report-by-task u image host (Seek t) e = absurd (impossible (cc (all-passed (checks (asking u image host (Seek t))) _ _ e .1)))
+report-by-task u image host (Format k) e = absurd (impossible (cc (all-passed (checks (asking u image host (Format k))) _ _ e .1)))
+
+-- Only a handshake reports.
+pub report-let-through : (a : Asked) → verdict a ≡ Verdict.Do Plan.Report → a .task ≡ Handshake
+report-let-through a e = report-by-task (a .unit) (a .image) (a .host) (a .task) e
+
+-- And it always does.
+pub handshake-reports : (a : Asked) → a .task ≡ Handshake → verdict a ≡ Verdict.Do Plan.Report
+handshake-reports a is =
+    ap (λ (t : Task). verdict (asking (a .unit) (a .image) (a .host) t)) is
+    ∙ handshake (record { «record» = a .unit; image = a .image }) (a .host)

@@ -1,22 +1,20 @@
 -- Carrying piece by piece: before each piece all earlier ones are carried in full, or all bytes are.
 -- A piece's bytes are the next ones of the pieces joined, so carrying it is so many stores more.
-use Prim.Native.Nat.{ℕ, zero, suc, _+_, _-_, _*_, _≤_, _<_, min}
+use Prim.Native.Nat.{ℕ, _+_, _-_, _≤_, _<_, min}
 use mathlib.Core.Bool.{Bool}
 use mathlib.Core.List.{List}
 use mathlib.Core.Logic.{by-cases}
 use mathlib.Core.Path.{_≡_, refl, sym, ap, _∙_}
 use native.Mathlib.Decide.{decLt}
-use native.Mathlib.Nat.{add-assoc, add-zero}
 use native.Mathlib.Numerals.{add-one}
 use native.Mathlib.Omega.{arith}
 use lib.ListN.{getD, length}
-use Rattle.geometry.specs.Drive.{B}
 use Rattle.unit.specs.declared.Record.{Record}
 use Rattle.transfer.specs.declared.Span.{Span}
 use Rattle.transfer.specs.declared.carry.Cursor.{Cursor}
 use Rattle.transfer.specs.Data.{move}
 use Rattle.transfer.specs.Pieces.{sum}
-use Rattle.transfer.specs.Runs.{Carried, Fits, Held, On, PiecesFit, Spans, behind, diskFrom, lent, pieceByte, spanBytes, spanStores, stretch}
+use Rattle.transfer.specs.Runs.{Carried, Fits, Held, On, PiecesFit, Spans, behind, diskFrom, lent, pieceByte, spanBytes, spanStores}
 use Rattle.transfer.specs.Stores.{Buffers, Store, after, upTo}
 use Rattle.transfer.proofs.Joined.{joined-at}
 use Rattle.transfer.proofs.Stores.{after-add, upTo-same}

@@ -1,6 +1,6 @@
 -- Carrying bytes run by run: a cursor that stands right stands right n bytes on, and a run copied is n stores more.
 -- What a span's sectors have in the image bounds every run of them.
-use Prim.Native.Nat.{ℕ, zero, suc, _+_, _-_, _*_, _≤_, _<_}
+use Prim.Native.Nat.{ℕ, _+_, _-_, _*_, _≤_, _<_}
 use mathlib.Core.Bool.{Bool}
 use mathlib.Core.List.{List}
 use mathlib.Core.Logic.{by-cases}
@@ -14,7 +14,7 @@ use Rattle.unit.specs.declared.Record.{Record}
 use Rattle.transfer.specs.declared.Span.{Span}
 use Rattle.transfer.specs.declared.carry.Cursor.{Cursor}
 use Rattle.transfer.specs.Data.{move}
-use Rattle.transfer.specs.Runs.{Carried, Held, On, Ready, Stands, advanced, behind, diskFrom, stretch}
+use Rattle.transfer.specs.Runs.{Carried, Held, On, Ready, advanced, behind, diskFrom, stretch}
 use Rattle.transfer.specs.Stores.{Buffers, Store, after, upTo}
 use Rattle.transfer.proofs.Stores.{after-add, copiedRun, run-is-copy, upTo-same}
 

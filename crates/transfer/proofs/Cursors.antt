@@ -1,21 +1,19 @@
 -- Places in a row have their bytes in a row, so a run of sectors is one run of bytes, and a cursor on it stands right.
 -- A byte's number is taken apart into its sector and its place in that sector.
-use Prim.Native.Nat.{ℕ, _+_, _-_, _*_, _/_, _%_, _≤_, _<_}
-use mathlib.Core.Path.{_≡_, refl, sym, ap, _∙_}
+use Prim.Native.Nat.{ℕ, _+_, _*_, _/_, _%_, _≤_, _<_}
+use mathlib.Core.Path.{_≡_, ap, _∙_}
 use native.Mathlib.Nat.{add-assoc, add-comm, add-mul, add-mul-div-right, add-mul-mod-self-right, div-add-mod', div-lt-iff-lt-mul, mul-pos}
 use native.Mathlib.Omega.{arith}
 use Rattle.geometry.specs.declared.Geometry.{Geometry}
-use Rattle.geometry.specs.declared.VolumeNumber.{VolumeNumber}
 use Rattle.geometry.specs.Drive.{B, volumeSectors}
 use Rattle.geometry.specs.Sectors.{firstByte}
 use Rattle.geometry.proofs.Laws.{bytes-consecutive}
 use Rattle.unit.specs.declared.Record.{Record}
-use Rattle.unit.specs.Landing.{spotOf}
 use Rattle.transfer.specs.declared.Span.{Span}
 use Rattle.transfer.specs.declared.carry.Cursor.{Cursor}
 use Rattle.transfer.specs.declared.reach.Run.{Run}
 use Rattle.transfer.specs.Data.{diskByte, placeFrom}
-use Rattle.transfer.specs.Runs.{Ready, RunAt, Stands, behind, diskFrom}
+use Rattle.transfer.specs.Runs.{Ready, RunAt, behind}
 use Rattle.transfer.proofs.Tracks.{run-places}
 
 -- n sectors from the j-th on stand in a row from place p on: byte i from there is byte i from the first byte of p.

@@ -1,11 +1,11 @@
 -- A track filled sector by sector: each sector more is one copy of the same bytes.
 -- Byte k of the track takes byte k mod B of the sector, and the track's bytes are in a row.
-use Prim.Native.Nat.{ℕ, _+_, _-_, _*_, _/_, _%_, _≤_, _<_}
+use Prim.Native.Nat.{ℕ, _+_, _-_, _*_, _%_, _≤_, _<_}
 use mathlib.Core.Bool.{false}
 use mathlib.Core.List.{List, []}
 use mathlib.Core.Logic.{if-neg, if-pos}
 use mathlib.Core.Path.{_≡_, refl, sym, ap, _∙_}
-use native.Mathlib.Nat.{add-assoc, add-mul, mul-pos, one-mul, zero-add, zero-mul}
+use native.Mathlib.Nat.{add-assoc, add-mul, one-mul, zero-add, zero-mul}
 use native.Mathlib.Omega.{arith}
 use lib.Arith.{digits-mod}
 use lib.ListN.{length}
@@ -15,7 +15,7 @@ use Rattle.geometry.specs.Sectors.{firstByte}
 use Rattle.geometry.proofs.Laws.{bytes-consecutive}
 use Rattle.unit.specs.declared.Record.{Record}
 use Rattle.unit.specs.declared.Spot.{Spot}
-use Rattle.transfer.specs.Data.{dataOn, formatting, move, moveAt, progressOn}
+use Rattle.transfer.specs.Data.{dataOn, formatting, move, progressOn}
 use Rattle.transfer.specs.Progress.{Progress, fateAt}
 use Rattle.transfer.specs.Runs.{fillStore, lent}
 use Rattle.transfer.specs.Stores.{Buffers, Store, after, upTo}

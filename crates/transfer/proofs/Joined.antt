@@ -2,7 +2,7 @@
 -- The pieces before it are passed over one by one, each taking its bytes off.
 use Prim.Native.Nat.{ℕ, zero, suc, _+_, _-_, _≤_, _<_}
 use mathlib.Core.Logic.{if-neg, if-pos}
-use mathlib.Core.Path.{_≡_, refl, sym, ap, _∙_}
+use mathlib.Core.Path.{_≡_, refl, sym, _∙_}
 use native.Mathlib.Decide.{decLt}
 use native.Mathlib.Nat.{add-suc, add-zero, sub-add-eq, sub-zero, suc-add, zero-add}
 use native.Mathlib.Omega.{arith}

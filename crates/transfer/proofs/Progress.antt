@@ -2,13 +2,13 @@
 -- Each law goes along the count, which falls as the sector goes up.
 use Prim.Native.Nat.{ℕ, zero, suc, _+_, _-_, _≤_, _<_}
 use mathlib.Core.Logic.{by-cases}
-use mathlib.Core.Path.{_≡_, refl, sym, _∙_}
+use mathlib.Core.Path.{_≡_, refl, _∙_}
 use native.Mathlib.Decide.{decLt}
 use native.Mathlib.Nat.{add-suc, add-zero, suc-add, zero-add}
 use native.Mathlib.Omega.{arith}
 use Rattle.answers.specs.declared.BlockAnswer.{BlockAnswer}
 use Rattle.answers.specs.declared.Refusal.{Refusal}
-use Rattle.transfer.specs.Progress.{Fate, Progress, fateAt, moves, onward, progress, stops}
+use Rattle.transfer.specs.Progress.{Fate, Progress, moves, onward, progress, stops}
 
 -- k sectors that are all moved are passed over.
 pub progress-passes :

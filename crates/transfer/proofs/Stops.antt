@@ -1,6 +1,6 @@
 -- Answer 20 in its case: a transfer that was stopped as unreadable heeds the marks, and the sector that stopped it is the first
 -- whose mark is not 0. The fate of each sector says which it was.
-use Prim.Native.Nat.{ℕ, zero, suc, _+_, _≤_, _<_}
+use Prim.Native.Nat.{ℕ, zero, suc, _+_, _<_}
 use mathlib.Core.Bool.{Bool, true, false, cond}
 use mathlib.Core.List.{List}
 use mathlib.Core.Logic.{by-cases, if-neg, if-pos}
@@ -16,7 +16,7 @@ use Rattle.answers.specs.Numbers.{refusalNumber}
 use Rattle.geometry.specs.declared.Geometry.{Geometry}
 use Rattle.geometry.specs.Sectors.{markByte}
 use Rattle.transfer.specs.Data.{Transfer, progressOn}
-use Rattle.transfer.specs.Progress.{Fate, InImage, Progress, fateAt, inImage?, moves, onward, progress, stops}
+use Rattle.transfer.specs.Progress.{Fate, InImage, fateAt, inImage?, moves, onward, progress, stops}
 use Rattle.transfer.proofs.Progress.{Counts, progress-counts, progress-moved}
 
 -- The number of a fate: 0 moved, and otherwise its answer's.

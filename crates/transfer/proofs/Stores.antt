@@ -3,16 +3,16 @@
 use Prim.Native.Nat.{ℕ, zero, suc, _+_, _≤_, _<_}
 use mathlib.Core.Bool.{Bool, true, false, cond}
 use mathlib.Core.List.{List, [], _∷_, _++_}
-use mathlib.Core.Path.{_≡_, refl, sym, ap, _∙_}
+use mathlib.Core.Path.{_≡_, refl, ap, _∙_}
 use native.Mathlib.Nat.{add-suc, add-zero}
 use native.Mathlib.Numerals.{add-one}
 use native.Mathlib.Omega.{arith}
-use lib.ListN.{drop, length, set, length-set}
+use lib.ListN.{drop, length}
 use lib.Seq.{paste-zero}
 use Rattle.wire.specs.Copy.{copied}
 use Rattle.wire.proofs.Laws.{copied-more}
 use Rattle.transfer.specs.Data.{move}
-use Rattle.transfer.specs.Stores.{Buffers, Cell, Store, after, upTo, with, worth}
+use Rattle.transfer.specs.Stores.{Buffers, Store, after, upTo, with, worth}
 
 -- One list of stores, and then another.
 pub after-append : (xs ys : List Store) (m : Buffers) → after (xs ++ ys) m ≡ after ys (after xs m)

@@ -1,9 +1,9 @@
 -- A survey run by run: what is left to come decides, once all sectors so far are moved.
 -- A run that comes to its end leads on; one that is stopped stops the whole, on its own cylinder.
-use Prim.Native.Nat.{ℕ, zero, suc, _+_, _-_, _≤_, _<_, min}
+use Prim.Native.Nat.{ℕ, _+_, _-_, _≤_, _<_}
 use mathlib.Core.Bool.{Bool}
 use mathlib.Core.List.{List}
-use mathlib.Core.Path.{_≡_, refl, sym, ap, _∙_}
+use mathlib.Core.Path.{_≡_, sym, ap, _∙_}
 use native.Mathlib.Nat.{add-assoc, add-zero, sub-add-eq, sub-zero, zero-add}
 use native.Mathlib.Omega.{arith}
 use Rattle.answers.specs.declared.BlockAnswer.{BlockAnswer}
@@ -15,7 +15,7 @@ use Rattle.transfer.specs.declared.Moved.{Moved}
 use Rattle.transfer.specs.Data.{placeFrom}
 use Rattle.transfer.specs.Progress.{Fate, Progress, fateAt, lastTried, progress}
 use Rattle.transfer.specs.Runs.{Advanced, progressFrom, surveyed}
-use Rattle.transfer.proofs.Progress.{Counts, leadsOn, progress-counts, progress-most, progress-same, progress-shift, progress-then}
+use Rattle.transfer.proofs.Progress.{leadsOn, progress-counts, progress-most, progress-same, progress-shift, progress-then}
 
 module _ (image : List ℕ) (u : Record) (v : VolumeNumber) (first count : ℕ) (heeds : Bool) where
   abbrev fate : ℕ → Fate

@@ -1,25 +1,23 @@
 -- A transfer that fits: the sectors that come have all their bytes in the image, so they may be carried.
 -- Then how far it comes and what is carried are the two halves of its result.
-use Prim.Native.Nat.{ℕ, _+_, _*_, _/_, _%_, _≤_, _<_, _^_}
+use Prim.Native.Nat.{ℕ, _*_, _/_, _≤_, _<_}
 use mathlib.Core.Bool.{Bool}
 use mathlib.Core.List.{List, []}
 use mathlib.Core.Logic.{by-cases, if-neg, if-pos}
-use mathlib.Core.Path.{_≡_, refl, sym, ap, _∙_}
+use mathlib.Core.Path.{_≡_, sym, ap, _∙_}
 use native.Mathlib.Decide.{decLt}
 use native.Mathlib.Nat.{div-lt-iff-lt-mul, mod-lt, mul-le-mul-right, mul-zero, zero-add}
 use native.Mathlib.Omega.{arith}
-use lib.ListN.{getD, length}
+use lib.ListN.{length}
 use Rattle.wire.proofs.Promises.{never}
 use Rattle.answers.specs.declared.Refusal.{Refusal}
 use Rattle.geometry.specs.declared.Geometry.{Geometry}
-use Rattle.geometry.specs.Drive.{B, volumeSectors}
-use Rattle.geometry.specs.Sectors.{firstByte}
+use Rattle.geometry.specs.Drive.{B}
 use Rattle.unit.specs.declared.Record.{Record}
-use Rattle.transfer.specs.declared.Moved.{Moved}
 use Rattle.transfer.specs.declared.Span.{Span}
 use Rattle.transfer.specs.Data.{dataOn, diskByte, placeFrom}
-use Rattle.transfer.specs.Progress.{Fate, InImage, Progress, fateAt, inImage?, moves, progress, stops}
-use Rattle.transfer.specs.Runs.{Held, PiecesFit, Spans, progressFrom, spanBytes, surveyed}
+use Rattle.transfer.specs.Progress.{Fate, InImage, Progress, fateAt, inImage?, moves, stops}
+use Rattle.transfer.specs.Runs.{Held, PiecesFit, Spans, progressFrom, spanBytes}
 use Rattle.transfer.specs.Whole.{SectorsFit, idle, resultOf, sectorsFit?, sectorsResult, spanMoved, spanTransfer}
 use Rattle.transfer.proofs.Progress.{progress-most, progress-moved}
 

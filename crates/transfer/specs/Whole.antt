@@ -1,10 +1,9 @@
 -- What a transfer comes to where the request fits, and that one which does not is left alone. A caller that has judged its request
 -- never meets the second; no caller is trusted to have.
-use Prim.Native.Nat.{ℕ, _+_, _*_, _≤_, _<_}
+use Prim.Native.Nat.{ℕ, _+_, _≤_, _<_}
 use mathlib.Core.Bool.{Bool}
 use mathlib.Core.List.{List, []}
 use mathlib.Core.Logic.{ite, Dec·and}
-use mathlib.Core.Path.{_≡_}
 use native.Mathlib.Decide.{decLe, decLt, map-dec, ℕ-discrete}
 use lib.ListN.{getD, length}
 use Rattle.wire.proofs.Decided.{all?}

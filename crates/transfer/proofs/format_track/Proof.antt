@@ -1,6 +1,6 @@
 -- A request that does not fit stores nothing. One that fits is scanned, and the sectors that come are filled.
 -- The two promises together are the result's two halves.
-use mathlib.Core.Path.{_≡_, refl, sym, ap, _∙_}
+use mathlib.Core.Path.{_≡_, refl}
 use native.Mathlib.Omega.{arith}
 use lib.ListN.{length}
 use Rattle.geometry.specs.Drive.{B}

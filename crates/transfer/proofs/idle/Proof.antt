@@ -1,5 +1,4 @@
 -- The heads stay where they were.
-use mathlib.Core.Path.{_≡_, refl}
 use borrow.Author.Needs.{needs}
 use Rattle.transfer.proofs.idle.Statement.{statement}
 use Rattle.transfer.proofs.idle.Tie as tie

@@ -1,11 +1,11 @@
 -- A request that does not fit stores nothing. One that fits is surveyed, and the sectors that come are carried.
 -- The two promises together are the result's two halves.
-use mathlib.Core.Path.{_≡_, refl, sym, ap, _∙_}
+use mathlib.Core.Path.{refl}
 use native.Mathlib.Omega.{arith}
 use lib.ListN.{length}
 use Rattle.wire.proofs.Promises.{denied, granted}
 use Rattle.transfer.specs.Data.{dataOn}
-use Rattle.transfer.specs.Runs.{Spans, lent}
+use Rattle.transfer.specs.Runs.{Spans}
 use Rattle.transfer.specs.Stores.{after}
 use Rattle.transfer.specs.Whole.{SectorsFit}
 use Rattle.transfer.proofs.Wholes.{reached-held, reached-pieces, reached-spans, sectors-fit, sectors-unfit}

@@ -1,11 +1,9 @@
 -- Every piece before the i-th lies in memory, and what they do not have of the bytes is left.
 -- A piece outside refuses all; at the end nothing may be left.
 use Prim.Native.Nat.{ℕ, _+_, _-_, _≤_, _<_}
-use mathlib.Core.Path.{_≡_, refl}
-use native.Mathlib.Nat.{sub-zero}
+use mathlib.Core.Path.{_≡_}
 use native.Mathlib.Numerals.{add-one}
 use native.Mathlib.Omega.{arith}
-use borrow.Author.Needs.{needs}
 use lib.ListN.{getD, length}
 use Rattle.transfer.specs.Pieces.{sum}
 use Rattle.wire.proofs.Decided.{all-more}

@@ -1,9 +1,6 @@
 -- Each plan has its own function, and its effect is the plan's.
-use mathlib.Core.Path.{_≡_, refl}
-use lib.ListN.{length}
-use Rattle.iopb.specs.Ask.{taskOf}
+use mathlib.Core.Path.{_≡_}
 use Rattle.judge.specs.declared.Plan.{Plan}
-use Rattle.judge.proofs.LetThrough.{format-let-through}
 use Rattle.board.proofs.Gathered.{track-let-through}
 use borrow.Author.Needs.{needs}
 use Rattle.board.proofs.block.accept.Statement.{statement}

@@ -1,5 +1,4 @@
 -- The finish, with the travel to the transfer's cylinder.
-use mathlib.Core.Path.{_≡_, refl}
 use mir.Syntax.{w32}
 use mir.ValLaws.{toZ-ofZ}
 use Rattle.board.specs.Events.{travelTo}

@@ -1,5 +1,4 @@
 -- Word 1 and the event entry, each by its own function.
-use mathlib.Core.Path.{_≡_}
 use mir.Syntax.{w32}
 use mir.ValLaws.{toZ-ofZ}
 use borrow.Author.Needs.{needs}

@@ -1,10 +1,8 @@
 -- The track fits, so what the transfer comes to is its definition's; the rest is the law of a block that makes a transfer.
 use Prim.Native.Nat.{_+_}
 use mathlib.Core.List.{[], _∷_}
-use mathlib.Core.Path.{_≡_, ap, sym}
 use lib.ListN.{length}
 use Rattle.transfer.specs.Data.{formatting}
-use Rattle.transfer.specs.Whole.{Result, trackResult}
 use Rattle.transfer.proofs.Filling.{track-fit}
 use Rattle.board.specs.Steps.{written}
 use Rattle.board.proofs.Transfers.{transfer-made}

@@ -1,11 +1,11 @@
 -- The block is marked and finished, and nothing comes between.
 use Prim.Native.Nat.{_+_}
 use mathlib.Core.List.{[], _∷_}
-use mathlib.Core.Path.{_≡_, refl}
+use mathlib.Core.Path.{refl}
 use lib.IntN.{pos}
 use Rattle.answers.specs.declared.BlockAnswer.{BlockAnswer}
 use Rattle.transfer.specs.Stores.{after}
-use Rattle.board.specs.Steps.{three, written}
+use Rattle.board.specs.Steps.{written}
 use Rattle.board.proofs.Effects.{finish-made, stages-made}
 use borrow.Author.Needs.{needs}
 use Rattle.board.proofs.block.initialize.Statement.{statement}

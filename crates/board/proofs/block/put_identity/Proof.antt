@@ -1,6 +1,6 @@
 -- The words are copied as one run.
 use Prim.Native.Nat.{_+_}
-use mathlib.Core.Path.{_≡_, _∙_}
+use mathlib.Core.Path.{_∙_}
 use native.Mathlib.Omega.{arith}
 use Rattle.iopb.specs.Identity.{identityBytes}
 use Rattle.board.proofs.Entries.{copy-written}

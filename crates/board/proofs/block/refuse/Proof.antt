@@ -1,5 +1,5 @@
 -- A refused block is finished and nothing else.
-use mathlib.Core.Path.{_≡_, refl}
+use mathlib.Core.Path.{refl}
 use lib.IntN.{pos}
 use Rattle.answers.specs.declared.BlockAnswer.{BlockAnswer}
 use Rattle.board.proofs.Effects.{finish-made}

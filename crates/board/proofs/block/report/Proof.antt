@@ -1,12 +1,12 @@
--- Between the mark and the finish the board's words are written.
+-- Between the 81 00 and the finish the board's words are written.
 use Prim.Native.Nat.{_+_}
 use mathlib.Core.List.{[], _∷_}
-use mathlib.Core.Path.{_≡_, refl}
+use mathlib.Core.Path.{refl}
 use lib.IntN.{pos}
 use Rattle.answers.specs.declared.BlockAnswer.{BlockAnswer}
 use Rattle.iopb.specs.Identity.{identityBytes}
 use Rattle.transfer.specs.Stores.{bytesFrom, hostByte}
-use Rattle.board.specs.Steps.{three, written}
+use Rattle.board.specs.Steps.{written}
 use Rattle.board.proofs.Effects.{finish-made, host-written, stages-made}
 use borrow.Author.Needs.{needs}
 use Rattle.board.proofs.block.report.Statement.{statement}

@@ -1,7 +1,6 @@
 -- The judgement let the list through, so its elements are copied out, they fit, and their bytes are the block's data.
 use Prim.Native.Nat.{_*_, _≤_}
 use mathlib.Core.Path.{_≡_, sym, ap, _∙_}
-use native.Mathlib.Omega.{arith}
 use lib.ListN.{length, take}
 use lib.Seq.{length-take-le}
 use Rattle.geometry.specs.Drive.{B}

@@ -1,6 +1,6 @@
 -- The judgement let the one piece through, so it fits, and its bytes are the block's data.
 use mathlib.Core.List.{[], _∷_}
-use mathlib.Core.Path.{_≡_, sym, ap, _∙_}
+use mathlib.Core.Path.{sym, ap, _∙_}
 use Rattle.transfer.specs.Runs.{pieceByte}
 use Rattle.board.specs.Block.{dataByte}
 use Rattle.board.proofs.Gathered.{moved-same, one-piece-byte, piece-fits}

@@ -1,15 +1,13 @@
 -- The sectors and the pieces fit, so what the transfer comes to is its definition's; the rest is the law of a block that makes
 -- a transfer.
 use Prim.Native.Nat.{_+_}
-use mathlib.Core.List.{[], _∷_}
-use mathlib.Core.Path.{_≡_, ap, sym}
 use lib.ListN.{length}
 use Rattle.transfer.specs.Progress.{lastTried}
 use Rattle.transfer.specs.Data.{progressOn}
 use Rattle.transfer.specs.Whole.{spanTransfer}
 use Rattle.transfer.proofs.Wholes.{sectors-fit}
 use Rattle.unit.specs.Landing.{spotOf}
-use Rattle.board.specs.Steps.{spanOf, written}
+use Rattle.board.specs.Steps.{spanOf}
 use Rattle.board.proofs.Transfers.{transfer-made}
 use borrow.Author.Needs.{needs}
 use Rattle.board.proofs.block.transfer_pieces.Statement.{statement}

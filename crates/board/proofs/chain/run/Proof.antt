@@ -1,6 +1,4 @@
 -- The checks in their order, each by its law; then the chain.
-use Prim.Native.Nat.{_+_, _*_}
-use mathlib.Core.Path.{_≡_}
 use native.Mathlib.Omega.{arith}
 use Rattle.answers.specs.declared.RunAnswer.{RunAnswer}
 use Rattle.wire.proofs.Promises.{denied, granted}

@@ -1,5 +1,5 @@
 -- Where the block can be fetched and has room for its entry, it is the step; elsewhere nothing is touched.
-use mathlib.Core.Path.{_≡_, refl}
+use mathlib.Core.Path.{refl}
 use native.Mathlib.Omega.{arith}
 use Rattle.wire.proofs.Promises.{denied, granted}
 use borrow.Author.Needs.{needs}

@@ -1,7 +1,7 @@
 -- The loop stands before the i-th piece, as the law of that name says; a turn carries that piece.
 -- It is left when all bytes are carried, and there are pieces enough for that.
 use Prim.Native.Nat.{_-_, _<_}
-use mathlib.Core.Path.{_≡_, refl}
+use mathlib.Core.Path.{_≡_}
 use native.Mathlib.Omega.{arith}
 use borrow.Author.Needs.{needs}
 use lib.ListN.{getD, length}

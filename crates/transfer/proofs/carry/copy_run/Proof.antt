@@ -7,35 +7,27 @@ use Rattle.transfer.proofs.carry.copy_run.Reads as reads
 use Rattle.transfer.proofs.carry.copy_run.Lts as lts
 use Rattle.wire.proofs.copy.Reads as copy-reads
 
--- src/carry.rt:29:9
 copy-requires : tie.Need-copy-requires
 copy-requires c κs = search needs
 
--- src/carry.rt:31:9
 copy-requires-2 : tie.Need-copy-requires-2
 copy-requires-2 c κs = search needs
 
--- src/carry.rt:23:1
 same-length : tie.Need-same-length
 same-length c = search needs
 
--- src/carry.rt:23:1
 same-length-2 : tie.Need-same-length-2
 same-length-2 c = search needs
 
--- src/carry.rt:23:1
 returns : tie.Need-returns
 returns c = rw (c .before .before .before .before .before .if1 .taken) (c .before .before .copy .ensures, refl)
 
--- src/carry.rt:23:1
 same-length-3 : tie.Need-same-length-3
 same-length-3 c = search needs
 
--- src/carry.rt:23:1
 same-length-4 : tie.Need-same-length-4
 same-length-4 c = search needs
 
--- src/carry.rt:23:1
 returns-2 : tie.Need-returns-2
 returns-2 c = rw (c .before .before .before .before .before .if1 .left) (refl, c .before .before .copy2 .ensures)
 

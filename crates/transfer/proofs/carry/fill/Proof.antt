@@ -1,7 +1,7 @@
 -- After i turns the first i sectors are filled, and the next one begins where they end.
 -- A turn is one copy, by the law of one sector more.
 use Prim.Native.Nat.{_+_, _-_, _*_, _≤_}
-use mathlib.Core.Path.{_≡_, refl, _∙_}
+use mathlib.Core.Path.{_≡_, refl}
 use native.Mathlib.Nat.{add-mul, mul-le-mul-right, one-mul, zero-mul}
 use native.Mathlib.Omega.{arith}
 use lib.ListN.{length}

@@ -1,7 +1,5 @@
 -- A cursor with bytes left is ready itself.
 -- One whose run is used up has whole sectors behind it, and the next one is the span's.
-use mathlib.Core.Path.{_≡_}
-use native.Mathlib.Omega.{arith}
 use Rattle.transfer.proofs.Carrying.{next-sector}
 use borrow.Author.Needs.{needs}
 use Rattle.transfer.proofs.carry.ready.Statement.{statement}

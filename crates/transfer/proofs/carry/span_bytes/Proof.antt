@@ -1,6 +1,5 @@
 -- Two numbers of 16 bits have a product of 32.
 use Prim.Native.Nat.{_^_}
-use mathlib.Core.Path.{_≡_, refl}
 use native.Mathlib.Omega.{arith}
 use Rattle.wire.proofs.Numbers.{product-below}
 use borrow.Author.Needs.{needs}

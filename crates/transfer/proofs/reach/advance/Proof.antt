@@ -1,6 +1,6 @@
 -- The run lies on the drive, so that it can be scanned.
 -- What its places in a row come to is what its sectors come to.
-use mathlib.Core.Path.{_≡_, ap, sym, _∙_}
+use mathlib.Core.Path.{ap, sym, _∙_}
 use native.Mathlib.Omega.{arith}
 use Rattle.transfer.specs.Progress.{Progress}
 use Rattle.transfer.specs.declared.reach.Reached.{Reached}

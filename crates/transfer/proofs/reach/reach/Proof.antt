@@ -1,6 +1,6 @@
 -- A place on the drive has a mark; of the marks that follow, those in the image are scanned, and what is found says how far.
 -- Each way out is the row's law of the same name.
-use mathlib.Core.Path.{_≡_, sym, ap}
+use mathlib.Core.Path.{sym, ap}
 use native.Mathlib.Omega.{arith}
 use Rattle.geometry.proofs.Answers.{at-sector, no-sector}
 use Rattle.transfer.specs.Progress.{Progress}

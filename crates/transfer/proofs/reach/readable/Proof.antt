@@ -1,7 +1,7 @@
 -- Every mark before the i-th is good; the loop is left at the first that is not, or at the end.
 -- A transfer that heeds no mark passes all of them.
 use Prim.Native.Nat.{ℕ, _+_, _-_, _≤_, _<_}
-use mathlib.Core.Bool.{true, false}
+use mathlib.Core.Bool.{true}
 use mathlib.Core.Path.{_≡_}
 use native.Mathlib.Numerals.{add-one}
 use native.Mathlib.Omega.{arith}

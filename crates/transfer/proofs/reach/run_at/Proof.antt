@@ -1,6 +1,6 @@
 -- A number of the volume has a landing; its run is the rest of its track, cut to what was asked for.
 -- Both are positive, so the run has a sector.
-use mathlib.Core.Path.{_≡_, ap}
+use mathlib.Core.Path.{ap}
 use native.Mathlib.Omega.{arith}
 use borrow.Author.Needs.{needs}
 use Rattle.unit.specs.declared.Spot.{Spot}
@@ -13,29 +13,23 @@ use Rattle.transfer.proofs.reach.run_at.Lts as lts
 use Rattle.transfer.proofs.reach.lesser.Reads as lesser-reads
 use Rattle.unit.proofs.Record.land.Reads as land-reads
 
--- src/reach.rt:30:29
 land-requires : tie.Need-land-requires
 land-requires c κs = search needs
 
--- src/reach.rt:30:21
 enum-known-spot : tie.Need-enum-known-spot
 enum-known-spot c = search needs
 
--- src/reach.rt:31:9
 enum-told : tie.Need-enum-told
 enum-told c = search needs
 
--- src/reach.rt:31:9
 returns : tie.Need-returns
 returns c =
     let a = c .before .before .before .args in
     absurd (omega (arith, no-landing (a .u) (a .v) (a .number) cc))
 
--- src/reach.rt:39:18
 lesser-requires : tie.Need-lesser-requires
 lesser-requires c κs = search needs
 
--- src/reach.rt:26:1
 returns-2 : tie.Need-returns-2
 returns-2 c =
     let a = c .before .before .before .before .before .args in

@@ -1,7 +1,6 @@
 -- The loop stands where Surveying says; a run that comes to its end leads to the next turn.
 -- Each way out is the survey's law of that name.
 use Prim.Native.Nat.{_-_}
-use mathlib.Core.Path.{_≡_}
 use native.Mathlib.Omega.{arith}
 use borrow.Author.Needs.{needs}
 use Rattle.transfer.proofs.Survey.{Surveying, advanced-most, survey-begins, survey-ends, survey-grows, survey-on, survey-stopped}
