@@ -22,7 +22,7 @@ use Rattle.request.specs.declared.UnitNumber.the-variants.{Zero, One}
 use Rattle.transfer.specs.Data.{Transfer, formatting, progressOn}
 use Rattle.transfer.specs.Progress.{InImage}
 use Rattle.transfer.proofs.Stops.{StoppedAtAMark, means-unreadable, unreadable-means}
-use Rattle.transfer.specs.Stores.{after}
+use Rattle.transfer.specs.Stores.{Stored, after, imageByte}
 use Rattle.transfer.proofs.Marks.{StandsOnDrive, formatting-on-drive, moving-on-drive, no-mark-stored}
 use Rattle.board.specs.Block.{Effect, dataByte, transferOf, worldAfter}
 use Rattle.board.specs.Footprint.{HostWritten, ImageWritten, Makes, namedDrive, makes, names, verdictOf}
@@ -97,18 +97,22 @@ module _ (v : Visit) where
   on-drive (Initialize g) t is mk = absurd mk
   on-drive (Heads c) t is mk = absurd mk
 
-  -- "No command changes a mark" (01, One run), and "Bytes after that are never touched" (01, Geometry): whatever a block does, every
-  -- byte of its unit's image from the marks on is as it was.
-  pub no-mark-changes :
-      (x : ℕ) → marksAt (namedDrive v .unit .geometry) ≤ x →
-      getD (driveOf (worldLeft v) (names v) .image) x 0 ≡ getD (namedDrive v .image) x 0
-  no-mark-changes x from = block-keeps-image v (names v) x (λ there. none (image-written-exactly v x .1 (there .1)))
+  -- No store of a block reaches a mark, or a byte after the marks.
+  pub no-mark : (x : ℕ) → marksAt (namedDrive v .unit .geometry) ≤ x → Stored (effectOf v .stores) (imageByte x) → ⊥
+  no-mark x from there = none (image-written-exactly v x .1 there)
     where
       none : ImageWritten v x → ⊥
       none (t, ((plan, (is, mk)), (way, (k, (less, here))))) =
           let on = on-drive plan t is mk in
           no-mark-stored (namedDrive v .image) t (on .0) x (rw (on .1) from)
           (data-disk (namedDrive v .image) t x way (k, (rw (made v plan t is mk .1) at less, here)))
+
+  -- "No command changes a mark" (01, One run), and "Bytes after that are never touched" (01, Geometry): whatever a block does, every
+  -- byte of its unit's image from the marks on is as it was.
+  pub no-mark-changes :
+      (x : ℕ) → marksAt (namedDrive v .unit .geometry) ≤ x →
+      getD (driveOf (worldLeft v) (names v) .image) x 0 ≡ getD (namedDrive v .image) x 0
+  no-mark-changes x from = block-keeps-image v (names v) x (λ there. no-mark x from (there .1))
 
   -- ---- answer 20
 

@@ -9,6 +9,7 @@ pub mod Keeps
 pub mod Outcomes
 pub mod Parts
 pub mod RunAnswers
+pub mod RunMarks
 pub mod Runs
 pub mod Transfers
 pub mod Travel
