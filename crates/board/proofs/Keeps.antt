@@ -221,7 +221,7 @@ module _ (v : Visit) where
       by-verdict (Do Report) is named changes = changes
       by-verdict (Do (Initialize g)) is named changes = none (named, (g, is))
       by-verdict (Do (Heads c)) is named changes =
-          bad (subst (λ (m : UnitNumber). CountsAsInitialized (driveOf (v .world) m .unit)) named (heads-let-through _ c is))
+          bad (subst (λ (m : UnitNumber). CountsAsInitialized (driveOf (v .world) m .unit)) named (heads-let-through _ c is .0))
       by-verdict (Do (Format s b)) is named changes =
           bad (subst (λ (m : UnitNumber). CountsAsInitialized (driveOf (v .world) m .unit)) named (format-let-through _ s b is .initialized))
       by-verdict (Do (Move j)) is named changes =

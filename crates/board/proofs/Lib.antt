@@ -1,4 +1,5 @@
 pub mod BlockLaws
+pub mod BlockTravel
 pub mod Chains
 pub mod Complement
 pub mod Effects

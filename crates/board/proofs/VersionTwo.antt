@@ -25,7 +25,7 @@ use Rattle.board.specs.Footprint.{HostData, HostWritten, Makes, namedDri
 use Rattle.board.specs.Visits.{Visit, blockOf, effectOf, worldLeft}
 use Rattle.board.specs.World.{buffersOf, changed, driveOf}
 use Rattle.board.proofs.Keeps.{block-keeps-host}
-use Rattle.board.proofs.Written.{between, finish-host, host-written-exactly, made, reports, stages}
+use Rattle.board.proofs.Written.{between, finish-host, host-written-exactly, made, reports, stages, travels}
 
 same-plan : (p q : Plan) → Do p ≡ Do q → p ≡ q
 same-plan p q e = cc
@@ -76,14 +76,14 @@ module _ (v : Visit) (t : Transfer) (m : Makes v t) (reads : t .to-host ≡ true
         let s = stages v plan (m .1 .0) in
         let d = made v plan t (m .1 .0) (m .1 .1) in
         let begin = bytesFrom hostByte (v .at + 2) (0x81 ∷ 0x00 ∷ []) in
-        let close = finish (blockOf v) (v .at) (v .index) (s .answer) (s .travel) in
+        let close = finish (blockOf v) (v .at) (v .index) (s .answer) (travels v plan) in
         let marked-image : begun b .image ≡ namedDrive v .image = ap (λ (x : Buffers). x .image) (host-bytes-stored (0x81 ∷ 0x00 ∷ []) (v .at + 2) b) ∙ same in
         let amount : effectOf v .sectors ≡ progressOn (begun b .image) t .sectors =
         d .1 ∙ ap (λ (i : List ℕ). progressOn i t .sectors) (sym marked-image) in
         ap (λ ss. getD (after ss b .host) (t .host-byte k) 0) (s .stores)
         ∙ ap (λ (x : Buffers). getD (x .host) (t .host-byte k) 0) (after-append (begin ++ between v plan) close b)
         ∙ unstored-stays close (after (begin ++ between v plan) b) (hostByte (t .host-byte k))
-        (λ there. outside (finish-host (blockOf v) (v .at) (v .index) (s .answer) (s .travel) (t .host-byte k) there))
+        (λ there. outside (finish-host (blockOf v) (v .at) (v .index) (s .answer) (travels v plan) (t .host-byte k) there))
         ∙ ap (λ (x : Buffers). getD (x .host) (t .host-byte k) 0) (after-append begin (between v plan) b)
         ∙ ap (λ ss. getD (after ss (begun b) .host) (t .host-byte k) 0) (d .0 ∙ ap (λ (i : List ℕ). dataOn i t) (sym marked-image))
         ∙ host-has-byte (begun b) t reads k (rw amount at came) (omega (arith, lengths-stay begin b))

@@ -227,46 +227,30 @@ module _ (v : Visit) where
   between (Format spot buffer) = dataOn image (formatting (namedDrive v .unit) spot buffer)
   between (Move j) = dataOn image (transferOf (namedDrive v .unit) j (dataByte (v .world .host) (j .buffer)))
 
-  pub record Stages (plan : Plan) : Type 0 where
-    pub answer : BlockAnswer
-    pub travel : ℤ
-    pub stores : effectOf v .stores ≡ staged (blockOf v) (v .at) (v .index) (between plan) answer travel
-
   abbrev done : Plan → Effect
   done plan = judged (blockOf v) (v .at) (v .index) (v .world .host) (namedDrive v) (Do plan)
 
+  -- And how far the heads travel.
+  unfoldable pub travels : Plan → ℤ
+  travels Report = pos 0
+  travels (Initialize g) = pos 0
+  travels (Heads c) = travelTo (namedDrive v .unit .cylinder) (done (Heads c) .unit .cylinder)
+  travels (Format s b) = travelTo (namedDrive v .unit .cylinder) (done (Format s b) .unit .cylinder)
+  travels (Move j) = travelTo (namedDrive v .unit .cylinder) (done (Move j) .unit .cylinder)
+
+  pub record Stages (plan : Plan) : Type 0 where
+    pub answer : BlockAnswer
+    pub stores : effectOf v .stores ≡ staged (blockOf v) (v .at) (v .index) (between plan) answer (travels plan)
+
   pub stages : (plan : Plan) → verdictOf v ≡ Do plan → Stages plan
-  unfolding between
-  stages Report is =
-      record {
-        answer = done Report .answer;
-        travel = pos 0;
-        stores = ap (λ (e : Effect). e .stores) (effect-is (Do Report) is);
-      }
+  unfolding between travels
+  stages Report is = record { answer = done Report .answer; stores = ap (λ (e : Effect). e .stores) (effect-is (Do Report) is) }
   stages (Initialize g) is =
-      record {
-        answer = done (Initialize g) .answer;
-        travel = pos 0;
-        stores = ap (λ (e : Effect). e .stores) (effect-is (Do (Initialize g)) is);
-      }
-  stages (Heads c) is =
-      record {
-        answer = done (Heads c) .answer;
-        travel = travelTo (namedDrive v .unit .cylinder) (done (Heads c) .unit .cylinder);
-        stores = ap (λ (e : Effect). e .stores) (effect-is (Do (Heads c)) is);
-      }
+      record { answer = done (Initialize g) .answer; stores = ap (λ (e : Effect). e .stores) (effect-is (Do (Initialize g)) is) }
+  stages (Heads c) is = record { answer = done (Heads c) .answer; stores = ap (λ (e : Effect). e .stores) (effect-is (Do (Heads c)) is) }
   stages (Format s b) is =
-      record {
-        answer = done (Format s b) .answer;
-        travel = travelTo (namedDrive v .unit .cylinder) (done (Format s b) .unit .cylinder);
-        stores = ap (λ (e : Effect). e .stores) (effect-is (Do (Format s b)) is);
-      }
-  stages (Move j) is =
-      record {
-        answer = done (Move j) .answer;
-        travel = travelTo (namedDrive v .unit .cylinder) (done (Move j) .unit .cylinder);
-        stores = ap (λ (e : Effect). e .stores) (effect-is (Do (Move j)) is);
-      }
+      record { answer = done (Format s b) .answer; stores = ap (λ (e : Effect). e .stores) (effect-is (Do (Format s b)) is) }
+  stages (Move j) is = record { answer = done (Move j) .answer; stores = ap (λ (e : Effect). e .stores) (effect-is (Do (Move j)) is) }
 
   -- The transfer that a plan makes has its bytes between, and as many as the block moved.
   pub made :
@@ -301,12 +285,12 @@ module _ (v : Visit) where
         rw (s .1 .1) (host-finish (blockOf v) (v .at) (v .index) (s .0) (s .1 .0) x word)
     word-stored (Do plan) is word =
         let s = stages plan is in
-        rw (s .stores) (host-stages (blockOf v) (v .at) (v .index) (s .answer) (s .travel) (between plan) x (inl word))
+        rw (s .stores) (host-stages (blockOf v) (v .at) (v .index) (s .answer) (travels plan) (between plan) x (inl word))
 
     middle-stored : (plan : Plan) → verdictOf v ≡ Do plan → Stored (between plan) (hostByte x) → Target
     middle-stored plan is there =
         let s = stages plan is in
-        rw (s .stores) (host-stages (blockOf v) (v .at) (v .index) (s .answer) (s .travel) (between plan) x (inr there))
+        rw (s .stores) (host-stages (blockOf v) (v .at) (v .index) (s .answer) (travels plan) (between plan) x (inr there))
 
     written-is-stored : HostWritten v x → Target
     unfolding between
@@ -336,7 +320,7 @@ module _ (v : Visit) where
     stored-is-written (Do plan) is there =
         let s = stages plan is in
         ⊎-elim (λ word. inl word) (λ middle. between-is-written plan is middle)
-        (stages-host (blockOf v) (v .at) (v .index) (s .answer) (s .travel) (between plan) x (rw (s .stores) at there))
+        (stages-host (blockOf v) (v .at) (v .index) (s .answer) (travels plan) (between plan) x (rw (s .stores) at there))
 
     -- A host byte is written exactly where 01 says.
     pub host-written-exactly : HostWritten v x ↔ Stored (effectOf v .stores) (hostByte x)
@@ -353,7 +337,7 @@ module _ (v : Visit) where
         let s = stages plan is in
         let m = made plan t is mk in
         rw (s .stores)
-        (image-stages (blockOf v) (v .at) (v .index) (s .answer) (s .travel) (between plan) x
+        (image-stages (blockOf v) (v .at) (v .index) (s .answer) (travels plan) (between plan) x
         (rw (m .0) (data-disk image t x from (k, (rw (m .1) at less, here)))))
 
     between-reached : (plan : Plan) → verdictOf v ≡ Do plan → Stored (between plan) (imageByte x) → ImageWritten v x
@@ -379,7 +363,7 @@ module _ (v : Visit) where
     reached-is-written (Do plan) is there =
         let s = stages plan is in
         between-reached plan is
-        (stages-image (blockOf v) (v .at) (v .index) (s .answer) (s .travel) (between plan) x (rw (s .stores) at there))
+        (stages-image (blockOf v) (v .at) (v .index) (s .answer) (travels plan) (between plan) x (rw (s .stores) at there))
 
     -- An image byte is written exactly where a block of 82, A2 or 8C moved a byte to it.
     pub image-written-exactly : ImageWritten v x ↔ Stored (effectOf v .stores) (imageByte x)
@@ -403,9 +387,9 @@ module _ (v : Visit) where
     entry-stored (Do plan) is among =
         let s = stages plan is in
         rw (s .stores)
-        (append-stored (begin (blockOf v) (v .at) (v .index) (s .answer) (s .travel) (between plan) ++ between plan)
-        (finish (blockOf v) (v .at) (v .index) (s .answer) (s .travel)) (eventByte x)
-        (inr (event-finish (blockOf v) (v .at) (v .index) (s .answer) (s .travel) x among)))
+        (append-stored (begin (blockOf v) (v .at) (v .index) (s .answer) (travels plan) (between plan) ++ between plan)
+        (finish (blockOf v) (v .at) (v .index) (s .answer) (travels plan)) (eventByte x)
+        (inr (event-finish (blockOf v) (v .at) (v .index) (s .answer) (travels plan) x among)))
 
     stored-entry : (verd : Verdict) → verdictOf v ≡ verd → Stored (effectOf v .stores) (eventByte x) → EventWritten v x
     unfolding kind
@@ -420,8 +404,8 @@ module _ (v : Visit) where
         absurd
         (⊎-elim (λ m. other-kind hostByte (v .at + 2) (0x81 ∷ 0x00 ∷ []) (eventByte x) (λ y e. omega arith) m) (λ middle. between-no-event plan middle)
         (stored-of-append mark (between plan) (eventByte x) earlier)))
-        (λ last. finish-event (blockOf v) (v .at) (v .index) (s .answer) (s .travel) x last)
-        (stored-of-append (mark ++ between plan) (finish (blockOf v) (v .at) (v .index) (s .answer) (s .travel)) (eventByte x) (rw (s .stores) at there))
+        (λ last. finish-event (blockOf v) (v .at) (v .index) (s .answer) (travels plan) x last)
+        (stored-of-append (mark ++ between plan) (finish (blockOf v) (v .at) (v .index) (s .answer) (travels plan)) (eventByte x) (rw (s .stores) at there))
 
     -- The event buffer is written exactly in the block's entry: "The rest of the event buffer stays."
     pub event-written-exactly : EventWritten v x ↔ Stored (effectOf v .stores) (eventByte x)

@@ -11,21 +11,22 @@ use Rattle.answers.specs.declared.Refusal.{Refusal}
 use Rattle.answers.specs.Numbers.{refusalNumber}
 use Rattle.geometry.specs.declared.Number.{Number}
 use Rattle.geometry.specs.declared.Number.the-variants.{Is, Outside}
-use Rattle.geometry.specs.Drive.{B, S, driveSectors, need, volumeSectors}
+use Rattle.geometry.specs.Drive.{B, C, S, driveSectors, need, volumeSectors}
 use Rattle.geometry.specs.Sectors.{address, onDrive?}
 use Rattle.request.specs.declared.Buffer.{Buffer}
 use Rattle.request.specs.declared.Buffer.the-variants.{Piece, List as Elements}
 use Rattle.request.specs.declared.Move.{Move}
 use Rattle.request.specs.declared.Shape.the-variants.{Misplaced, Given as Says}
+use Rattle.request.specs.declared.Target.{Target}
 use Rattle.request.specs.declared.Track.{Track}
 use Rattle.request.specs.declared.Task.{Task}
 use Rattle.request.specs.declared.Task.the-variants.{Unknown, Move as Moves, Handshake, Initialize, Restore, Seek, Format}
 use Rattle.unit.specs.declared.Record.{Record}
 use Rattle.unit.specs.declared.Spot.{Spot}
-use Rattle.unit.specs.Landing.{trackOf}
+use Rattle.unit.specs.Landing.{spotOf, trackOf}
 use Rattle.unit.specs.Standing.{CountsAsInitialized}
 use Rattle.unit.proofs.Decided.{counts?}
-use Rattle.unit.proofs.Laws.{track-inside, track-whole}
+use Rattle.unit.proofs.Laws.{spot-inside, track-inside, track-whole}
 use Rattle.memory.specs.Lists.{ListGood, Ranges}
 use Rattle.memory.proofs.Decided.{listGood?, ranges?}
 use Rattle.wire.specs.Memory.{inMemory?}
@@ -69,6 +70,7 @@ pub record MoveAccepted (a : Asked) (j : Job) : Type 0 where
 pub record FormatAccepted (a : Asked) (spot : Spot) (at : ℕ) : Type 0 where
   pub initialized : CountsAsInitialized (a .unit)
   pub track : spot .place + S (a .unit .geometry) ≤ driveSectors (a .unit .geometry)
+  pub cylinder : spot .cylinder < C (a .unit .geometry)
   pub image : need (a .unit .geometry) ≤ a .image
   pub buffer : InMemory (a .host) at (B (a .unit .geometry))
 
@@ -126,6 +128,7 @@ module _ (u : Record) (image : ℕ) (host : List ℕ) where
       (record {
         initialized = by-cases (counts? u) (λ h. h) (λ out. absurd (n .1 .0 out));
         track = omega (arith, track-inside u (k .cylinder) (k .head) on, track-whole u (k .cylinder) (k .head));
+        cylinder = track-inside u (k .cylinder) (k .head) on .cylinder;
         image = omega (arith, n .1 .1 .1 .1 .1 .1 .1 .0);
         buffer =
             by-cases (inMemory? host (k .buffer) (B (u .geometry))) (λ h. h)
@@ -194,9 +197,18 @@ refused-before-transfer a r e =
 
 -- ---- a plan that moves the heads
 
+-- Where a seek leads, its cylinder is one of the drive's.
+seek-inside :
+    (u : Record) (t : Target) (x : Number) → Covers u (t .volume) x 1 → spotOf u (t .volume) (found x) .cylinder < C (u .geometry)
+seek-inside u t (Is n) c = spot-inside u (t .volume) n (c .0) .cylinder
+seek-inside u t Outside c = absurd c
+
+abbrev HeadsAccepted : Record → ℕ → Type 0
+HeadsAccepted u c = CountsAsInitialized u × (c < C (u .geometry))
+
 heads-by-task :
     (u : Record) (image : ℕ) (host : List ℕ) (t : Task) (c : ℕ) →
-    verdict (asking u image host t) ≡ Verdict.Do (Plan.Heads c) → CountsAsInitialized u
+    verdict (asking u image host t) ≡ Verdict.Do (Plan.Heads c) → HeadsAccepted u c
 unfolding verdict None
 heads-by-task u image host Unknown c e = absurd (all-passed (checks (asking u image host Unknown)) _ _ e .0 .0 tt)
 heads-by-task u image host (Moves m) c e = absurd (impossible (cc (all-passed (checks (asking u image host (Moves m))) _ _ e .1)))
@@ -206,12 +218,20 @@ heads-by-task u image host (Initialize Misplaced) c e =
 heads-by-task u image host (Initialize (Says g)) c e =
     absurd (impossible (cc (all-passed (checks (asking u image host (Initialize (Says g)))) _ _ e .1)))
 heads-by-task u image host Restore c e =
-    by-cases (counts? u) (λ h. h) (λ out. absurd (all-passed (checks (asking u image host Restore)) _ _ e .0 .1 .0 out))
+    let a = all-passed (checks (asking u image host Restore)) _ _ e in
+    let counts : CountsAsInitialized u = by-cases (counts? u) (λ h. h) (λ out. absurd (a .0 .1 .0 out)) in
+    let is : c ≡ 0 = cc (a .1) in
+    (counts, omega (arith, counts .within .sizes .cylinders))
 heads-by-task u image host (Seek t) c e =
-    by-cases (counts? u) (λ h. h) (λ out. absurd (all-passed (checks (asking u image host (Seek t))) _ _ e .0 .1 .0 out))
+    let a = all-passed (checks (asking u image host (Seek t))) _ _ e in
+    let counts : CountsAsInitialized u = by-cases (counts? u) (λ h. h) (λ out. absurd (a .0 .1 .0 out)) in
+    let x = numberOf u (t .volume) (t .start) in
+    let is : c ≡ spotOf u (t .volume) (found x) .cylinder = cc (a .1) in
+    (counts, rw is (seek-inside u t x (by-cases (covers? u (t .volume) x 1) (λ h. h) (λ out. absurd (a .0 .1 .1 .1 .1 .1 .1 .0 out)))))
 heads-by-task u image host (Format k) c e = absurd (impossible (cc (all-passed (checks (asking u image host (Format k))) _ _ e .1)))
 
-pub heads-let-through : (a : Asked) (c : ℕ) → verdict a ≡ Verdict.Do (Plan.Heads c) → CountsAsInitialized (a .unit)
+pub heads-let-through :
+    (a : Asked) (c : ℕ) → verdict a ≡ Verdict.Do (Plan.Heads c) → CountsAsInitialized (a .unit) × (c < C (a .unit .geometry))
 heads-let-through a c e = heads-by-task (a .unit) (a .image) (a .host) (a .task) c e
 
 -- ---- a plan to report
