@@ -11,7 +11,7 @@ use Rattle.answers.specs.declared.BlockAnswer.{BlockAnswer}
 use Rattle.answers.specs.declared.BlockAnswer.the-variants.{Ended, Failed}
 use Rattle.request.specs.declared.UnitNumber.{UnitNumber}
 use Rattle.request.specs.declared.UnitNumber.the-variants.{Zero, One}
-use Rattle.transfer.specs.Stores.{Cell, Stored, after, eventByte, hostByte, imageByte}
+use Rattle.transfer.specs.Stores.{Buffers, Cell, Stored, after, eventByte, held, hostByte, imageByte}
 use Rattle.transfer.proofs.Stays.{lengths-stay, unstored-stays}
 use Rattle.wire.specs.Memory.{inMemory?}
 use Rattle.board.specs.Block.{Effect, worldAfter}
@@ -96,28 +96,24 @@ module _ (v : Visit) where
   abbrev Targets : Cell → Type 0
   Targets c = Stored (effectOf v .stores) c
 
+  -- What the block worked on is as its stores leave it.
+  pub buffers-left : buffersOf (worldLeft v) (names v) ≡ after (effectOf v .stores) (buffersOf (v .world) (names v))
+  unfolding worldAfter
+  buffers-left = by-unit (names v) _
+    where
+      by-unit : (n : UnitNumber) (m : Buffers) → buffersOf (changed (v .world) n m (effectOf v .unit)) n ≡ m
+      by-unit Zero m = refl
+      by-unit One m = refl
+
+  kept : (c : Cell) → (Targets c → ⊥) → held (buffersOf (worldLeft v) (names v)) c ≡ held (buffersOf (v .world) (names v)) c
+  kept c none = ap (λ (m : Buffers). held m c) buffers-left ∙ unstored-stays (effectOf v .stores) (buffersOf (v .world) (names v)) c none
+
   -- A host byte that no store of the block has as its target, and an entry's byte.
   pub block-keeps-host : (x : ℕ) → (Targets (hostByte x) → ⊥) → getD (worldLeft v .host) x 0 ≡ getD (v .world .host) x 0
-  unfolding worldAfter
-  block-keeps-host x none = by-unit (names v)
-    where
-      by-unit :
-          (n : UnitNumber) →
-          getD (changed (v .world) n (after (effectOf v .stores) (buffersOf (v .world) n)) (effectOf v .unit) .host) x 0 ≡
-          getD (v .world .host) x 0
-      by-unit Zero = unstored-stays (effectOf v .stores) (buffersOf (v .world) Zero) (hostByte x) none
-      by-unit One = unstored-stays (effectOf v .stores) (buffersOf (v .world) One) (hostByte x) none
+  block-keeps-host x none = kept (hostByte x) none
 
   pub block-keeps-events : (x : ℕ) → (Targets (eventByte x) → ⊥) → getD (worldLeft v .events) x 0 ≡ getD (v .world .events) x 0
-  unfolding worldAfter
-  block-keeps-events x none = by-unit (names v)
-    where
-      by-unit :
-          (n : UnitNumber) →
-          getD (changed (v .world) n (after (effectOf v .stores) (buffersOf (v .world) n)) (effectOf v .unit) .events) x 0 ≡
-          getD (v .world .events) x 0
-      by-unit Zero = unstored-stays (effectOf v .stores) (buffersOf (v .world) Zero) (eventByte x) none
-      by-unit One = unstored-stays (effectOf v .stores) (buffersOf (v .world) One) (eventByte x) none
+  block-keeps-events x none = kept (eventByte x) none
 
   -- The drive of a unit that it does not name, record and image; and, of the one it names, every image byte that is no target.
   pub block-keeps-drive : (n : UnitNumber) → (names v ≡ n → ⊥) → driveOf (worldLeft v) n ≡ driveOf (v .world) n

@@ -13,18 +13,16 @@ use Rattle.geometry.specs.Drive.{B}
 use Rattle.judge.specs.declared.Plan.{Plan}
 use Rattle.judge.specs.declared.Plan.the-variants.{Report, Initialize, Heads, Format, Move}
 use Rattle.judge.specs.declared.Verdict.the-variants.{Do}
-use Rattle.request.specs.declared.UnitNumber.{UnitNumber}
-use Rattle.request.specs.declared.UnitNumber.the-variants.{Zero, One}
 use Rattle.transfer.specs.Data.{Transfer, dataOn, diskByte, progressOn}
 use Rattle.transfer.specs.Stores.{Buffers, after, bytesFrom, hostByte}
 use Rattle.transfer.proofs.Earlier.{host-has-byte}
 use Rattle.transfer.proofs.Stays.{host-bytes-stored, lengths-stay, unstored-stays}
 use Rattle.transfer.proofs.Stores.{after-append}
-use Rattle.board.specs.Block.{finish, worldAfter}
+use Rattle.board.specs.Block.{finish}
 use Rattle.board.specs.Footprint.{HostData, HostWritten, Makes, namedDrive, makes, names}
 use Rattle.board.specs.Visits.{Visit, blockOf, effectOf, worldLeft}
-use Rattle.board.specs.World.{buffersOf, changed, driveOf}
-use Rattle.board.proofs.Keeps.{block-keeps-host}
+use Rattle.board.specs.World.{buffersOf}
+use Rattle.board.proofs.Keeps.{block-keeps-host, buffers-left}
 use Rattle.board.proofs.Written.{between, finish-host, host-written-exactly, made, reports, stages, travels}
 
 same-plan : (p q : Plan) → Do p ≡ Do q → p ≡ q
@@ -92,12 +90,5 @@ module _ (v : Visit) (t : Transfer) (m : Makes v t) (reads : t .to-host ≡ true
 
     pub disk-byte-is-there :
         getD (worldLeft v .host) (t .host-byte k) 0 ≡ getD (namedDrive v .image) (diskByte (t .geometry) (t .place) k) 0
-    unfolding worldAfter
-    disk-byte-is-there = by-unit (names v) refl
-      where
-        by-unit :
-            (n : UnitNumber) → names v ≡ n →
-            getD (changed (v .world) n (after (effectOf v .stores) (buffersOf (v .world) n)) (effectOf v .unit) .host) (t .host-byte k) 0 ≡
-            getD (namedDrive v .image) (diskByte (t .geometry) (t .place) k) 0
-        by-unit Zero is = data-there (buffersOf (v .world) Zero) (ap (λ (n : UnitNumber). driveOf (v .world) n .image) (sym is)) refl
-        by-unit One is = data-there (buffersOf (v .world) One) (ap (λ (n : UnitNumber). driveOf (v .world) n .image) (sym is)) refl
+    disk-byte-is-there =
+        ap (λ (x : Buffers). getD (x .host) (t .host-byte k) 0) (buffers-left v) ∙ data-there (buffersOf (v .world) (names v)) refl refl

@@ -2,25 +2,25 @@
 // Outside the buffer nothing is stored, and what is read is 0.
 ghost use Prim.Native.Nat.{_≤_};
 
-pub fn at(bytes: &[u8], from: u32, i: u32) -> u8 {
+pub(crate) fn at(bytes: &[u8], from: u32, i: u32) -> u8 {
     let k = (from as usize) + (i as usize);
     if k < bytes.len() { bytes[k] } else { 0 }
 }
 
-pub fn put(bytes: &mut [u8], from: u32, i: u32, byte: u8) {
+pub(crate) fn put(bytes: &mut [u8], from: u32, i: u32, byte: u8) {
     let k = (from as usize) + (i as usize);
     if k < bytes.len() {
         bytes[k] = byte;
     }
 }
 
-pub fn put16(bytes: &mut [u8], from: u32, i: u8, word: u16) {
+pub(crate) fn put16(bytes: &mut [u8], from: u32, i: u8, word: u16) {
     let k = i as u32;
     put(bytes, from, k, (word / 256 % 256) as u8);
     put(bytes, from, k + 1, (word % 256) as u8);
 }
 
-pub fn put32(bytes: &mut [u8], from: u32, i: u8, word: u32) {
+pub(crate) fn put32(bytes: &mut [u8], from: u32, i: u8, word: u32) {
     let k = i as u32;
     put(bytes, from, k, (word / 256 / 256 / 256 % 256) as u8);
     put(bytes, from, k + 1, (word / 256 / 256 % 256) as u8);
@@ -35,7 +35,7 @@ fn told(i: u32) -> u8 {
 }
 
 // Fills the first n bytes of an image; what follows stays.
-pub fn fill(image: &mut [u8], n: u32) {
+pub(crate) fn fill(image: &mut [u8], n: u32) {
     let mut i = 0;
     while i < n {
         put(image, 0, i, told(i));
@@ -50,7 +50,7 @@ fn one_if_same(x: u8, y: u8) -> u32
 }
 
 // How many of n bytes are the same in two buffers, each looked at from a start of its own.
-pub fn same(a: &[u8], a_from: u32, b: &[u8], b_from: u32, n: u32) -> u32
+pub(crate) fn same(a: &[u8], a_from: u32, b: &[u8], b_from: u32, n: u32) -> u32
     ensures { λ r. ⌜ r ≤ n ⌝ }
 {
     let mut found = 0;
@@ -63,6 +63,6 @@ pub fn same(a: &[u8], a_from: u32, b: &[u8], b_from: u32, n: u32) -> u32
 }
 
 // How many of n bytes, from a start on, are others than before.
-pub fn changed(before: &[u8], after: &[u8], from: u32, n: u32) -> u32 {
+pub(crate) fn changed(before: &[u8], after: &[u8], from: u32, n: u32) -> u32 {
     n - same(before, from, after, from, n)
 }

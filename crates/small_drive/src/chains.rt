@@ -14,7 +14,7 @@ use crate::show::word;
 use board::Units;
 
 // A restore at 0 with 0 as its link, from cylinder 5, so that the first of its runs has a way to go.
-pub fn linked_to_itself() {
+pub(crate) fn linked_to_itself() {
     text(b"restore linked to itself, from cylinder 5\n");
     text(
         b"paper: A block linked to itself, allowance 3, ending 80 each time: three blocks, answer 6.\n",
@@ -54,7 +54,7 @@ fn shake(host: &mut [u8]) {
     );
 }
 
-pub fn handshake() {
+pub(crate) fn handshake() {
     text(b"handshake in 28 bytes\n");
     text(b"paper: Host memory of 28 bytes holding one handshake at 0 passes.\n");
     text(
@@ -73,7 +73,7 @@ pub fn handshake() {
 }
 
 // The same block without its last byte.
-pub fn handshake_cut() {
+pub(crate) fn handshake_cut() {
     text(b"handshake in 27 bytes\n");
     text(b"paper: 27 bytes gives 3. Answer 3 leaves all unchanged, counts 0.\n");
     let mut host = [255u8; 27];
@@ -87,7 +87,7 @@ pub fn handshake_cut() {
 }
 
 // The initialize at 0 leads to the read at 32; the UIB stands at 192 and the data at 64.
-pub fn session() {
+pub(crate) fn session() {
     text(b"initialize linked to the read\n");
     text(
         b"paper: Initialize linked to the two-sector read above, IE with level 3 and vector 40 on the second, prints exactly:\n",

@@ -60,7 +60,7 @@ fn refused<'a>(image0: &'a [u8], image1: &'a [u8], units: Units) {
 }
 
 // The two images differ in every byte of sector 12, so that the ends of what is lent tell which of them it is.
-pub fn inspection() {
+pub(crate) fn inspection() {
     text(b"inspection\n");
     text(b"paper: The sector is handed back as that part of the right unit's image.\n");
     text(

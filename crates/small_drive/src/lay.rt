@@ -24,7 +24,7 @@ pub struct Said {
     pub link: u32,
 }
 
-pub fn plain(command: u8, options: u8) -> Said {
+pub(crate) fn plain(command: u8, options: u8) -> Said {
     Said {
         command,
         options,
@@ -38,7 +38,7 @@ pub fn plain(command: u8, options: u8) -> Said {
 }
 
 // A transfer of so many sectors from a logical sector on, with its data at an address.
-pub fn transfer(command: u8, options: u8, number: u32, count: u16, address: u32) -> Said {
+pub(crate) fn transfer(command: u8, options: u8, number: u32, count: u16, address: u32) -> Said {
     let mut w = plain(command, options);
     w.number = number;
     w.count = count;
@@ -47,7 +47,7 @@ pub fn transfer(command: u8, options: u8, number: u32, count: u16, address: u32)
 }
 
 // Word w of the block stands at byte 2 w.
-pub fn block(host: &mut [u8], at: u32, w: Said) {
+pub(crate) fn block(host: &mut [u8], at: u32, w: Said) {
     asked(host, at, w);
     led(host, at, w);
 }
@@ -70,7 +70,7 @@ fn led(host: &mut [u8], at: u32, w: Said) {
 }
 
 // The small drive's UIB, in the places of Table 10.
-pub fn uib(host: &mut [u8], at: u32) {
+pub(crate) fn uib(host: &mut [u8], at: u32) {
     put(host, at, 0, 0);
     put(host, at, 1, 2);
     put(host, at, 2, 2);

@@ -15,18 +15,18 @@ fn small() -> Geometry {
 }
 
 // The small drive with its heads on a cylinder.
-pub fn ready(cylinder: u16) -> Record {
+pub(crate) fn ready(cylinder: u16) -> Record {
     Record::new(true, small(), cylinder)
 }
 
 // A unit that nothing has initialized. Its geometry is none, so that whatever works after an initialize works by the UIB.
-pub fn blank() -> Record {
+pub(crate) fn blank() -> Record {
     let none = Volume::new(0, 0);
     Record::new(false, Geometry::new(0, 0, 0, none, none), 0)
 }
 
 // Unit 0 is the small drive; unit 1 is not initialized.
-pub fn units(cylinder: u16) -> Units {
+pub(crate) fn units(cylinder: u16) -> Units {
     Units {
         zero: ready(cylinder),
         one: blank(),
@@ -66,7 +66,7 @@ fn sizes(g: Geometry) {
     line(b"image needs ", g.need());
 }
 
-pub fn small_drive() {
+pub(crate) fn small_drive() {
     text(b"small drive\n");
     sizes(small());
     landing(b"volume 0 logical 0 place ", VolumeNumber::Zero, 0);
@@ -77,7 +77,7 @@ pub fn small_drive() {
     landing(b"volume 1 logical 0 place ", VolumeNumber::One, 0);
 }
 
-pub fn table_11() {
+pub(crate) fn table_11() {
     text(b"default\n");
     sizes(Geometry::default());
 }

@@ -3,35 +3,35 @@ use crate::bytes::at;
 use board::Outcome;
 use libc::STDOUT_FILENO;
 
-pub fn text(text: &[u8]) {
+pub(crate) fn text(text: &[u8]) {
     io::write_all(STDOUT_FILENO, text);
 }
 
-pub fn decimal(text: &[u8], number: u64) {
+pub(crate) fn decimal(text: &[u8], number: u64) {
     io::write_all(STDOUT_FILENO, text);
     io::print_decimal(STDOUT_FILENO, number);
 }
 
-pub fn line(text: &[u8], number: u64) {
+pub(crate) fn line(text: &[u8], number: u64) {
     decimal(text, number);
     io::write_all(STDOUT_FILENO, b"\n");
 }
 
 // A byte in two hex digits.
-pub fn hex(text: &[u8], byte: u8) {
+pub(crate) fn hex(text: &[u8], byte: u8) {
     io::write_all(STDOUT_FILENO, text);
     io::print_hex(STDOUT_FILENO, byte as u64, 2);
 }
 
 // Two bytes in hex, the one at a place and the next.
-pub fn pair(text: &[u8], bytes: &[u8], from: u32, i: u8) {
+pub(crate) fn pair(text: &[u8], bytes: &[u8], from: u32, i: u8) {
     hex(text, at(bytes, from, i as u32));
     hex(b" ", at(bytes, from, (i as u32) + 1));
     io::write_all(STDOUT_FILENO, b"\n");
 }
 
 // A word in four hex digits, with no line end.
-pub fn word(text: &[u8], bytes: &[u8], from: u32, i: u8) {
+pub(crate) fn word(text: &[u8], bytes: &[u8], from: u32, i: u8) {
     hex(text, at(bytes, from, i as u32));
     hex(b"", at(bytes, from, (i as u32) + 1));
 }
@@ -67,7 +67,7 @@ fn entry(events: &[u8], i: u32) {
 }
 
 // A run, and each block that it ran.
-pub fn run(out: Outcome, events: &[u8]) {
+pub(crate) fn run(out: Outcome, events: &[u8]) {
     let answer = out.answer;
     decimal(b"run answer ", answer.number() as u64);
     decimal(b" blocks ", out.blocks as u64);

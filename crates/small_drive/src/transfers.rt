@@ -65,7 +65,7 @@ fn read(options: u8, mark: u8) {
     );
 }
 
-pub fn read_of_two() {
+pub(crate) fn read_of_two() {
     text(b"read of 2 from logical 7\n");
     text(
         b"paper: Read of 2 from logical 7 moves image bytes 448 to 511 and 768 to 831, travel 1 from cylinder 0.\n",
@@ -73,7 +73,7 @@ pub fn read_of_two() {
     read(XL, 0);
 }
 
-pub fn unreadable() {
+pub(crate) fn unreadable() {
     text(b"the same read where place 12 is unreadable\n");
     text(
         b"paper: At a non-zero mark they stop before that sector, or, with DE, move it and go on.\n",
@@ -86,7 +86,7 @@ pub fn unreadable() {
 }
 
 // The block stands at 128 and its data at 96 to 159, so that word 1 is the data's bytes 34 and 35. Logical 8 begins at byte 768.
-pub fn write_over_itself() {
+pub(crate) fn write_over_itself() {
     text(b"write of logical 8 from a buffer over the block itself\n");
     text(b"paper: 82 whose buffer covers its own word 1: the image gets 81 00 there.\n");
     let mut host = [255u8; 256];
