@@ -4,3 +4,4 @@ pub mod Decided
 pub mod Ends
 pub mod Laws
 pub mod Outcomes
+pub mod Same

@@ -15,6 +15,7 @@ use Rattle.geometry.proofs.Geometry.need.Reads as need
 use Rattle.geometry.proofs.Geometry.new.Reads as new
 use Rattle.geometry.proofs.Geometry.number.Reads as number
 use Rattle.geometry.proofs.Geometry.place.Reads as place
+use Rattle.geometry.proofs.Geometry.same.Reads as same
 use Rattle.geometry.proofs.Geometry.sector.Reads as sector
 use Rattle.geometry.proofs.Geometry.sectors_a_track.Reads as sectors-a-track
 use Rattle.geometry.proofs.Geometry.volume.Reads as volume
@@ -22,6 +23,7 @@ use Rattle.geometry.proofs.Geometry.volume_sectors.Reads as volume-sect
 use Rattle.geometry.proofs.Volume.heads.Reads as volume-heads
 use Rattle.geometry.proofs.Volume.is_present.Reads as volume-is-present
 use Rattle.geometry.proofs.Volume.new.Reads as volume-new
+use Rattle.geometry.proofs.Volume.same.Reads as volume-same
 use Rattle.geometry.proofs.Volume.start_head.Reads as volume-start-head
 
 address-once : OneResult address.Post
@@ -60,6 +62,9 @@ number-once κ a e x y p q = p ∙ sym q
 place-once : OneResult place.Post
 place-once κ a e x y p q = p ∙ sym q
 
+same-once : OneResult same.Post
+same-once κ a e x y p q = says-once x y _ p q
+
 sector-once : OneResult sector.Post
 sector-once κ a e x y p q = p ∙ sym q
 
@@ -80,6 +85,9 @@ volume-is-present-once κ a e x y p q = says-once x y _ p q
 
 volume-new-once : OneResult volume-new.Post
 volume-new-once κ a e x y p q = p ∙ sym q
+
+volume-same-once : OneResult volume-same.Post
+volume-same-once κ a e x y p q = says-once x y _ p q
 
 volume-start-head-once : OneResult volume-start-head.Post
 volume-start-head-once κ a e x y p q = p ∙ sym q

@@ -88,6 +88,16 @@ impl Volume {
         0 < self.heads
     }
 
+    // Whether the two hold the same numbers.
+    pub fn same(self, other: Volume) -> bool
+        ensures { λ r. ⌜ Says r (self ≡ other) ⌝ }
+    {
+        if self.start_head != other.start_head {
+            return false;
+        }
+        self.heads == other.heads
+    }
+
     // Where its heads end. An absent volume's start head says nothing.
     fn end(self) -> u16
         ensures { λ r. ⌜ r ≡ end self ⌝ }
@@ -166,6 +176,25 @@ impl Geometry {
             VolumeNumber::Zero => self.volume0,
             VolumeNumber::One => self.volume1,
         }
+    }
+
+    // Whether the two hold the same numbers, inside the limits or not.
+    pub fn same(self, other: Geometry) -> bool
+        ensures { λ r. ⌜ Says r (self ≡ other) ⌝ }
+    {
+        if self.cylinders != other.cylinders {
+            return false;
+        }
+        if self.sectors_a_track != other.sectors_a_track {
+            return false;
+        }
+        if self.bytes_a_sector != other.bytes_a_sector {
+            return false;
+        }
+        if !self.volume0.same(other.volume0) {
+            return false;
+        }
+        self.volume1.same(other.volume1)
     }
 
     // A volume's start head, and its heads, as the wider numbers that sums are made of.

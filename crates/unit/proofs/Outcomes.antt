@@ -12,6 +12,7 @@ use Rattle.unit.proofs.Record.land_track.Reads as land-track
 use Rattle.unit.proofs.Record.moved_to.Reads as moved-to
 use Rattle.unit.proofs.Record.new.Reads as new
 use Rattle.unit.proofs.Record.number.Reads as number
+use Rattle.unit.proofs.Record.same.Reads as same
 
 counts-as-initialized-once : OneResult counts-as-initialized.Post
 counts-as-initialized-once κ a e x y p q = says-once x y _ p q
@@ -39,3 +40,6 @@ new-once κ a e x y p q = p ∙ sym q
 
 number-once : OneResult number.Post
 number-once κ a e x y p q = p ∙ sym q
+
+same-once : OneResult same.Post
+same-once κ a e x y p q = says-once x y _ p q

@@ -76,6 +76,19 @@ impl Record {
         }
     }
 
+    // Whether the two hold the same.
+    pub fn same(self, other: Record) -> bool
+        ensures { λ r. ⌜ Says r (self ≡ other) ⌝ }
+    {
+        if self.cylinder != other.cylinder {
+            return false;
+        }
+        if !self.geometry.same(other.geometry) {
+            return false;
+        }
+        self.initialized == other.initialized
+    }
+
     // Whether it counts as initialized.
     pub fn counts_as_initialized(self) -> bool
         ensures { λ r. ⌜ Says r (CountsAsInitialized self) ⌝ }

@@ -1,0 +1,106 @@
+-- What a call comes to, by which of its buffers are long enough.
+-- Each is a case of the definition.
+use Prim.Native.Nat.{ℕ, _≤_, _<_}
+use mathlib.Core.List.{List}
+use mathlib.Core.Logic.{if-neg, if-pos}
+use mathlib.Core.Path.{_≡_, _∙_, ap}
+use native.Mathlib.Decide.{decLt}
+use native.Mathlib.Omega.{arith}
+use lib.ListN.{length}
+use Rattle.answers.specs.Numbers.{runNumber}
+use Rattle.unit.specs.declared.Record.{Record}
+use Rattle.board.specs.declared.chain.Outcome.{Outcome}
+use Rattle.board.specs.declared.inspection.Part.{Part}
+use Rattle.board.specs.Chain.{Ending, ran}
+use Rattle.board.specs.Inspection.{partOf}
+use Rattle.board.specs.Steps.{CameTo, written}
+use Rattle.board.specs.World.{worldOf}
+use Rattle.abi.specs.Calls.{Lent, answered, called, calledOf, imageNumber, inspectedOf, inspection, lentOf, made, outcomeShort, record0Short, record1Short, recordLeft, worldIn}
+use Rattle.abi.specs.Layouts.{outcomeBytes, recordIn}
+
+-- A run that was made, from what the code ran and stored, and from what it read.
+pub answered-is :
+    (l : Lent) (e : Ending) {r : Outcome} {number : ℕ} {host image0 image1 events record0 record1 outcome : List ℕ} →
+    CameTo e (worldOf host image0 image1 events (r .units)) r →
+    record0 ≡ recordLeft (l .record0) (r .units .zero) →
+    record1 ≡ recordLeft (l .record1) (r .units .one) →
+    number ≡ runNumber (r .answer) →
+    outcome ≡ written (l .outcome) 0 (outcomeBytes number (r .failed) (r .blocks) (r .sectors)) →
+    calledOf number (lentOf host image0 image1 events record0 record1 outcome) ≡ answered l e
+answered-is l e came left0 left1 is-number left =
+    let on-host = ap (λ w. w .host) (came .world) in
+    let on-image0 = ap (λ w. w .drive0 .image) (came .world) in
+    let on-image1 = ap (λ w. w .drive1 .image) (came .world) in
+    let on-events = ap (λ w. w .events) (came .world) in
+    let on-zero = ap (λ o. o .units .zero) (came .result) in
+    let on-one = ap (λ o. o .units .one) (came .result) in
+    let on-answer = ap (λ o. o .answer) (came .result) in
+    let on-failed = ap (λ o. o .failed) (came .result) in
+    let on-blocks = ap (λ o. o .blocks) (came .result) in
+    let on-sectors = ap (λ o. o .sectors) (came .result) in
+    cc
+
+pub made-is :
+    (first allowance : ℕ) (l : Lent) {zero one : Record} {r : Outcome} {number : ℕ}
+    {host image0 image1 events record0 record1 outcome : List ℕ} →
+    zero ≡ recordIn (l .record0) →
+    one ≡ recordIn (l .record1) →
+    CameTo (ran first allowance (worldOf (l .host) (l .image0) (l .image1) (l .events) (record { zero = zero; one = one })))
+    (worldOf host image0 image1 events (r .units)) r →
+    record0 ≡ recordLeft (l .record0) (r .units .zero) →
+    record1 ≡ recordLeft (l .record1) (r .units .one) →
+    number ≡ runNumber (r .answer) →
+    outcome ≡ written (l .outcome) 0 (outcomeBytes number (r .failed) (r .blocks) (r .sectors)) →
+    calledOf number (lentOf host image0 image1 events record0 record1 outcome) ≡ made first allowance l
+made-is first allowance l is-zero is-one came left0 left1 is-number left =
+    answered-is l (ran first allowance (worldIn l)) (rw (is-zero, is-one) at came) left0 left1 is-number left
+
+module _ (first allowance : ℕ) (l : Lent) where
+  pub called-refused-0 : length (l .record0) < 16 → called first allowance l ≡ calledOf record0Short l
+  unfolding called
+  called-refused-0 short = if-pos (decLt (length (l .record0)) 16) short _ _
+
+  pub called-refused-1 :
+      16 ≤ length (l .record0) → length (l .record1) < 16 → called first allowance l ≡ calledOf record1Short l
+  unfolding called
+  called-refused-1 long0 short =
+      if-neg (decLt (length (l .record0)) 16) (λ h. omega arith) _ _ ∙ if-pos (decLt (length (l .record1)) 16) short _ _
+
+  pub called-refused-2 :
+      16 ≤ length (l .record0) → 16 ≤ length (l .record1) → length (l .outcome) < 16 →
+      called first allowance l ≡ calledOf outcomeShort l
+  unfolding called
+  called-refused-2 long0 long1 short =
+      if-neg (decLt (length (l .record0)) 16) (λ h. omega arith) _ _ ∙
+      if-neg (decLt (length (l .record1)) 16) (λ h. omega arith) _ _ ∙ if-pos (decLt (length (l .outcome)) 16) short _ _
+
+  pub called-made :
+      16 ≤ length (l .record0) → 16 ≤ length (l .record1) → 16 ≤ length (l .outcome) →
+      called first allowance l ≡ made first allowance l
+  unfolding called
+  called-made long0 long1 long =
+      if-neg (decLt (length (l .record0)) 16) (λ h. omega arith) _ _ ∙
+      if-neg (decLt (length (l .record1)) 16) (λ h. omega arith) _ _ ∙
+      if-neg (decLt (length (l .outcome)) 16) (λ h. omega arith) _ _
+
+module _ (record0 record1 : List ℕ) (long0 long1 unit place image at bytes : ℕ) where
+  pub inspection-refused-0 :
+      length record0 < 16 →
+      inspection record0 record1 long0 long1 unit place image at bytes ≡ inspectedOf record0Short image at bytes
+  unfolding inspection
+  inspection-refused-0 short = if-pos (decLt (length record0) 16) short _ _
+
+  pub inspection-refused-1 :
+      16 ≤ length record0 → length record1 < 16 →
+      inspection record0 record1 long0 long1 unit place image at bytes ≡ inspectedOf record1Short image at bytes
+  unfolding inspection
+  inspection-refused-1 fits short =
+      if-neg (decLt (length record0) 16) (λ h. omega arith) _ _ ∙ if-pos (decLt (length record1) 16) short _ _
+
+  pub inspection-made :
+      16 ≤ length record0 → 16 ≤ length record1 →
+      let p : Part = partOf (recordIn record0) (recordIn record1) long0 long1 unit place in
+      inspection record0 record1 long0 long1 unit place image at bytes ≡ inspectedOf 0 (imageNumber (p .unit)) (p .at) (p .bytes)
+  unfolding inspection
+  inspection-made fits0 fits1 =
+      if-neg (decLt (length record0) 16) (λ h. omega arith) _ _ ∙ if-neg (decLt (length record1) 16) (λ h. omega arith) _ _

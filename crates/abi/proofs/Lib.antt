@@ -1,0 +1,6 @@
+pub mod Called
+pub mod Laws
+pub mod Left
+pub mod Outcomes
+pub mod Stored
+pub mod Untouched

@@ -1,0 +1,35 @@
+-- Each promise of this crate leaves one outcome: the result, and of what is lent every byte and every number.
+-- Each is an equation with a definition, so two outcomes are equal to the same thing.
+use mathlib.Core.Path.{_∙_, sym}
+use denote.Ref.{now}
+use Rattle.wire.specs.Promise.{OneOutcome, OneResult}
+use Rattle.abi.specs.Calls.{calledOf, inspectedOf, lentOf}
+use Rattle.abi.proofs.vsmd_inspect.Reads as inspect
+use Rattle.abi.proofs.vsmd_layout_version.Reads as layout-version
+use Rattle.abi.proofs.vsmd_outcome_len.Reads as outcome-len
+use Rattle.abi.proofs.vsmd_record_len.Reads as record-len
+use Rattle.abi.proofs.vsmd_run.Reads as run
+
+vsmd-layout-version-once : OneResult layout-version.Post
+vsmd-layout-version-once κ a e x y p q = p ∙ sym q
+
+vsmd-record-len-once : OneResult record-len.Post
+vsmd-record-len-once κ a e x y p q = p ∙ sym q
+
+vsmd-outcome-len-once : OneResult outcome-len.Post
+vsmd-outcome-len-once κ a e x y p q = p ∙ sym q
+
+vsmd-run-once :
+    OneOutcome run.Post
+    (λ κ x e.
+    calledOf x
+    (lentOf (now (e .0)) (now (e .1 .0)) (now (e .1 .1 .0)) (now (e .1 .1 .1 .0)) (now (e .1 .1 .1 .1 .0))
+    (now (e .1 .1 .1 .1 .1 .0)) (now (e .1 .1 .1 .1 .1 .1 .0))))
+vsmd-run-once κ a x y e f p q = p ∙ sym q
+
+vsmd-inspect-once :
+    OneOutcome inspect.Post
+    (λ κ x e.
+    inspectedOf x (now (e .1 .1 .1 .1 .1 .1 .0))
+    (now (e .1 .1 .1 .1 .1 .1 .1 .0)) (now (e .1 .1 .1 .1 .1 .1 .1 .1 .0)))
+vsmd-inspect-once κ a x y e f p q = p ∙ sym q

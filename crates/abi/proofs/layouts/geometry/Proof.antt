@@ -1,0 +1,38 @@
+-- Each number is read where the layout has it.
+-- The constructors put together what was read.
+use borrow.Author.Needs.{needs}
+use Rattle.abi.proofs.layouts.geometry.Statement.{statement}
+use Rattle.abi.proofs.layouts.geometry.Tie as tie
+
+be16-requires : tie.Need-be16-requires
+be16-requires c κs = search needs
+
+be16-requires-2 : tie.Need-be16-requires-2
+be16-requires-2 c κs = search needs
+
+be16-requires-3 : tie.Need-be16-requires-3
+be16-requires-3 c κs = search needs
+
+volume-requires : tie.Need-volume-requires
+volume-requires c κs = search needs
+
+volume-requires-2 : tie.Need-volume-requires-2
+volume-requires-2 c κs = search needs
+
+new-requires : tie.Need-new-requires
+new-requires c κs = search needs
+
+returns : tie.Need-returns
+returns c = cc
+
+pub geometry-spec : {M : Type 1} → statement M
+geometry-spec =
+    tie.close
+    (tie.spec
+    be16-requires
+    be16-requires-2
+    be16-requires-3
+    volume-requires
+    volume-requires-2
+    new-requires
+    returns)

@@ -1,0 +1,49 @@
+-- A record that is too short is met before anything is stored.
+-- Past both tests the part is board's, of the records that stand in the bytes.
+use Rattle.abi.proofs.Called.{inspection-made, inspection-refused-0, inspection-refused-1}
+use denote.Ref.{now}
+use native.Mathlib.Omega.{arith}
+use mathlib.Core.Path.{_≡_, refl, sym, _∙_, ap}
+use borrow.Author.Needs.{needs}
+use Rattle.abi.proofs.vsmd_inspect.Statement.{statement}
+use Rattle.abi.proofs.vsmd_inspect.Tie as tie
+
+returns : tie.Need-returns
+returns c =
+    let a = c .before .before .before .args in
+    sym (inspection-refused-0 (now (a .record0)) (now (a .record1)) (a .long0) (a .long1) (a .unit) (a .place) _ _ _ (omega arith))
+
+returns-2 : tie.Need-returns-2
+returns-2 c =
+    let a = c .before .before .before .before .args in
+    sym (inspection-refused-1 (now (a .record0)) (now (a .record1)) (a .long0) (a .long1) (a .unit) (a .place) _ _ _ (omega arith) (omega arith))
+
+record-requires : tie.Need-record-requires
+record-requires c κs = search needs
+
+record-requires-2 : tie.Need-record-requires-2
+record-requires-2 c κs = search needs
+
+part-of-requires : tie.Need-part-of-requires
+part-of-requires c κs = search needs
+
+image-number-requires : tie.Need-image-number-requires
+image-number-requires c κs = search needs
+
+returns-3 : tie.Need-returns-3
+returns-3 c =
+    let a = c .before .before .before .before .before .before .before .before .args in
+    let made = inspection-made (now (a .record0)) (now (a .record1)) (a .long0) (a .long1) (a .unit) (a .place) (now (a .image)) (now (a .at)) (now (a .bytes)) (omega arith) (omega arith) in
+    cc
+
+pub vsmd-inspect-spec : {M : Type 1} → statement M
+vsmd-inspect-spec =
+    tie.close
+    (tie.spec
+    returns
+    returns-2
+    record-requires
+    record-requires-2
+    part-of-requires
+    image-number-requires
+    returns-3)

@@ -1,0 +1,109 @@
+-- What the exported calls do, in bytes: a run and an inspection as board defines them, on records that cross as bytes. A buffer that is
+-- too short for its layout is refused with a code of its own, and nothing is changed.
+use Prim.Native.Nat.{ℕ}
+use mathlib.Core.List.{List}
+use mathlib.Core.Logic.{ite}
+use native.Mathlib.Decide.{decLt}
+use lib.ListN.{length}
+use Rattle.answers.specs.Numbers.{runNumber}
+use Rattle.request.specs.declared.UnitNumber.{UnitNumber}
+use Rattle.request.specs.declared.UnitNumber.the-variants.{Zero, One}
+use Rattle.unit.specs.declared.Record.{Record}
+use Rattle.unit.proofs.Decided.{same?}
+use Rattle.board.specs.declared.inspection.Part.{Part}
+use Rattle.board.specs.Chain.{Ending, ran}
+use Rattle.board.specs.Inspection.{partOf}
+use Rattle.board.specs.Steps.{written}
+use Rattle.board.specs.World.{World, worldOf}
+use Rattle.abi.specs.Layouts.{endingBytes, outcomeLength, recordBytes, recordIn, recordLength}
+
+-- All that a caller lends to a run, no two of them overlapping: what a caller in C has to see to.
+pub record Lent : Type 0 where
+  pub host : List ℕ
+  pub image0 : List ℕ
+  pub image1 : List ℕ
+  pub events : List ℕ
+  pub record0 : List ℕ
+  pub record1 : List ℕ
+  pub outcome : List ℕ
+
+abbrev pub lentOf : (host image0 image1 events record0 record1 outcome : List ℕ) → Lent
+lentOf host image0 image1 events record0 record1 outcome =
+    record {
+      host = host;
+      image0 = image0;
+      image1 = image1;
+      events = events;
+      record0 = record0;
+      record1 = record1;
+      outcome = outcome;
+    }
+
+-- What a call comes to: the number that it returns, and every lent byte.
+pub record Called : Type 0 where
+  pub code : ℕ
+  pub lent : Lent
+
+abbrev pub calledOf : ℕ → Lent → Called
+calledOf code lent = record { code = code; lent = lent }
+
+-- The codes of the refusals, apart from the paper's numbers, also where a caller keeps only the low byte.
+abbrev pub record0Short : ℕ
+record0Short = 0x1F1
+
+abbrev pub record1Short : ℕ
+record1Short = 0x1F2
+
+abbrev pub outcomeShort : ℕ
+outcomeShort = 0x1F3
+
+-- The world that the bytes stand for.
+abbrev pub worldIn : Lent → World
+worldIn l =
+    worldOf (l .host) (l .image0) (l .image1) (l .events)
+    (record { zero = recordIn (l .record0); one = recordIn (l .record1) })
+
+-- A record's bytes after a run: stored anew where the record is another, and else left as they came, byte for byte.
+unfoldable pub recordLeft : List ℕ → Record → List ℕ
+recordLeft bytes u = ite (same? (recordIn bytes) u) bytes (written bytes 0 (recordBytes u))
+
+-- A run that was made: its answer is returned, and the world that it leaves stands in the bytes.
+abbrev pub answered : Lent → Ending → Called
+answered l e =
+    let w = e .world in
+    calledOf (runNumber (e .answer))
+    (lentOf (w .host) (w .drive0 .image) (w .drive1 .image) (w .events) (recordLeft (l .record0) (w .drive0 .unit))
+    (recordLeft (l .record1) (w .drive1 .unit)) (written (l .outcome) 0 (endingBytes e)))
+
+abbrev pub made : ℕ → ℕ → Lent → Called
+made first allowance l = answered l (ran first allowance (worldIn l))
+
+unfoldable pub called : ℕ → ℕ → Lent → Called
+called first allowance l =
+    ite (decLt (length (l .record0)) recordLength) (calledOf record0Short l)
+    (ite (decLt (length (l .record1)) recordLength) (calledOf record1Short l)
+    (ite (decLt (length (l .outcome)) outcomeLength) (calledOf outcomeShort l)
+    (made first allowance l)))
+
+-- What an inspection comes to: a code, 0 where it was made, also where it hands back no part, and which image, from which byte on, how
+-- many bytes.
+pub record Inspected : Type 0 where
+  pub code : ℕ
+  pub image : ℕ
+  pub at : ℕ
+  pub bytes : ℕ
+
+abbrev pub inspectedOf : (code image at bytes : ℕ) → Inspected
+inspectedOf code image at bytes = record { code = code; image = image; at = at; bytes = bytes }
+
+abbrev pub imageNumber : UnitNumber → ℕ
+imageNumber Zero = 0
+imageNumber One = 1
+
+-- `image`, `at` and `bytes` are what the caller's three numbers held.
+unfoldable pub inspection : (record0 record1 : List ℕ) (long0 long1 unit place : ℕ) (image at bytes : ℕ) → Inspected
+inspection record0 record1 long0 long1 unit place image at bytes =
+    ite (decLt (length record0) recordLength) (inspectedOf record0Short image at bytes)
+    (ite (decLt (length record1) recordLength) (inspectedOf record1Short image at bytes)
+    (let p : Part = partOf (recordIn record0) (recordIn record1) long0 long1 unit place in
+    inspectedOf 0 (imageNumber (p .unit)) (p .at) (p .bytes)))

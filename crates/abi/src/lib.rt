@@ -1,0 +1,163 @@
+// The static library: a run and an inspection for firmware in C or Rust, on byte slices and numbers.
+// Records and outcomes cross as bytes, by the layouts of specs/Layouts; what is done with them is board's, by its promise.
+// A buffer that is too short for its layout is refused, and nothing is changed. That pointers are good and apart only the caller knows.
+use board::Units;
+use request::UnitNumber;
+ghost use mathlib.Core.Path.{_≡_};
+ghost use Prim.Native.Nat.{_≤_};
+ghost use lib.ListN.{length};
+ghost use Rattle.abi.specs.Calls.{called, calledOf, imageNumber, inspectedOf, inspection, lentOf, made};
+ghost use Rattle.abi.specs.Layouts.{outcomeLength, recordLength};
+
+mod layouts;
+
+pub const RECORD_LEN: usize = 16;
+
+pub const OUTCOME_LEN: usize = 16;
+
+// What a call answers that was refused: apart from the paper's numbers, also where a caller keeps only the low byte.
+pub const RECORD0_SHORT: u32 = 0x1F1;
+
+pub const RECORD1_SHORT: u32 = 0x1F2;
+
+pub const OUTCOME_SHORT: u32 = 0x1F3;
+
+// The version of the layouts.
+#[no_mangle]
+pub extern "C" fn vsmd_layout_version() -> u32
+    ensures { λ r. ⌜ r ≡ 1 ⌝ }
+{
+    1
+}
+
+// The bytes of a record.
+#[no_mangle]
+pub extern "C" fn vsmd_record_len() -> usize
+    ensures { λ r. ⌜ r ≡ recordLength ⌝ }
+{
+    RECORD_LEN
+}
+
+// The bytes of an outcome.
+#[no_mangle]
+pub extern "C" fn vsmd_outcome_len() -> usize
+    ensures { λ r. ⌜ r ≡ outcomeLength ⌝ }
+{
+    OUTCOME_LEN
+}
+
+// A run, once the buffers of the layouts are known to be long enough.
+fn run(
+    host: &mut [u8],
+    image0: &mut [u8],
+    image1: &mut [u8],
+    events: &mut [u8],
+    record0: &mut [u8],
+    record1: &mut [u8],
+    outcome: &mut [u8],
+    first: u32,
+    allowance: u32,
+) -> u32
+    requires { ⌜ (16 ≤ length (now record0)) × ((16 ≤ length (now record1)) × (16 ≤ length (now outcome))) ⌝ }
+    ensures { λ r. ⌜ calledOf r (lentOf (now (host .exit)) (now (image0 .exit)) (now (image1 .exit)) (now (events .exit)) (now (record0 .exit)) (now (record1 .exit)) (now (outcome .exit)))
+        ≡ made first allowance (lentOf (now (host .entry)) (now (image0 .entry)) (now (image1 .entry)) (now (events .entry)) (now (record0 .entry)) (now (record1 .entry)) (now (outcome .entry))) ⌝ }
+{
+    let zero = layouts::record(record0);
+    let one = layouts::record(record1);
+    let done = board::run(
+        host,
+        image0,
+        image1,
+        events,
+        Units { zero, one },
+        first,
+        allowance,
+    );
+    let units = done.units;
+    layouts::leave_record(record0, units.zero);
+    layouts::leave_record(record1, units.one);
+    let answer = done.answer;
+    let number = answer.number();
+    layouts::put_outcome(outcome, number, done.failed, done.blocks, done.sectors);
+    number as u32
+}
+
+// Runs the chain from the first block on. Answers the run's answer, 0 to 6, or one of the three codes where nothing was done.
+#[no_mangle]
+pub extern "C" fn vsmd_run(
+    host: &mut [u8],
+    image0: &mut [u8],
+    image1: &mut [u8],
+    events: &mut [u8],
+    record0: &mut [u8],
+    record1: &mut [u8],
+    outcome: &mut [u8],
+    first: u32,
+    allowance: u32,
+) -> u32
+    ensures { λ r. ⌜ calledOf r (lentOf (now (host .exit)) (now (image0 .exit)) (now (image1 .exit)) (now (events .exit)) (now (record0 .exit)) (now (record1 .exit)) (now (outcome .exit)))
+        ≡ called first allowance (lentOf (now (host .entry)) (now (image0 .entry)) (now (image1 .entry)) (now (events .entry)) (now (record0 .entry)) (now (record1 .entry)) (now (outcome .entry))) ⌝ }
+{
+    if record0.len() < RECORD_LEN {
+        return RECORD0_SHORT;
+    }
+    if record1.len() < RECORD_LEN {
+        return RECORD1_SHORT;
+    }
+    if outcome.len() < OUTCOME_LEN {
+        return OUTCOME_SHORT;
+    }
+    run(
+        host,
+        image0,
+        image1,
+        events,
+        record0,
+        record1,
+        outcome,
+        first,
+        allowance,
+    )
+}
+
+fn image_number(unit: UnitNumber) -> u32
+    ensures { λ r. ⌜ r ≡ imageNumber unit ⌝ }
+{
+    match unit {
+        UnitNumber::Zero => 0,
+        UnitNumber::One => 1,
+    }
+}
+
+// Which part of which image the sector at a place is: the image's number, the part's first byte and its length. Answers 0, or one of
+// the first two codes where nothing was done.
+#[no_mangle]
+pub extern "C" fn vsmd_inspect(
+    record0: &[u8],
+    record1: &[u8],
+    long0: usize,
+    long1: usize,
+    unit: u32,
+    place: u64,
+    image: &mut u32,
+    at: &mut usize,
+    bytes: &mut usize,
+) -> u32
+    ensures { λ r. ⌜ inspectedOf r (now (image .exit)) (now (at .exit)) (now (bytes .exit))
+        ≡ inspection (now (record0 .entry)) (now (record1 .entry)) long0 long1 unit place (now (image .entry)) (now (at .entry)) (now (bytes .entry)) ⌝ }
+{
+    if record0.len() < RECORD_LEN {
+        return RECORD0_SHORT;
+    }
+    if record1.len() < RECORD_LEN {
+        return RECORD1_SHORT;
+    }
+    let zero = layouts::record(record0);
+    let one = layouts::record(record1);
+    let part = board::part_of(Units { zero, one }, long0, long1, unit, place);
+    let which = part.unit;
+    *image = image_number(which);
+    *at = part.at;
+    *bytes = part.bytes;
+    0
+}
