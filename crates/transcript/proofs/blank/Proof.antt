@@ -1,0 +1,22 @@
+-- Each part is what its constructor promises.
+use borrow.Author.Needs.{needs}
+use Rattle.transcript.proofs.blank.Statement.{statement}
+use Rattle.transcript.proofs.blank.Tie as tie
+
+new-requires : tie.Need-new-requires
+new-requires c κs = search needs
+
+new-requires-2 : tie.Need-new-requires-2
+new-requires-2 c κs = search needs
+
+new-requires-3 : tie.Need-new-requires-3
+new-requires-3 c κs = search needs
+
+new-requires-4 : tie.Need-new-requires-4
+new-requires-4 c κs = search needs
+
+returns : tie.Need-returns
+returns c = cc
+
+pub blank-spec : {M : Type 1} → statement M
+blank-spec = tie.close (tie.spec new-requires new-requires-2 new-requires-3 new-requires-4 returns)

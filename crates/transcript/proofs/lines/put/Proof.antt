@@ -1,0 +1,27 @@
+-- A copy of the whole part is its bytes stored one after the other.
+use mathlib.Core.Path.{refl, _∙_}
+use native.Mathlib.Omega.{arith}
+use Rattle.board.proofs.Entries.{copy-written}
+use borrow.Author.Needs.{needs}
+use Rattle.transcript.proofs.lines.put.Statement.{statement}
+use Rattle.transcript.proofs.lines.put.Tie as tie
+
+copy-requires : tie.Need-copy-requires
+copy-requires c κs = search needs
+
+add-result : tie.Need-add-result
+add-result c = search needs
+
+same-length : tie.Need-same-length
+same-length c = search needs
+
+returns : tie.Need-returns
+returns c =
+    let a = c .before .before .before .before .before .before .args in
+    record {
+      stored = c .before .before .copy .ensures ∙ copy-written (a .bytes .now) (a .text .now) (a .at) (omega arith);
+      after = refl;
+    }
+
+pub put-spec : {M : Type 1} → statement M
+put-spec = tie.close (tie.spec copy-requires add-result same-length returns)

@@ -1,0 +1,170 @@
+-- The line is its seven parts in a row; the words are their letters, and what is left of the 96 bytes is counted part by part.
+use Prim.Native.Nat.{_+_, _≤_}
+use mathlib.Core.Path.{sym}
+use lib.ListN.{length}
+use native.Mathlib.Omega.{arith}
+use Rattle.transcript.specs.Text.{letters, lettersFrom}
+use Rattle.transcript.proofs.Texts.{decimal-short, put-keeps-length, put-then, put-word, signed-short}
+use borrow.Author.Needs.{needs}
+use Rattle.transcript.proofs.lines.put_block.Statement.{statement}
+use Rattle.transcript.proofs.lines.put_block.Tie as tie
+
+sub-entry : tie.Need-sub-entry
+sub-entry c = search needs
+
+cast-entry : tie.Need-cast-entry
+cast-entry c = search needs
+
+mul-entry : tie.Need-mul-entry
+mul-entry c = search needs
+
+slice-aggregate-put-number : tie.Need-slice-aggregate-put-number
+slice-aggregate-put-number c = search needs
+
+put-number-requires : tie.Need-put-number-requires
+put-number-requires c κs = search needs
+
+-- What is left of the 96 bytes after each part.
+left-1 : (c : tie.After-put-number) → c .put-number .result + 70 ≤ length (c .put-number .last .0)
+left-1 c = omega (arith, decimal-short (c .before .before .before .before .before .args .k) (omega arith))
+
+slice-aggregate-put-hex : tie.Need-slice-aggregate-put-hex
+slice-aggregate-put-hex c = search needs
+
+shared-slice-read-put-hex : tie.Need-shared-slice-read-put-hex
+shared-slice-read-put-hex c = search needs
+
+put-hex-requires : tie.Need-put-hex-requires
+put-hex-requires c κs = omega (arith, left-1 (c .before .before .before .before .before))
+
+left-2 : (c : tie.After-put-hex) → c .put-hex .result + 60 ≤ length (c .put-hex .last .0)
+left-2 c = omega (arith, left-1 (c .before .before .before .before .before .before))
+
+slice-aggregate-put-hex-2 : tie.Need-slice-aggregate-put-hex-2
+slice-aggregate-put-hex-2 c = search needs
+
+add-put-hex : tie.Need-add-put-hex
+add-put-hex c = search needs
+
+shared-slice-read-put-hex-2 : tie.Need-shared-slice-read-put-hex-2
+shared-slice-read-put-hex-2 c = search needs
+
+put-hex-requires-2 : tie.Need-put-hex-requires-2
+put-hex-requires-2 c κs = omega (arith, left-2 (c .before .before .before .before .before))
+
+left-3 : (c : tie.After-put-hex2) → c .put-hex2 .result + 51 ≤ length (c .put-hex2 .last .0)
+left-3 c = omega (arith, left-2 (c .before .before .before .before .before .before))
+
+slice-aggregate-put-hex-3 : tie.Need-slice-aggregate-put-hex-3
+slice-aggregate-put-hex-3 c = search needs
+
+add-put-hex-2 : tie.Need-add-put-hex-2
+add-put-hex-2 c = search needs
+
+shared-slice-read-put-hex-3 : tie.Need-shared-slice-read-put-hex-3
+shared-slice-read-put-hex-3 c = search needs
+
+put-hex-requires-3 : tie.Need-put-hex-requires-3
+put-hex-requires-3 c κs = omega (arith, left-3 (c .before .before .before .before .before))
+
+left-4 : (c : tie.After-put-hex3) → c .put-hex3 .result + 42 ≤ length (c .put-hex3 .last .0)
+left-4 c = omega (arith, left-3 (c .before .before .before .before .before .before))
+
+slice-aggregate-put-hex-4 : tie.Need-slice-aggregate-put-hex-4
+slice-aggregate-put-hex-4 c = search needs
+
+add-put-hex-3 : tie.Need-add-put-hex-3
+add-put-hex-3 c = search needs
+
+shared-slice-read-put-hex-4 : tie.Need-shared-slice-read-put-hex-4
+shared-slice-read-put-hex-4 c = search needs
+
+put-hex-requires-4 : tie.Need-put-hex-requires-4
+put-hex-requires-4 c κs = omega (arith, left-4 (c .before .before .before .before .before))
+
+left-5 : (c : tie.After-put-hex4) → c .put-hex4 .result + 32 ≤ length (c .put-hex4 .last .0)
+left-5 c = omega (arith, left-4 (c .before .before .before .before .before .before))
+
+slice-aggregate-put-signed : tie.Need-slice-aggregate-put-signed
+slice-aggregate-put-signed c = search needs
+
+add-be32 : tie.Need-add-be32
+add-be32 c =
+    let third = c .before .before .before .before .before .before .before .before .before .before .before in
+    let first = third .before .before .before .before .before .before .before .before .before .before .before in
+    omega (arith, first .before .before .before .before .before .before .before .before .before .before .before .fits .k)
+
+be32-requires : tie.Need-be32-requires
+be32-requires c κs =
+    let third = c .before .before .before .before .before .before .before .before .before .before .before in
+    let first = third .before .before .before .before .before .before .before .before .before .before .before in
+    omega (arith, first .before .before .before .before .before .before .before .before .before .before .before .pre)
+
+put-signed-requires : tie.Need-put-signed-requires
+put-signed-requires c κs = omega (arith, left-5 (c .before .before .before .before .before))
+
+left-6 : (c : tie.After-put-signed) → c .put-signed .result + 1 ≤ length (c .put-signed .last .0)
+left-6 c = omega (arith, left-5 (c .before .before .before .before .before .before), signed-short (c .before .be32 .result))
+
+slice-aggregate-put : tie.Need-slice-aggregate-put
+slice-aggregate-put c = search needs
+
+put-requires : tie.Need-put-requires
+put-requires c κs = left-6 (c .before .before .before .before)
+
+returns : tie.Need-returns
+unfolding letters lettersFrom
+returns c =
+    let signed = c .before .before .before .before .before .before .before in
+    let hex4 = signed .before .before .before .before .before .before in
+    let hex3 = hex4 .before .before .before .before .before .before in
+    let hex2 = hex3 .before .before .before .before .before .before in
+    let hex1 = hex2 .before .before .before .before .before .before in
+    rw (sym (signed .before .be32 .ensures))
+    (put-then
+    (put-word (letters " travel ") _
+    (put-word (letters " vector ") _
+    (put-word (letters " level ") _
+    (put-word (letters " error ") _
+    (put-word (letters " status ") _ (hex1 .before .before .before .before .before .before .put-number .ensures) (hex1 .put-hex .ensures))
+    (hex2 .put-hex2 .ensures))
+    (hex3 .put-hex3 .ensures))
+    (hex4 .put-hex4 .ensures))
+    (signed .put-signed .ensures))
+    (c .before .before .put .ensures))
+
+same-length : tie.Need-same-length
+same-length c = put-keeps-length (returns c)
+
+pub put-block-spec : {M : Type 1} → statement M
+put-block-spec =
+    tie.close
+    (tie.spec
+    sub-entry
+    cast-entry
+    mul-entry
+    slice-aggregate-put-number
+    put-number-requires
+    slice-aggregate-put-hex
+    shared-slice-read-put-hex
+    put-hex-requires
+    slice-aggregate-put-hex-2
+    add-put-hex
+    shared-slice-read-put-hex-2
+    put-hex-requires-2
+    slice-aggregate-put-hex-3
+    add-put-hex-2
+    shared-slice-read-put-hex-3
+    put-hex-requires-3
+    slice-aggregate-put-hex-4
+    add-put-hex-3
+    shared-slice-read-put-hex-4
+    put-hex-requires-4
+    slice-aggregate-put-signed
+    add-be32
+    be32-requires
+    put-signed-requires
+    slice-aggregate-put
+    put-requires
+    same-length
+    returns)

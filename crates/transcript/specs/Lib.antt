@@ -1,0 +1,4 @@
+pub mod Rows
+pub mod Session
+pub mod Steps
+pub mod Text

@@ -1,0 +1,264 @@
+/* The command parser of a board that takes the place of an Interphase V/SMD 3200.
+ *
+ * Two calls: vsmd_run runs a chain of parameter blocks ("blocks") that a host has laid out in its memory, and vsmd_inspect says
+ * where a sector stands in an image. All that crosses is bytes and numbers. The library is proved in Rattle; it allocates nothing,
+ * keeps nothing between calls, takes no lock, and calls nothing but memcpy and memset. Link libvsmd.a, which is for x86-64.
+ *
+ * What the library takes care of, and what you have to
+ * ----------------------------------------------------
+ * Whatever bytes and lengths it is handed, the library touches no byte outside the buffers it was lent, ends, and answers. The bytes
+ * in the buffers need not make sense. What no code behind a C function can check is left to you, and if it is not so, nothing is
+ * promised:
+ *
+ *   - each pointer is valid for as many bytes as its length says, for reading and (where it is not const) writing, until the call
+ *     returns;
+ *   - no two buffers of one call share a byte;
+ *   - no pointer is null, that of a buffer of length 0 included: hand over any address for it, as that of a neighbouring variable;
+ *   - the pointers to uint32_t and size_t are aligned for these types (a pointer to bytes need not be aligned);
+ *   - while a call is under way nobody else uses its buffers: no second call, no interrupt handler, no DMA. Calls that share no
+ *     buffer may run at the same time.
+ */
+#ifndef VSMD3200_H
+#define VSMD3200_H
+
+#include <stddef.h>
+#include <stdint.h>
+
+#ifdef __cplusplus
+extern "C" {
+#endif
+
+/* ---- the unit record -----------------------------------------------------------------------------------------------------------
+ *
+ * What the board knows of a unit: whether it is initialized, its geometry, and the cylinder that its heads stand on. It is yours to
+ * keep between calls, in RAM or in flash. 16 bytes, numbers big-endian:
+ *
+ *    0      version of the layout, 01
+ *    1      01 initialized, any other not
+ *    2, 3   length, 0010 hex
+ *    4, 5   cylinders C, 1 to 4,096
+ *    6, 7   sectors a track S, 1 to 255
+ *    8, 9   bytes a sector B, even, 64 to 4,096
+ *   10, 11  volume 0: start head, heads (at least 1)
+ *   12, 13  volume 1: start head, heads (0: there is no volume 1)
+ *   14, 15  the cylinder that the heads stand on, below C
+ *
+ * A unit is initialized where its record opens with 01 01 00 10 and the rest keeps the limits: those above, start head plus heads at
+ * most 64 for each volume present, and no head in two volumes. Any other 16 bytes are a unit that is not initialized: zeros, erased
+ * flash, a record of another version. Handing such bytes over is no error.
+ *
+ * With H the greater end (start head plus heads) of the volumes present, an image has C x H x S sectors of B bytes, one after the
+ * other, and then a mark byte for each sector: 00 for a good one, anything else for one that cannot be read. An image may be
+ * longer; what comes after the marks is never touched. */
+#define VSMD_LAYOUT_VERSION 1u
+#define VSMD_RECORD_LEN 16u
+
+#define VSMD_RECORD_AT_VERSION 0u
+#define VSMD_RECORD_AT_INITIALIZED 1u
+#define VSMD_RECORD_AT_LENGTH 2u
+#define VSMD_RECORD_AT_CYLINDERS 4u
+#define VSMD_RECORD_AT_SECTORS_A_TRACK 6u
+#define VSMD_RECORD_AT_BYTES_A_SECTOR 8u
+#define VSMD_RECORD_AT_VOLUME0_START_HEAD 10u
+#define VSMD_RECORD_AT_VOLUME0_HEADS 11u
+#define VSMD_RECORD_AT_VOLUME1_START_HEAD 12u
+#define VSMD_RECORD_AT_VOLUME1_HEADS 13u
+#define VSMD_RECORD_AT_CYLINDER 14u
+
+/* ---- the outcome of a run --------------------------------------------------------------------------------------------------------
+ *
+ * 16 bytes, numbers big-endian:
+ *
+ *    0      version of the layout, 01
+ *    1      00
+ *    2, 3   length, 0010 hex
+ *    4      the run's answer, VSMD_DONE to VSMD_ALLOWANCE_SPENT
+ *    5      with VSMD_BLOCK_FAILED why the block failed, VSMD_COMMAND_UNKNOWN and up; otherwise 00
+ *    6, 7   00
+ *    8..11  blocks run, those that failed included
+ *   12..15  sectors moved */
+#define VSMD_OUTCOME_LEN 16u
+
+#define VSMD_OUTCOME_AT_VERSION 0u
+#define VSMD_OUTCOME_AT_LENGTH 2u
+#define VSMD_OUTCOME_AT_ANSWER 4u
+#define VSMD_OUTCOME_AT_FAILED 5u
+#define VSMD_OUTCOME_AT_BLOCKS 8u
+#define VSMD_OUTCOME_AT_SECTORS 12u
+
+/* ---- the event buffer ------------------------------------------------------------------------------------------------------------
+ *
+ * At least 512 bytes, room for 64 entries. The k-th block run, k from 1, leaves its entry in the 8 bytes from 8(k - 1) on; other
+ * bytes of the buffer stay as they are.
+ *
+ *    0      final status, 80 or 82 hex
+ *    1      error byte, 00 at status 80
+ *    2      interrupt level, 00 where the block asked for no interrupt
+ *    3      interrupt vector, 00 where the block asked for no interrupt
+ *    4..7   travel: the cylinder of the heads after the block minus the one before, big-endian two's complement */
+#define VSMD_EVENTS_LEN_LEAST 512u
+#define VSMD_EVENT_LEN 8u
+
+#define VSMD_EVENT_AT_STATUS 0u
+#define VSMD_EVENT_AT_ERROR 1u
+#define VSMD_EVENT_AT_LEVEL 2u
+#define VSMD_EVENT_AT_VECTOR 3u
+#define VSMD_EVENT_AT_TRAVEL 4u
+
+#define VSMD_STATUS_OK 0x80u
+#define VSMD_STATUS_FAILED 0x82u
+
+/* ---- answers ---------------------------------------------------------------------------------------------------------------------*/
+
+/* How a run ended. With 1, 2 and 3 nothing was run and nothing changed but the outcome. */
+#define VSMD_DONE 0u            /* the last block had no link and ended with status 80 */
+#define VSMD_EVENTS_SHORT 1u    /* the event buffer has fewer than 512 bytes */
+#define VSMD_ALLOWANCE_BAD 2u   /* the allowance is 0 or over 64 */
+#define VSMD_FIRST_BAD 3u       /* the first block is at an odd address or not wholly in host memory */
+#define VSMD_BLOCK_FAILED 4u    /* a block ended with status 82; its link is not followed */
+#define VSMD_LINK_BAD 5u        /* a link leads to a block that is as bad as in 3 */
+#define VSMD_ALLOWANCE_SPENT 6u /* the allowance is spent, and the last block has a link */
+
+/* Why a block failed. With 10 to 19 it changed nothing but its own status word and its event entry. */
+#define VSMD_COMMAND_UNKNOWN 10u     /* the command is not one of the nine */
+#define VSMD_NOT_INITIALIZED 11u     /* the unit is not initialized */
+#define VSMD_UIB_MISPLACED 12u       /* the UIB is at an odd address or not wholly in host memory */
+#define VSMD_UIB_OUTSIDE_LIMITS 13u  /* the UIB is outside the limits of a geometry */
+#define VSMD_VOLUME_ABSENT 14u       /* the unit has no volume 1 */
+#define VSMD_COUNT_ZERO 15u          /* the sector count is 0 */
+#define VSMD_SECTOR_OUTSIDE 16u      /* the first sector or the last is outside the volume, or the track outside the drive */
+#define VSMD_IMAGE_SHORT 17u         /* the image is shorter than the geometry needs */
+#define VSMD_LIST_BAD 18u            /* the list has no elements or over 64, is misplaced, or has wrong byte counts */
+#define VSMD_DATA_MISPLACED 19u      /* a data address is odd or its range not in host memory */
+#define VSMD_UNREADABLE 20u          /* a sector is marked unreadable; the sectors before it were moved */
+#define VSMD_PAST_THE_IMAGE 21u      /* kept for its number: the length of the image is asked before (17) */
+
+/* What a call returns that was refused: a buffer is too short for its layout, and nothing at all was changed. No answer above has
+ * the low byte of one of these. */
+#define VSMD_RECORD0_SHORT 0x1F1u
+#define VSMD_RECORD1_SHORT 0x1F2u
+#define VSMD_OUTCOME_SHORT 0x1F3u
+
+/* The smallest allowance is 1. */
+#define VSMD_ALLOWANCE_MOST 64u
+
+/* ---- calls -----------------------------------------------------------------------------------------------------------------------*/
+
+/* The version of the layouts above, and the lengths that the library asks of a record and of an outcome. Compare them with
+ * VSMD_LAYOUT_VERSION, VSMD_RECORD_LEN and VSMD_OUTCOME_LEN once, at start: they tell of an archive that does not go with this header. */
+uint32_t vsmd_layout_version(void);
+size_t vsmd_record_len(void);
+size_t vsmd_outcome_len(void);
+
+/* Runs the chain that begins with the block at an address of host memory.
+ *
+ *   host             host memory; its first byte has address 0. In: the blocks, and what they name. Out: the status word of each
+ *                    block run, the identity in words 2 to 7 of a handshake, and the data that reads and scatters moved.
+ *   image0, image1   the images of units 0 and 1. Out: the data that writes, gathers and formats moved. Their lengths may be 0.
+ *   events           the event buffer. Out: an entry for each block run.
+ *   record0, record1 the records of units 0 and 1. Out: stored anew where a block changed the record (an initialize, heads that
+ *                    stand elsewhere), and otherwise byte for byte as they came in. Bytes after the first 16 are not touched.
+ *   outcome          In: anything. Out: the outcome in its first 16 bytes; those after them are not touched.
+ *   first            the address of the first block.
+ *   allowance        how many blocks may be fetched, 1 to 64; a chain that links in a circle ends by it.
+ *
+ * Returns the run's answer, the number that stands in the outcome too, or VSMD_RECORD0_SHORT, VSMD_RECORD1_SHORT, VSMD_OUTCOME_SHORT (tested
+ * in this order): then no byte of any buffer was changed. Bytes that are not named under "Out" are as they came in. A byte stored
+ * with the value it had counts as written: on memory that wears, compare before you keep. */
+uint32_t vsmd_run(uint8_t *host, size_t host_len, uint8_t *image0, size_t image0_len, uint8_t *image1, size_t image1_len,
+                  uint8_t *events, size_t events_len, uint8_t *record0, size_t record0_len, uint8_t *record1, size_t record1_len,
+                  uint8_t *outcome, size_t outcome_len, uint32_t first, uint32_t allowance);
+
+/* Says where the sector at a place of a unit stands. It reads no image: the lengths of the images are all it asks of them.
+ *
+ *   record0, record1        the records of units 0 and 1.
+ *   image0_len, image1_len  how many bytes the images have.
+ *   unit                    0 or 1.
+ *   place                   which sector, counted from the start of the unit's image.
+ *   image                   Out: which image the part is in, 0 or 1.
+ *   at                      Out: the part's first byte in that image.
+ *   bytes                   Out: how many bytes it has, B.
+ *
+ * Where there is no such sector (unit over 1, unit not initialized, place too large, image shorter than the geometry needs) the part
+ * has length 0 and stands at the start of image 0: the three numbers are 0.
+ *
+ * Returns 0, or VSMD_RECORD0_SHORT, VSMD_RECORD1_SHORT: then the three numbers are as they were. */
+uint32_t vsmd_inspect(const uint8_t *record0, size_t record0_len, const uint8_t *record1, size_t record1_len, size_t image0_len,
+                      size_t image1_len, uint32_t unit, uint64_t place, uint32_t *image, size_t *at, size_t *bytes);
+
+/* ---- the fields of a record, an outcome and an event entry -----------------------------------------------------------------------*/
+
+static inline uint16_t vsmd_get16(const uint8_t *bytes)
+{
+    return (uint16_t)((bytes[0] << 8) | bytes[1]);
+}
+
+static inline uint32_t vsmd_get32(const uint8_t *bytes)
+{
+    return ((uint32_t)vsmd_get16(bytes) << 16) | vsmd_get16(bytes + 2);
+}
+
+static inline void vsmd_put16(uint8_t *bytes, uint16_t number)
+{
+    bytes[0] = (uint8_t)(number >> 8);
+    bytes[1] = (uint8_t)(number & 0xFFu);
+}
+
+/* Makes the record of a unit that is not initialized. */
+static inline void vsmd_record_clear(uint8_t *record)
+{
+    size_t k;
+    for (k = 0; k < VSMD_RECORD_LEN; k++)
+        record[k] = 0;
+}
+
+/* Makes the record of an initialized unit; whether its numbers keep the limits is judged when it is used. */
+static inline void vsmd_record_make(uint8_t *record, uint16_t cylinders, uint16_t sectors_a_track, uint16_t bytes_a_sector,
+                                    uint8_t start_head0, uint8_t heads0, uint8_t start_head1, uint8_t heads1, uint16_t cylinder)
+{
+    record[VSMD_RECORD_AT_VERSION] = VSMD_LAYOUT_VERSION;
+    record[VSMD_RECORD_AT_INITIALIZED] = 1;
+    vsmd_put16(record + VSMD_RECORD_AT_LENGTH, VSMD_RECORD_LEN);
+    vsmd_put16(record + VSMD_RECORD_AT_CYLINDERS, cylinders);
+    vsmd_put16(record + VSMD_RECORD_AT_SECTORS_A_TRACK, sectors_a_track);
+    vsmd_put16(record + VSMD_RECORD_AT_BYTES_A_SECTOR, bytes_a_sector);
+    record[VSMD_RECORD_AT_VOLUME0_START_HEAD] = start_head0;
+    record[VSMD_RECORD_AT_VOLUME0_HEADS] = heads0;
+    record[VSMD_RECORD_AT_VOLUME1_START_HEAD] = start_head1;
+    record[VSMD_RECORD_AT_VOLUME1_HEADS] = heads1;
+    vsmd_put16(record + VSMD_RECORD_AT_CYLINDER, cylinder);
+}
+
+/* Whether a record opens as that of an initialized unit does. */
+static inline int vsmd_record_says_initialized(const uint8_t *record)
+{
+    return vsmd_get32(record) == 0x01010010u;
+}
+
+static inline uint16_t vsmd_record_cylinder(const uint8_t *record)
+{
+    return vsmd_get16(record + VSMD_RECORD_AT_CYLINDER);
+}
+
+static inline uint32_t vsmd_outcome_blocks(const uint8_t *outcome)
+{
+    return vsmd_get32(outcome + VSMD_OUTCOME_AT_BLOCKS);
+}
+
+static inline uint32_t vsmd_outcome_sectors(const uint8_t *outcome)
+{
+    return vsmd_get32(outcome + VSMD_OUTCOME_AT_SECTORS);
+}
+
+/* The travel in an event entry, -4095 to 4095. */
+static inline int32_t vsmd_event_travel(const uint8_t *entry)
+{
+    uint32_t bits = vsmd_get32(entry + VSMD_EVENT_AT_TRAVEL);
+    return bits < 0x80000000u ? (int32_t)bits : -(int32_t)(0xFFFFFFFFu - bits) - 1;
+}
+
+#ifdef __cplusplus
+}
+#endif
+
+#endif

@@ -1,0 +1,62 @@
+//! What two sides leave of a case, compared byte for byte.
+
+use crate::case::Case;
+use crate::sides::Left;
+
+/// What differs, a line each; nothing where they agree.
+pub fn differences(case: &Case, library: &Left, model: &Left) -> Vec<String> {
+    let mut lines = Vec::new();
+    if library.outcome != model.outcome {
+        lines.push(format!(
+            "outcome: library {:?}, model {:?}",
+            library.outcome, model.outcome
+        ));
+    }
+    for unit in 0..2 {
+        if library.records[unit] != model.records[unit] {
+            lines.push(format!(
+                "record {}: came as {:02x?}, library {:02x?}, model {:02x?}",
+                unit, case.records[unit], library.records[unit], model.records[unit]
+            ));
+        }
+    }
+    bytes("host memory", &library.host, &model.host, &mut lines);
+    bytes("image 0", &library.images[0], &model.images[0], &mut lines);
+    bytes("image 1", &library.images[1], &model.images[1], &mut lines);
+    bytes("events", &library.events, &model.events, &mut lines);
+    for (k, asked) in case.inspections.iter().enumerate() {
+        if library.parts[k] != model.parts[k] {
+            lines.push(format!(
+                "inspection of unit {} place {} with lengths {:?}: library {:?}, model {:?}",
+                asked.unit, asked.place, asked.image_lens, library.parts[k], model.parts[k]
+            ));
+        }
+    }
+    if let Some(buffer) = library.outside {
+        lines.push(format!("the library changed bytes next to {}", buffer));
+    }
+    lines
+}
+
+fn bytes(what: &str, library: &[u8], model: &[u8], lines: &mut Vec<String>) {
+    if library == model {
+        return;
+    }
+    let differ = |k: &usize| library.get(*k) != model.get(*k);
+    let longer = library.len().max(model.len());
+    let count = (0..longer).filter(differ).count();
+    let first = (0..longer).find(differ).unwrap_or(0);
+    let some = |bytes: &[u8]| {
+        let from = first.min(bytes.len());
+        let to = (first + 8).min(bytes.len());
+        format!("{:02x?}", &bytes[from..to])
+    };
+    lines.push(format!(
+        "{}: {} bytes differ, from {:#x} on: library {}, model {}",
+        what,
+        count,
+        first,
+        some(library),
+        some(model)
+    ));
+}

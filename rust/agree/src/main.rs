@@ -1,0 +1,246 @@
+//! Compares the proved library with the model.
+//!
+//! The library is proved to do what its definitions say; the model was written from the paper
+//! alone. Where they leave different bytes of the same world, one of them has misread the paper.
+
+mod case;
+mod compare;
+mod coverage;
+mod crowd;
+mod draw;
+mod dump;
+mod exact;
+#[cfg(feature = "library")]
+mod giants;
+mod sessions;
+mod sides;
+mod worlds;
+
+use coverage::Coverage;
+use crowd::{one_world, Crowd};
+use sides::Opponent;
+use std::process::ExitCode;
+use std::time::Instant;
+
+const USAGE: &str = "\
+agree [--worlds N] [--seed S] [--threads N] [--itself]   compare on generated worlds
+agree --world I [--seed S] [--itself]                    one of these worlds, and show it
+agree --faults [--worlds N] [--seed S] [--itself]        faults seeded in the model: is each caught?
+agree --exact [--itself]                                 the paper's worked examples and the limits
+agree --sessions N PROGRAM WORD..                        the session program on generated sessions
+--itself puts the model in the library's place.";
+
+/// Coverage is asked from so many worlds on.
+const COVERAGE_FROM: u64 = 50_000;
+
+struct Asked {
+    crowd: Crowd,
+    world: Option<u64>,
+    faults: bool,
+    exact: bool,
+    sessions: Option<(u64, Vec<String>)>,
+}
+
+fn asked() -> Option<Asked> {
+    let threads = std::thread::available_parallelism().map_or(2, |n| n.get());
+    let mut asked = Asked {
+        crowd: Crowd {
+            opponent: Opponent::Library,
+            seed: 3200,
+            worlds: 200_000,
+            threads,
+        },
+        world: None,
+        faults: false,
+        exact: false,
+        sessions: None,
+    };
+    let mut words = std::env::args().skip(1);
+    while let Some(word) = words.next() {
+        let mut number = || words.next()?.replace(['_', ','], "").parse::<u64>().ok();
+        match word.as_str() {
+            "--worlds" => asked.crowd.worlds = number()?,
+            "--seed" => asked.crowd.seed = number()?,
+            "--threads" => asked.crowd.threads = number()?.max(1) as usize,
+            "--world" => asked.world = Some(number()?),
+            "--itself" => asked.crowd.opponent = Opponent::Itself,
+            "--faults" => asked.faults = true,
+            "--exact" => asked.exact = true,
+            "--sessions" => {
+                let count = number()?;
+                asked.sessions = Some((count, words.by_ref().collect()));
+            }
+            _ => return None,
+        }
+    }
+    Some(asked)
+}
+
+fn main() -> ExitCode {
+    let Some(asked) = asked() else {
+        eprintln!("{}", USAGE);
+        return ExitCode::from(2);
+    };
+    if let Some((count, command)) = &asked.sessions {
+        return verdict(sessions(&asked.crowd, *count, command));
+    }
+    if asked.crowd.opponent == Opponent::Library && !cfg!(feature = "library") {
+        eprintln!("agree was built without the library: only --itself can be asked");
+        return ExitCode::from(2);
+    }
+    let fine = if let Some(index) = asked.world {
+        show(&asked.crowd, index)
+    } else if asked.exact || asked.faults {
+        let exact = !asked.exact || exact(asked.crowd.opponent);
+        let faults = !asked.faults || faults(&asked.crowd);
+        exact && faults
+    } else {
+        worlds(&asked.crowd)
+    };
+    verdict(fine)
+}
+
+fn verdict(fine: bool) -> ExitCode {
+    if fine {
+        ExitCode::SUCCESS
+    } else {
+        ExitCode::FAILURE
+    }
+}
+
+fn sessions(crowd: &Crowd, count: u64, command: &[String]) -> bool {
+    let start = Instant::now();
+    let heard = sessions::play(command, crowd.seed, count, crowd.threads);
+    if let Some((index, difference)) = &heard.differs {
+        println!(
+            "session {} of seed {} differs\n{}",
+            index, crowd.seed, difference
+        );
+        return false;
+    }
+    println!(
+        "agree: {} sessions, {} lines, {} sessions refused, no difference, {:.1} s",
+        count,
+        heard.lines,
+        heard.refused,
+        start.elapsed().as_secs_f64()
+    );
+    true
+}
+
+/// One world, shown whether or not the two agree.
+fn show(crowd: &Crowd, index: u64) -> bool {
+    let lines = one_world(crowd.opponent, crowd.seed, index, &mut Coverage::default());
+    print!("{}", dump::dump(&worlds::world(crowd.seed, index)));
+    for line in &lines {
+        println!("differs: {}", line);
+    }
+    println!(
+        "agree: seed {} world {}: {}",
+        crowd.seed,
+        index,
+        if lines.is_empty() {
+            "no difference"
+        } else {
+            "different"
+        }
+    );
+    lines.is_empty()
+}
+
+fn worlds(crowd: &Crowd) -> bool {
+    let start = Instant::now();
+    let (coverage, disagreement) = crowd.run();
+    if let Some(found) = disagreement {
+        println!("differs in seed {} world {}", crowd.seed, found.index);
+        for line in &found.lines {
+            println!("  {}", line);
+        }
+        print!("{}", dump::dump(&worlds::world(crowd.seed, found.index)));
+        println!(
+            "agree: the library and the model differ; again with --seed {} --world {}",
+            crowd.seed, found.index
+        );
+        return false;
+    }
+    print!("{}", coverage.table());
+    let missing = coverage.missing();
+    let asked = crowd.worlds >= COVERAGE_FROM;
+    if asked {
+        for line in &missing {
+            println!("not covered: {}", line);
+        }
+    }
+    println!(
+        "agree: {} worlds, {} blocks, no difference, {:.1} s{}",
+        crowd.worlds,
+        coverage.blocks(),
+        start.elapsed().as_secs_f64(),
+        match (asked, missing.is_empty()) {
+            (true, true) => "",
+            (true, false) => "; but not everything was covered",
+            (false, _) => "; too few worlds to ask what they cover",
+        }
+    );
+    !asked || missing.is_empty()
+}
+
+fn exact(opponent: Opponent) -> bool {
+    let start = Instant::now();
+    let sheet = exact::run(opponent);
+    let (giants, wrong_giants) = giants(opponent);
+    let wrong = [sheet.wrong, wrong_giants].concat();
+    for line in &wrong {
+        println!("wrong: {}", line);
+    }
+    println!(
+        "agree: {} exact cases and {} expectations of memories past the model, {} not met, {:.1} s",
+        sheet.cases,
+        giants,
+        wrong.len(),
+        start.elapsed().as_secs_f64()
+    );
+    wrong.is_empty()
+}
+
+/// How many expectations there were, and what was wrong.
+#[cfg(feature = "library")]
+fn giants(opponent: Opponent) -> (u32, Vec<String>) {
+    if opponent == Opponent::Itself {
+        return (0, Vec::new());
+    }
+    let report = giants::report();
+    for line in &report.refused {
+        println!("{}", line);
+    }
+    (report.cases, report.wrong)
+}
+
+#[cfg(not(feature = "library"))]
+fn giants(_: Opponent) -> (u32, Vec<String>) {
+    (0, Vec::new())
+}
+
+fn faults(crowd: &Crowd) -> bool {
+    let start = Instant::now();
+    // A model that is wrong may panic; that is a catch, and no news.
+    std::panic::set_hook(Box::new(|_| {}));
+    let faults = crowd.faults();
+    let mut missed = 0;
+    for (fault, caught) in &faults {
+        match caught {
+            Some(worlds) => println!("{:<56}{:>8}", fault.says(), worlds),
+            None => {
+                missed += 1;
+                println!("{:<56}  missed", fault.says());
+            }
+        }
+    }
+    println!(
+        "agree: {} of {} seeded faults caught, the number of worlds it took beside each, {:.1} s",
+        faults.len() - missed,
+        faults.len(),
+        start.elapsed().as_secs_f64()
+    );
+    missed == 0
+}

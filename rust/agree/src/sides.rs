@@ -1,0 +1,213 @@
+//! The two that are compared: the library, and the model.
+
+use crate::case::{record_in, record_left, Case, RecordBytes};
+use model::{Outcome, Part, Trace, World};
+
+/// All that a side leaves of a case.
+pub struct Left {
+    pub outcome: Outcome,
+    pub host: Vec<u8>,
+    pub images: [Vec<u8>; 2],
+    pub events: Vec<u8>,
+    pub records: [RecordBytes; 2],
+    pub parts: Vec<Part>,
+    /// A buffer next to which bytes were changed that had not been lent.
+    pub outside: Option<&'static str>,
+}
+
+/// Who stands against the model.
+#[derive(Clone, Copy, PartialEq, Eq)]
+pub enum Opponent {
+    Library,
+    /// The model itself, to try the worlds without the library.
+    Itself,
+}
+
+impl Opponent {
+    pub fn run(self, case: &Case) -> Left {
+        match self {
+            Opponent::Library => library::run(case),
+            Opponent::Itself => model_side(case).0,
+        }
+    }
+}
+
+fn world(case: &Case) -> World {
+    World {
+        host: case.host.clone(),
+        images: case.images.clone(),
+        records: [record_in(&case.records[0]), record_in(&case.records[1])],
+        events: case.events.clone(),
+    }
+}
+
+/// The model's run, with what happened at each block.
+pub fn model_side(case: &Case) -> (Left, Trace) {
+    let mut world = world(case);
+    let (outcome, trace) = model::run_traced(&mut world, case.first, case.allowance);
+    let own = [world.images[0].len() as u64, world.images[1].len() as u64];
+    let parts = case
+        .inspections
+        .iter()
+        .map(|i| model::inspect(&world.records, i.image_lens.unwrap_or(own), i.unit, i.place))
+        .collect();
+    let left = Left {
+        outcome,
+        host: world.host,
+        images: world.images,
+        events: world.events,
+        records: [
+            record_left(&case.records[0], &world.records[0]),
+            record_left(&case.records[1], &world.records[1]),
+        ],
+        parts,
+        outside: None,
+    };
+    (left, trace)
+}
+
+/// Host memory as the model has it when the k-th block is fetched, k from 1.
+pub fn memory_at_fetch(case: &Case, k: u32) -> Vec<u8> {
+    let mut world = world(case);
+    if k > 1 {
+        model::run(&mut world, case.first, k - 1);
+    }
+    world.host
+}
+
+#[cfg(not(feature = "library"))]
+mod library {
+    use super::{Case, Left};
+
+    pub fn run(_: &Case) -> Left {
+        unreachable!("refused at the command line")
+    }
+}
+
+#[cfg(feature = "library")]
+mod library {
+    use super::{Case, Left};
+    use crate::case::Inspection;
+    use model::{Outcome, Part};
+    use vsmd3200::Record;
+
+    const GUARD: u8 = 0xa5;
+
+    /// A lent buffer with bytes on both sides that are not lent, and that have to stay. The first
+    /// lent byte stands at any alignment.
+    struct Guarded {
+        bytes: Vec<u8>,
+        before: usize,
+        len: usize,
+    }
+
+    impl Guarded {
+        fn new(lent: &[u8], before: usize) -> Guarded {
+            let mut bytes = Vec::with_capacity(before + lent.len() + 32);
+            bytes.resize(before, GUARD);
+            bytes.extend_from_slice(lent);
+            bytes.resize(before + lent.len() + 32, GUARD);
+            Guarded {
+                bytes,
+                before,
+                len: lent.len(),
+            }
+        }
+
+        fn lent(&mut self) -> &mut [u8] {
+            &mut self.bytes[self.before..self.before + self.len]
+        }
+
+        fn guards_stand(&self) -> bool {
+            let after = &self.bytes[self.before + self.len..];
+            let all = |bytes: &[u8]| bytes.iter().all(|byte| *byte == GUARD);
+            all(&self.bytes[..self.before]) && all(after)
+        }
+
+        fn into_lent(mut self) -> Vec<u8> {
+            self.bytes.truncate(self.before + self.len);
+            self.bytes.split_off(self.before)
+        }
+    }
+
+    pub fn run(case: &Case) -> Left {
+        let shift = case.host.len() % 8;
+        let mut host = Guarded::new(&case.host, 32 + shift);
+        let mut image0 = Guarded::new(&case.images[0], 33 + shift);
+        let mut image1 = Guarded::new(&case.images[1], 34 + shift);
+        let mut events = Guarded::new(&case.events, 35 + shift);
+        let mut records = case.records.map(Record::from_bytes);
+        let outcome = vsmd3200::run(
+            host.lent(),
+            image0.lent(),
+            image1.lent(),
+            events.lent(),
+            &mut records,
+            case.first,
+            case.allowance,
+        );
+        let named = [
+            ("host memory", &host),
+            ("image 0", &image0),
+            ("image 1", &image1),
+            ("events", &events),
+        ];
+        let outside = named
+            .iter()
+            .find(|(_, buffer)| !buffer.guards_stand())
+            .map(|(name, _)| *name);
+        let images = [image0.into_lent(), image1.into_lent()];
+        let parts = case
+            .inspections
+            .iter()
+            .map(|i| part(&images, &records, i))
+            .collect();
+        Left {
+            outcome: Outcome {
+                answer: outcome.answer.number(),
+                failed: outcome.failed.map_or(0, |failed| failed.number()),
+                blocks: outcome.blocks,
+                sectors: outcome.sectors,
+            },
+            host: host.into_lent(),
+            images,
+            events: events.into_lent(),
+            records: records.map(|record| *record.as_bytes()),
+            parts,
+            outside,
+        }
+    }
+
+    fn part(images: &[Vec<u8>; 2], records: &[Record; 2], asked: &Inspection) -> Part {
+        match asked.image_lens {
+            None => lent_part(images, records, asked),
+            Some(lens) => {
+                let lens = lens.map(|len| len as usize);
+                let part = vsmd3200::part_of(records, lens, asked.unit, asked.place);
+                Part {
+                    unit: part.image as u8,
+                    at: part.at as u64,
+                    bytes: part.bytes as u64,
+                }
+            }
+        }
+    }
+
+    /// Which part of which image was lent, told from where the lent bytes stand.
+    fn lent_part(images: &[Vec<u8>; 2], records: &[Record; 2], asked: &Inspection) -> Part {
+        let lent = vsmd3200::inspect(&images[0], &images[1], records, asked.unit, asked.place);
+        let start = lent.as_ptr() as usize;
+        let unit = (0..2u8)
+            .find(|unit| {
+                images[*unit as usize]
+                    .as_ptr_range()
+                    .contains(&lent.as_ptr())
+            })
+            .unwrap_or(0);
+        Part {
+            unit,
+            at: start.wrapping_sub(images[unit as usize].as_ptr() as usize) as u64,
+            bytes: lent.len() as u64,
+        }
+    }
+}

@@ -1,0 +1,506 @@
+//! The run of a chain of blocks.
+
+use crate::block::Block;
+use crate::errors::error_byte;
+use crate::faults::{seeded, Fault};
+use crate::geometry::{Address, Geometry, Record};
+use crate::judge::{judge, Accepted, Piece};
+use crate::trace::{visit_after, visit_before, Past, Trace, Visit};
+
+/// Everything a run is handed and hands back.
+#[derive(Clone, Debug, PartialEq, Eq)]
+pub struct World {
+    pub host: Vec<u8>,
+    pub images: [Vec<u8>; 2],
+    pub records: [Record; 2],
+    pub events: Vec<u8>,
+}
+
+/// What a run returns beside the world.
+#[derive(Clone, Copy, Debug, PartialEq, Eq)]
+pub struct Outcome {
+    pub answer: u8,
+    /// With answer 4 the failed block's answer number, otherwise 0.
+    pub failed: u8,
+    pub blocks: u32,
+    pub sectors: u32,
+}
+
+pub const LEAST_EVENT_BYTES: usize = 512;
+pub const MOST_ALLOWANCE: u32 = 64;
+
+/// Words 2 to 7 that 86 writes: "this board's own identity".
+const IDENTITY: [u16; 6] = [0x3200, 0x0103, 0x0000, 0x0611, 0x07c3, 0x0000];
+
+/// How an accepted block went, or a refused one.
+#[derive(Clone, Copy, Debug, PartialEq, Eq)]
+pub(crate) struct Done {
+    /// 0 for status 80.
+    pub answer: u8,
+    pub sectors: u16,
+    pub travel: i32,
+    /// The cylinder of the last sector tried, for 81, 82, A1 and A2.
+    pub tried_cylinder: u64,
+    pub moved_unreadable: bool,
+}
+
+const NOTHING_MOVED: Done = Done {
+    answer: 0,
+    sectors: 0,
+    travel: 0,
+    tried_cylinder: 0,
+    moved_unreadable: false,
+};
+
+/// A run, changing the world in place.
+pub fn run(world: &mut World, first: u32, allowance: u32) -> Outcome {
+    run_traced(world, first, allowance).0
+}
+
+/// A run, with what happened at each block.
+pub fn run_traced(world: &mut World, first: u32, allowance: u32) -> (Outcome, Trace) {
+    // "Checks 1, 2, 3 in that order"
+    let least = if seeded(Fault::EventsOneByteLess) {
+        // a bound off by one
+        LEAST_EVENT_BYTES - 1
+    } else {
+        LEAST_EVENT_BYTES
+    };
+    if world.events.len() < least {
+        return refused(1);
+    }
+    if allowance == 0 || allowance > MOST_ALLOWANCE {
+        return refused(2);
+    }
+    match Block::read(&world.host, first) {
+        Some(block) => run_chain(world, first, block, allowance),
+        None => refused(3),
+    }
+}
+
+/// "all unchanged, counts 0"
+fn refused(answer: u8) -> (Outcome, Trace) {
+    let outcome = Outcome {
+        answer,
+        failed: 0,
+        blocks: 0,
+        sectors: 0,
+    };
+    (outcome, Trace { blocks: Vec::new() })
+}
+
+fn run_chain(
+    world: &mut World,
+    first: u32,
+    first_block: Block,
+    allowance: u32,
+) -> (Outcome, Trace) {
+    let mut chain = Chain {
+        past: Past::new(&world.host),
+        world,
+    };
+    let mut trace = Trace { blocks: Vec::new() };
+    let mut outcome = Outcome {
+        answer: 0,
+        failed: 0,
+        blocks: 0,
+        sectors: 0,
+    };
+    let mut at = first;
+    let mut block = first_block;
+    let mut left = if seeded(Fault::AllowanceOneMore) {
+        // a fetch that spends nothing
+        allowance + 1
+    } else {
+        allowance
+    };
+    loop {
+        // "Each fetch spends one of the allowance; a block fetched is a block run, refused or not."
+        left -= 1;
+        outcome.blocks += 1;
+        let visit = chain.run_block(outcome.blocks, at, &block);
+        trace.blocks.push(visit);
+        outcome.sectors += visit.sectors as u32;
+        if visit.answer != 0 {
+            // "A failed block's link isn't followed."
+            outcome.answer = 4;
+            outcome.failed = visit.answer;
+            // the fault goes on where the failed block has a link
+            if !(seeded(Fault::FailedLinkFollowed) && block.link()) {
+                return (outcome, trace);
+            }
+        }
+        if !block.link() {
+            outcome.answer = 0;
+            return (outcome, trace);
+        }
+        // "6 before 5"; the fault looks at the link first
+        let link_bad = Block::read(&chain.world.host, block.linked_block_address).is_none();
+        if left == 0 && !(seeded(Fault::FiveBeforeSix) && link_bad) {
+            outcome.answer = 6;
+            return (outcome, trace);
+        }
+        // The link followed is the one of the 28 bytes copied out; the block it leads to "is then
+        // read as it stands".
+        let link = if seeded(Fault::LinkAfterTransfer) {
+            // the block may have been stored over since it was fetched
+            Block::read(&chain.world.host, at).map_or(0, |now| now.linked_block_address)
+        } else {
+            block.linked_block_address
+        };
+        at = link;
+        let memory = if seeded(Fault::LaterBlockAsAtStart) {
+            // blocks fetched ahead
+            &chain.past.at_start
+        } else {
+            &chain.world.host
+        };
+        block = match Block::read(memory, at) {
+            Some(next) => next,
+            None => {
+                outcome.answer = 5;
+                return (outcome, trace);
+            }
+        };
+    }
+}
+
+/// A run under way.
+struct Chain<'a> {
+    world: &'a mut World,
+    past: Past,
+}
+
+impl Chain<'_> {
+    /// The k-th block of the run, k from 1, its 28 bytes already copied out.
+    fn run_block(&mut self, k: u32, at: u32, block: &Block) -> Visit {
+        if seeded(Fault::StatusBeforeList) {
+            // a list or UIB under word 1 is not what it was
+            self.store_word_1(at, 0x81, 0x00);
+        }
+        let judged = judge(self.world, block);
+        let before = visit_before(self.world, &self.past, at, block, &judged);
+        let (done, visit) = match &judged {
+            Err(answer) => (
+                Done {
+                    answer: *answer,
+                    ..NOTHING_MOVED
+                },
+                before,
+            ),
+            Ok(accepted) => {
+                // "status 81 and error 00 are stored in the block; then the transfer happens"
+                if !seeded(Fault::NoStatusBeforeData) {
+                    // the fault leaves word 1 as it was fetched
+                    self.store_word_1(at, 0x81, 0x00);
+                }
+                let done = self.perform(at, block, accepted);
+                let visit = visit_after(before, self.world, block, accepted, &done);
+                (done, visit)
+            }
+        };
+        let status = if done.answer == 0 { 0x80 } else { 0x82 };
+        let error = error_byte(done.answer);
+        self.store_word_1(at, status, error);
+        self.store_event(k, status, error, block, done.travel);
+        visit
+    }
+
+    fn perform(&mut self, at: u32, block: &Block, accepted: &Accepted) -> Done {
+        match block.command {
+            0x86 => self.handshake(at),
+            0x87 => self.initialize(block, accepted),
+            0x89 => self.move_heads(block, 0),
+            0x8a => self.seek(block, accepted),
+            0x8c => self.format(block, accepted),
+            0x81 | 0xa1 => self.read(block, accepted),
+            _ => self.write(block, accepted),
+        }
+    }
+
+    fn handshake(&mut self, at: u32) -> Done {
+        let mut place = at as u64 + 4;
+        for word in IDENTITY {
+            self.store(place, (word / 256) as u8);
+            self.store(place + 1, (word % 256) as u8);
+            place += 2;
+        }
+        NOTHING_MOVED
+    }
+
+    /// "87 replaces the unit record; the heads are at cylinder 0." Its travel is zero.
+    fn initialize(&mut self, block: &Block, accepted: &Accepted) -> Done {
+        let record = &mut self.world.records[block.unit() as usize];
+        let old_cylinder = record.cylinder;
+        if let Some(geometry) = accepted.uib {
+            // the fault keeps a record that is good already
+            if !(seeded(Fault::RecordKept) && record.counts_as_initialized()) {
+                *record = Record {
+                    initialized: true,
+                    geometry,
+                    cylinder: 0,
+                };
+            }
+        }
+        if seeded(Fault::InitializeTravels) {
+            // as a restore travels
+            return Done {
+                travel: -(old_cylinder as i32),
+                ..NOTHING_MOVED
+            };
+        }
+        NOTHING_MOVED
+    }
+
+    fn seek(&mut self, block: &Block, accepted: &Accepted) -> Done {
+        match accepted.target {
+            Some(target) => self.move_heads(block, target.cylinder),
+            None => NOTHING_MOVED,
+        }
+    }
+
+    /// The heads go to a cylinder: "Travel is the new cylinder minus the old one".
+    fn move_heads(&mut self, block: &Block, cylinder: u64) -> Done {
+        let record = &mut self.world.records[block.unit() as usize];
+        let travel = cylinder as i32 - record.cylinder as i32;
+        // Below C, which is at most 4,096.
+        record.cylinder = cylinder as u16;
+        Done {
+            travel,
+            ..NOTHING_MOVED
+        }
+    }
+
+    /// "8C takes B bytes and writes them to every sector of the named track."
+    fn format(&mut self, block: &Block, accepted: &Accepted) -> Done {
+        let unit = block.unit() as usize;
+        let geometry = self.world.records[unit].geometry;
+        let mut answer = 0;
+        let mut sectors = 0;
+        for sector in 0..geometry.sectors_a_track as u64 {
+            let address = Address {
+                cylinder: block.cylinder as u64,
+                head: block.head as u64,
+                sector,
+            };
+            let place = geometry.drive_place(address);
+            let Some(place) = self.in_image(unit, &geometry, place) else {
+                answer = 21;
+                break;
+            };
+            self.sector_from_host(unit, &geometry, place, &accepted.pieces, 0);
+            sectors += 1;
+        }
+        if seeded(Fault::FormatCountsOne) {
+            // one buffer, one sector
+            sectors = 1;
+        }
+        let heads = self.move_heads(block, block.cylinder as u64);
+        Done {
+            answer,
+            sectors,
+            ..heads
+        }
+    }
+
+    /// "81 and A1 copy sectors to host memory, through the elements joined in list order."
+    fn read(&mut self, block: &Block, accepted: &Accepted) -> Done {
+        let unit = block.unit() as usize;
+        let geometry = self.world.records[unit].geometry;
+        let Some(target) = accepted.target else {
+            return NOTHING_MOVED;
+        };
+        let mut tried_cylinder = target.cylinder;
+        let mut answer = 0;
+        let mut sectors: u16 = 0;
+        let mut moved_unreadable = false;
+        while sectors < block.sector_count {
+            let n = target.first + sectors as u64;
+            let Some((cylinder, place)) = self.find(unit, &geometry, block.volume(), n) else {
+                answer = 21;
+                break;
+            };
+            let unreadable = self.unreadable(unit, &geometry, place);
+            // "the sector that stopped a read counts as tried"; the fault stays on the one before
+            if !(seeded(Fault::StoppedReadStaysBehind) && unreadable) {
+                tried_cylinder = cylinder;
+            }
+            if unreadable {
+                // the fault stops whatever the options say
+                if !block.disable_read_data_errors() || seeded(Fault::DisableIgnored) {
+                    answer = 20;
+                    break;
+                }
+                moved_unreadable = true;
+            }
+            self.sector_to_host(unit, &geometry, place, &accepted.pieces, sectors as u64);
+            sectors += 1;
+        }
+        let heads = self.move_heads(block, tried_cylinder);
+        Done {
+            answer,
+            sectors,
+            tried_cylinder,
+            moved_unreadable,
+            ..heads
+        }
+    }
+
+    /// "82 and A2 ignore marks."
+    fn write(&mut self, block: &Block, accepted: &Accepted) -> Done {
+        let unit = block.unit() as usize;
+        let geometry = self.world.records[unit].geometry;
+        let Some(target) = accepted.target else {
+            return NOTHING_MOVED;
+        };
+        let mut tried_cylinder = target.cylinder;
+        let mut answer = 0;
+        let mut sectors: u16 = 0;
+        while sectors < block.sector_count {
+            let n = target.first + sectors as u64;
+            let Some((cylinder, place)) = self.find(unit, &geometry, block.volume(), n) else {
+                answer = 21;
+                break;
+            };
+            tried_cylinder = cylinder;
+            self.sector_from_host(unit, &geometry, place, &accepted.pieces, sectors as u64);
+            sectors += 1;
+        }
+        let heads = self.move_heads(block, tried_cylinder);
+        Done {
+            answer,
+            sectors,
+            tried_cylinder,
+            ..heads
+        }
+    }
+
+    /// The cylinder and the place of a logical sector; None "past the image's end".
+    fn find(&self, unit: usize, geometry: &Geometry, volume: u8, n: u64) -> Option<(u64, u64)> {
+        let address = geometry.address(volume, n)?;
+        let place = self.in_image(unit, geometry, geometry.place(volume, address))?;
+        Some((address.cylinder, place))
+    }
+
+    /// The place again, if the image has the sector's bytes and its mark. Check 17 has seen to
+    /// that, so answer 21 is never given; the test stays because the answer does.
+    fn in_image(&self, unit: usize, geometry: &Geometry, place: Option<u64>) -> Option<u64> {
+        let place = place?;
+        let length = self.world.images[unit].len() as u64;
+        let data_end = (place + 1) * geometry.bytes_a_sector as u64;
+        let mark = geometry.marks_at() + place;
+        if data_end > length || mark >= length {
+            return None;
+        }
+        Some(place)
+    }
+
+    /// A sector's mark: "0 good, any other unreadable".
+    fn unreadable(&self, unit: usize, geometry: &Geometry, place: u64) -> bool {
+        let next = if seeded(Fault::MarkOfNextSector) {
+            // a mark too far
+            1
+        } else {
+            0
+        };
+        let mark = self.world.images[unit][(geometry.marks_at() + place + next) as usize];
+        if seeded(Fault::MarkForgotten) {
+            // every sector is good
+            return false;
+        }
+        if seeded(Fault::MarkOfOneAlone) {
+            // another mark passes
+            return mark == 1;
+        }
+        mark != 0
+    }
+
+    /// The sector at a place is copied to where the k-th sector of the transfer goes, k from 0.
+    /// Where pieces share bytes, the later store stands.
+    fn sector_to_host(
+        &mut self,
+        unit: usize,
+        geometry: &Geometry,
+        place: u64,
+        pieces: &[Piece],
+        k: u64,
+    ) {
+        let b = geometry.bytes_a_sector as u64;
+        for byte in 0..b {
+            let number = self.world.images[unit][(place * b + byte) as usize];
+            if let Some(address) = joined(pieces, k * b + byte) {
+                self.store(address, number);
+            }
+        }
+    }
+
+    /// The sector at a place gets the bytes that the k-th sector of the transfer takes from host
+    /// memory as it stands now, the 81 00 of the block's own word 1 included.
+    fn sector_from_host(
+        &mut self,
+        unit: usize,
+        geometry: &Geometry,
+        place: u64,
+        pieces: &[Piece],
+        k: u64,
+    ) {
+        let b = geometry.bytes_a_sector as u64;
+        for byte in 0..b {
+            if let Some(address) = joined(pieces, k * b + byte) {
+                let number = self.world.host[address as usize];
+                self.world.images[unit][(place * b + byte) as usize] = number;
+            }
+        }
+    }
+
+    /// Every byte stored in host memory passes here.
+    fn store(&mut self, address: u64, byte: u8) {
+        self.world.host[address as usize] = byte;
+        self.past.stored[address as usize] = true;
+    }
+
+    fn store_word_1(&mut self, at: u32, status: u8, error: u8) {
+        self.store(at as u64 + 2, status);
+        self.store(at as u64 + 3, error);
+    }
+
+    /// "The event entry for the k-th block, k from 1, is the 8 bytes at 8(k − 1)".
+    fn store_event(&mut self, k: u32, status: u8, error: u8, block: &Block, travel: i32) {
+        let mut level = 0;
+        let mut vector = 0;
+        if seeded(Fault::LevelWithoutInterrupt) {
+            // told though nobody asked
+            level = block.interrupt_level;
+        }
+        if block.interrupt() {
+            level = block.interrupt_level;
+            // the fault has one vector for both ends
+            vector = if status == 0x80 || seeded(Fault::NormalVectorAlways) {
+                block.normal_vector
+            } else {
+                block.error_vector
+            };
+        }
+        let travel = travel.to_be_bytes();
+        let entry = [
+            status, error, level, vector, travel[0], travel[1], travel[2], travel[3],
+        ];
+        let at = 8 * (k as usize - 1);
+        for byte in 0..8 {
+            self.world.events[at + byte] = entry[byte];
+        }
+    }
+}
+
+/// The address of the k-th byte, k from 0, of the pieces joined in order. None past their end,
+/// where no transfer goes: the pieces sum to the bytes moved.
+fn joined(pieces: &[Piece], k: u64) -> Option<u64> {
+    let mut before = 0;
+    for piece in pieces {
+        if k < before + piece.bytes {
+            return Some(piece.address as u64 + (k - before));
+        }
+        before += piece.bytes;
+    }
+    None
+}

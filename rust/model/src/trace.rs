@@ -1,0 +1,222 @@
+//! What happened at each block of a run, so that a count can be kept of the traps that a set of
+//! worlds has walked into. Nothing here has a part in what a run does.
+
+use crate::block::{Block, BLOCK_BYTES};
+use crate::judge::{list_bytes, list_was_read, Accepted, Piece};
+use crate::run::{Done, World};
+
+/// The blocks in the order they were run.
+#[derive(Clone, Debug, PartialEq, Eq)]
+pub struct Trace {
+    pub blocks: Vec<Visit>,
+}
+
+/// One block run.
+#[derive(Clone, Copy, Debug, PartialEq, Eq)]
+pub struct Visit {
+    pub at: u32,
+    pub unit: u8,
+    pub command: u8,
+    pub options: u8,
+    /// 0 if it ended 80, else its answer, 10 to 21.
+    pub answer: u8,
+    /// Sectors copied by this block.
+    pub sectors: u16,
+    pub travel: i32,
+    /// A1, A2: the list was read and shares a byte with the block's own word 1.
+    pub list_under_own_status: bool,
+    /// 87: the block was accepted and its UIB shares a byte with its own word 1.
+    pub uib_under_own_status: bool,
+    /// A1: it stopped at an unreadable sector with an element partly filled.
+    pub stopped_inside_element: bool,
+    /// 81, 82, A1, A2: the last sector tried is on another cylinder than the first.
+    pub crossed_cylinder: bool,
+    /// 81, 82, A1, A2: the transfer was on volume 1.
+    pub on_volume_1: bool,
+    /// 8C: the track formatted belongs to no volume.
+    pub on_no_volume: bool,
+    /// 81, A1: an unreadable sector was moved because of DE.
+    pub moved_unreadable: bool,
+    /// 82, A2, 8C: the data taken include a byte of the block's own word 1.
+    pub took_own_status: bool,
+    /// 81, A1: the data moved were stored over a byte of the block's own word 1.
+    pub stored_over_own_status: bool,
+    /// A1: the data moved were stored over a byte of the block's own list.
+    pub stored_over_own_list: bool,
+    /// A1, A2: two elements of an accepted list share a byte of host memory.
+    pub elements_overlap: bool,
+    /// An earlier block of this chain stored a byte in this block, word 1 left aside, before it
+    /// was fetched.
+    pub overwritten: bool,
+    /// The bytes fetched, word 1 left aside, were not those at the start of the run.
+    pub overwritten_with_other_bytes: bool,
+}
+
+/// What earlier blocks have done to host memory: the bytes at the start of the run, and which
+/// ones have been stored since.
+pub(crate) struct Past {
+    pub at_start: Vec<u8>,
+    pub stored: Vec<bool>,
+}
+
+impl Past {
+    pub fn new(host: &[u8]) -> Past {
+        Past {
+            at_start: host.to_vec(),
+            stored: vec![false; host.len()],
+        }
+    }
+
+    /// Whether a byte of the block, word 1 left aside, was stored since the start of the run.
+    fn overwritten(&self, at: u32) -> bool {
+        bytes_but_word_1(at).any(|place| self.stored[place])
+    }
+
+    /// Whether such a byte is not what it was at the start of the run.
+    fn overwritten_with_other_bytes(&self, host: &[u8], at: u32) -> bool {
+        bytes_but_word_1(at).any(|place| self.at_start[place] != host[place])
+    }
+}
+
+fn bytes_but_word_1(at: u32) -> impl Iterator<Item = usize> {
+    (0..BLOCK_BYTES)
+        .filter(|k| *k != 2 && *k != 3)
+        .map(move |k| at as usize + k)
+}
+
+/// Whether two ranges of memory share a byte.
+fn share(one: u64, one_bytes: u64, other: u64, other_bytes: u64) -> bool {
+    one < other + other_bytes && other < one + one_bytes
+}
+
+/// As much of the pieces, joined in order, as the first bytes fill.
+fn filled(pieces: &[Piece], bytes: u64) -> Vec<Piece> {
+    let mut parts = Vec::new();
+    let mut left = bytes;
+    for piece in pieces {
+        let part = if piece.bytes < left {
+            piece.bytes
+        } else {
+            left
+        };
+        if part > 0 {
+            parts.push(Piece {
+                address: piece.address,
+                bytes: part,
+            });
+        }
+        left -= part;
+    }
+    parts
+}
+
+fn any_shares(pieces: &[Piece], at: u64, bytes: u64) -> bool {
+    pieces
+        .iter()
+        .any(|piece| share(piece.address as u64, piece.bytes, at, bytes))
+}
+
+/// Whether so many bytes end between two elements, or before the first.
+fn ends_between_elements(pieces: &[Piece], bytes: u64) -> bool {
+    let mut sum = 0;
+    for piece in pieces {
+        if sum == bytes {
+            return true;
+        }
+        sum += piece.bytes;
+    }
+    sum == bytes
+}
+
+fn two_share(pieces: &[Piece]) -> bool {
+    for (k, one) in pieces.iter().enumerate() {
+        if any_shares(&pieces[k + 1..], one.address as u64, one.bytes) {
+            return true;
+        }
+    }
+    false
+}
+
+/// The visit as known when the block has been fetched and judged and nothing is stored yet.
+pub(crate) fn visit_before(
+    world: &World,
+    past: &Past,
+    at: u32,
+    block: &Block,
+    judged: &Result<Accepted, u8>,
+) -> Visit {
+    let answer = match judged {
+        Ok(_) => 0,
+        Err(answer) => *answer,
+    };
+    let geometry = world.records[block.unit() as usize].geometry;
+    let word_1 = at as u64 + 2;
+    let accepted = judged.is_ok();
+    let transfer = matches!(block.command, 0x81 | 0x82 | 0xa1 | 0xa2);
+    let takes = matches!(block.command, 0x82 | 0xa2 | 0x8c);
+    let pieces: &[Piece] = match judged {
+        Ok(accepted) => &accepted.pieces,
+        Err(_) => &[],
+    };
+    let buffer = block.buffer_address as u64;
+    let in_a_volume = geometry
+        .volumes
+        .iter()
+        .any(|volume| volume.has_head(block.head as u64));
+    Visit {
+        at,
+        unit: block.unit(),
+        command: block.command,
+        options: block.options,
+        answer,
+        sectors: 0,
+        travel: 0,
+        list_under_own_status: list_was_read(&world.host, block, answer)
+            && share(buffer, list_bytes(block), word_1, 2),
+        uib_under_own_status: accepted && block.command == 0x87 && share(buffer, 18, word_1, 2),
+        stopped_inside_element: false,
+        crossed_cylinder: false,
+        on_volume_1: accepted && transfer && block.volume() == 1,
+        on_no_volume: accepted && block.command == 0x8c && !in_a_volume,
+        moved_unreadable: false,
+        took_own_status: takes && any_shares(pieces, word_1, 2),
+        stored_over_own_status: false,
+        stored_over_own_list: false,
+        elements_overlap: two_share(pieces),
+        overwritten: past.overwritten(at),
+        overwritten_with_other_bytes: past.overwritten_with_other_bytes(&world.host, at),
+    }
+}
+
+/// The visit with what is known once an accepted block has ended.
+pub(crate) fn visit_after(
+    before: Visit,
+    world: &World,
+    block: &Block,
+    accepted: &Accepted,
+    done: &Done,
+) -> Visit {
+    let reads = matches!(block.command, 0x81 | 0xa1);
+    let transfer = matches!(block.command, 0x81 | 0x82 | 0xa1 | 0xa2);
+    let first_cylinder = match accepted.target {
+        Some(target) => target.cylinder,
+        None => 0,
+    };
+    let b = world.records[block.unit() as usize].geometry.bytes_a_sector as u64;
+    let moved = if reads { done.sectors as u64 * b } else { 0 };
+    let stored = filled(&accepted.pieces, moved);
+    let list = block.buffer_address as u64;
+    Visit {
+        answer: done.answer,
+        sectors: done.sectors,
+        travel: done.travel,
+        stopped_inside_element: block.command == 0xa1
+            && done.answer == 20
+            && !ends_between_elements(&accepted.pieces, moved),
+        crossed_cylinder: transfer && done.tried_cylinder != first_cylinder,
+        moved_unreadable: done.moved_unreadable,
+        stored_over_own_status: any_shares(&stored, before.at as u64 + 2, 2),
+        stored_over_own_list: block.command == 0xa1 && any_shares(&stored, list, list_bytes(block)),
+        ..before
+    }
+}

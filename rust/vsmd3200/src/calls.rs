@@ -1,0 +1,186 @@
+//! The foreign calls, and the safe functions around them.
+
+use crate::layouts::{Outcome, Record, LAYOUT_VERSION, OUTCOME_LEN, RECORD_LEN};
+
+/// The functions of the archive, as `include/vsmd3200.h` declares them. Each lent slice crosses
+/// as a pointer and a length.
+mod foreign {
+    extern "C" {
+        pub fn vsmd_layout_version() -> u32;
+        pub fn vsmd_record_len() -> usize;
+        pub fn vsmd_outcome_len() -> usize;
+        pub fn vsmd_run(
+            host: *mut u8,
+            host_len: usize,
+            image0: *mut u8,
+            image0_len: usize,
+            image1: *mut u8,
+            image1_len: usize,
+            events: *mut u8,
+            events_len: usize,
+            record0: *mut u8,
+            record0_len: usize,
+            record1: *mut u8,
+            record1_len: usize,
+            outcome: *mut u8,
+            outcome_len: usize,
+            first: u32,
+            allowance: u32,
+        ) -> u32;
+        pub fn vsmd_inspect(
+            record0: *const u8,
+            record0_len: usize,
+            record1: *const u8,
+            record1_len: usize,
+            image0_len: usize,
+            image1_len: usize,
+            unit: u32,
+            place: u64,
+            image: *mut u32,
+            at: *mut usize,
+            bytes: *mut usize,
+        ) -> u32;
+    }
+}
+
+/// A part of one of the two images.
+#[derive(Clone, Copy, Debug, PartialEq, Eq, Hash)]
+pub struct Part {
+    /// Which image, 0 or 1.
+    pub image: u32,
+    /// The part's first byte.
+    pub at: usize,
+    /// How many bytes it has.
+    pub bytes: usize,
+}
+
+/// The layouts of the archive have to be those that this crate lays its bytes out by.
+fn assert_layouts() {
+    // SAFETY: the three functions take nothing, touch nothing, and return a constant.
+    let (version, record, outcome) = unsafe {
+        (
+            foreign::vsmd_layout_version(),
+            foreign::vsmd_record_len(),
+            foreign::vsmd_outcome_len(),
+        )
+    };
+    assert!(
+        version == LAYOUT_VERSION && record == RECORD_LEN && outcome == OUTCOME_LEN,
+        "the linked library has other layouts than this crate was written for"
+    );
+}
+
+/// Runs the chain of blocks that begins at the address `first` of host memory, fetching at most
+/// `allowance` blocks.
+///
+/// `image0`, `image1` and `records` are the two units' images and records. The k-th block run
+/// leaves its entry in the 8 bytes of `events` from 8(k − 1) on. What the blocks wrote stands
+/// in host memory and the images afterwards; a record is another where a block changed it. With
+/// the answers 1, 2 and 3 nothing is changed.
+///
+/// # Panics
+///
+/// Where the linked library has other layouts than this crate.
+pub fn run(
+    host: &mut [u8],
+    image0: &mut [u8],
+    image1: &mut [u8],
+    events: &mut [u8],
+    records: &mut [Record; 2],
+    first: u32,
+    allowance: u32,
+) -> Outcome {
+    assert_layouts();
+    let [record0, record1] = records;
+    let record0 = record0.as_mut_bytes();
+    let record1 = record1.as_mut_bytes();
+    let mut outcome = [0; OUTCOME_LEN];
+    // SAFETY: each pointer comes from a slice or an array that is borrowed for the whole call and
+    // goes with its own length; being borrowed mutably they do not overlap, and none is null. The
+    // library is proved to touch no byte outside of them and keeps none of them.
+    let answer = unsafe {
+        foreign::vsmd_run(
+            host.as_mut_ptr(),
+            host.len(),
+            image0.as_mut_ptr(),
+            image0.len(),
+            image1.as_mut_ptr(),
+            image1.len(),
+            events.as_mut_ptr(),
+            events.len(),
+            record0.as_mut_ptr(),
+            record0.len(),
+            record1.as_mut_ptr(),
+            record1.len(),
+            outcome.as_mut_ptr(),
+            outcome.len(),
+            first,
+            allowance,
+        )
+    };
+    match Outcome::from_bytes(&outcome) {
+        Some(outcome) if u32::from(outcome.answer.number()) == answer => outcome,
+        // The buffers of the layouts are as long as the library asks, so it refuses none.
+        _ => panic!("the linked library left no outcome of this crate's layout"),
+    }
+}
+
+/// Which part of which image the sector at a place of a unit is, for images of these lengths.
+///
+/// The place counts sectors from the start of the image. Where there is no such sector (unit over
+/// 1, unit not initialized, place too large, image too short) it is a part of length 0 at the
+/// start of unit 0's image.
+///
+/// # Panics
+///
+/// Where the linked library has other layouts than this crate.
+pub fn part_of(records: &[Record; 2], image_lens: [usize; 2], unit: u32, place: u64) -> Part {
+    assert_layouts();
+    let record0 = records[0].as_bytes();
+    let record1 = records[1].as_bytes();
+    let mut part = Part {
+        image: 0,
+        at: 0,
+        bytes: 0,
+    };
+    // SAFETY: the two records are borrowed for the whole call and go with their own lengths; the
+    // three numbers are fields of a local that nothing else has. The library is proved to touch
+    // nothing else and keeps none of them.
+    let refused = unsafe {
+        foreign::vsmd_inspect(
+            record0.as_ptr(),
+            record0.len(),
+            record1.as_ptr(),
+            record1.len(),
+            image_lens[0],
+            image_lens[1],
+            unit,
+            place,
+            &mut part.image,
+            &mut part.at,
+            &mut part.bytes,
+        )
+    };
+    assert!(refused == 0, "the linked library refused a record");
+    part
+}
+
+/// The sector at a place of a unit, lent as that part of the unit's image.
+///
+/// Where there is no such sector, as [`part_of`] says, it is a part of length 0 at the start of
+/// unit 0's image.
+///
+/// # Panics
+///
+/// Where the linked library has other layouts than this crate.
+pub fn inspect<'a>(
+    image0: &'a [u8],
+    image1: &'a [u8],
+    records: &[Record; 2],
+    unit: u32,
+    place: u64,
+) -> &'a [u8] {
+    let part = part_of(records, [image0.len(), image1.len()], unit, place);
+    let image = if part.image == 0 { image0 } else { image1 };
+    &image[part.at..part.at + part.bytes]
+}

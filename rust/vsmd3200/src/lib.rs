@@ -1,0 +1,46 @@
+//! The command parser of a board that takes the place of an Interphase V/SMD 3200, as a safe
+//! library without `std`.
+//!
+//! The work is done by a library written and proved in Rattle, which crosses to other languages
+//! through C. This crate is the Rust side of that boundary and no more: it lends slices, keeps
+//! records and outcomes in the bytes of their layouts, and gives the numbers names.
+//!
+//! [`run`] runs a chain of blocks on host memory, two images and two unit records. [`inspect`]
+//! lends one sector of an image.
+//!
+//! ```
+//! use vsmd3200::{run, Record, RunAnswer};
+//!
+//! let mut host = [0u8; 28];
+//! host[0] = 0x86; // one block at address 0: a handshake, no options, no link
+//! let mut events = [0u8; 512];
+//! let mut records = [Record::UNINITIALIZED; 2];
+//! let outcome = run(&mut host, &mut [], &mut [], &mut events, &mut records, 0, 1);
+//! assert_eq!((outcome.answer, outcome.blocks), (RunAnswer::Done, 1));
+//! assert_eq!(host[2..6], [0x80, 0x00, 0x32, 0x00]); // status, error, and who is there
+//! assert_eq!(events[..4], [0x80, 0x00, 0x00, 0x00]);
+//! ```
+//!
+//! Nothing is kept between calls, nothing is allocated, and two calls may be made at the same
+//! time: the borrows see to it that they work on different buffers.
+
+#![no_std]
+#![warn(missing_docs)]
+
+mod answers;
+mod calls;
+mod layouts;
+
+pub use answers::{BlockAnswer, RunAnswer};
+pub use calls::{inspect, part_of, run, Part};
+pub use layouts::{Geometry, Outcome, Record, Volume, LAYOUT_VERSION, OUTCOME_LEN, RECORD_LEN};
+
+/// The fewest bytes of an event buffer that a run takes: 64 entries of [`EVENT_LEN`].
+pub const EVENTS_LEN_LEAST: usize = 512;
+
+/// The bytes of one entry of the event buffer: status, error, level, vector, and the travel of
+/// the heads as a big-endian number in two's complement.
+pub const EVENT_LEN: usize = 8;
+
+/// The largest allowance that a run takes; the smallest is 1.
+pub const ALLOWANCE_MOST: u32 = 64;

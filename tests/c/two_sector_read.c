@@ -1,0 +1,220 @@
+/* The paper's session example through the C header: an initialize linked to a read of two sectors, laid out byte by byte. Then the
+ * refusals of short buffers, and the inspection. One line where all is well; else what differs, and exit 1. */
+#include "vsmd3200.h"
+
+#include <stdio.h>
+#include <string.h>
+
+#define HOST_LEN 301u /* odd, so that a word past the end would not fit */
+#define IMAGE_LEN 7800u
+#define AFTER 9u /* bytes after each buffer that nobody may touch */
+#define EVENTS_LEN 520u
+#define MARKS 7680u
+
+#define BLOCK0 4u
+#define BLOCK1 40u
+#define UIB 80u
+#define DATA 120u
+
+static const uint8_t initialize[28] = {
+    0x87, 0x20, 0xE1, 0xE2, /* initialize; LK; word 1 holds something old */
+    0x00, 0x00, 0x00, 0x00, 0x00, 0x00, 0x00, 0x00, 0x00, UIB, /* no sector, no count; the UIB's address */
+    0x00, 0x00, 0x05, 0x50, 0x00, 0x51, /* level 5, vector 50, error vector 51: IE is clear, so none is told */
+    0x00, 0x00, 0x00, BLOCK1, 0x00, 0x00, 0x00, 0x00,
+};
+
+static const uint8_t two_sectors[28] = {
+    0x81, 0x12, 0xE3, 0xE4, /* read; XL and IE */
+    0x00, 0x00, 0x00, 0x07, 0x00, 0x02, 0x00, 0x00, 0x00, DATA, /* from logical 7, two sectors, to the data's address */
+    0x00, 0x00, 0x03, 0x40, 0x00, 0x41, /* level 3, vector 40, error vector 41 */
+    0x00, 0x00, 0x00, 0x00, 0x00, 0x00, 0x00, 0x00,
+};
+
+/* C = 10, S = 4, B = 64, volume 0 heads 0 and 1, volume 1 head 2 */
+static const uint8_t uib[18] = {0x00, 0x02, 0x02, 0x01, 0x04, 0x00, 0x00, 0x40, 0x10,
+                                0x20, 0x01, 0x03, 0x00, 0x0A, 0x04, 0x00, 0x01, 0xFF};
+
+static const uint8_t record_after[16] = {0x01, 0x01, 0x00, 0x10, 0x00, 0x0A, 0x00, 0x04,
+                                         0x00, 0x40, 0x00, 0x02, 0x02, 0x01, 0x00, 0x01};
+
+static const uint8_t outcome_after[16] = {0x01, 0x00, 0x00, 0x10, 0x00, 0x00, 0x00, 0x00,
+                                          0x00, 0x00, 0x00, 0x02, 0x00, 0x00, 0x00, 0x02};
+
+static const uint8_t events_after[16] = {0x80, 0x00, 0x00, 0x00, 0x00, 0x00, 0x00, 0x00,
+                                         0x80, 0x00, 0x03, 0x40, 0x00, 0x00, 0x00, 0x01};
+
+/* All that is lent to a run, each buffer with bytes after it that are not. */
+struct lent {
+    uint8_t host[HOST_LEN + AFTER];
+    uint8_t image0[IMAGE_LEN + AFTER];
+    uint8_t image1[AFTER];
+    uint8_t events[EVENTS_LEN + AFTER];
+    uint8_t record0[VSMD_RECORD_LEN + AFTER];
+    uint8_t record1[VSMD_RECORD_LEN + AFTER];
+    uint8_t outcome[VSMD_OUTCOME_LEN + AFTER];
+};
+
+static int wrong;
+
+static void expect_number(const char *what, unsigned long got, unsigned long wanted)
+{
+    if (got == wanted)
+        return;
+    printf("%s is %lu and should be %lu\n", what, got, wanted);
+    wrong = 1;
+}
+
+static void expect_bytes(const char *what, const uint8_t *got, const uint8_t *wanted, size_t len)
+{
+    size_t k;
+    for (k = 0; k < len; k++) {
+        if (got[k] != wanted[k]) {
+            printf("%s: byte %lu is %02X and should be %02X\n", what, (unsigned long)k, (unsigned)got[k], (unsigned)wanted[k]);
+            wrong = 1;
+            return;
+        }
+    }
+}
+
+static void expect_lent(const struct lent *got, const struct lent *wanted)
+{
+    expect_bytes("host memory", got->host, wanted->host, sizeof got->host);
+    expect_bytes("image 0", got->image0, wanted->image0, sizeof got->image0);
+    expect_bytes("image 1", got->image1, wanted->image1, sizeof got->image1);
+    expect_bytes("events", got->events, wanted->events, sizeof got->events);
+    expect_bytes("record 0", got->record0, wanted->record0, sizeof got->record0);
+    expect_bytes("record 1", got->record1, wanted->record1, sizeof got->record1);
+    expect_bytes("outcome", got->outcome, wanted->outcome, sizeof got->outcome);
+}
+
+/* Every byte of the lent buffers gets a value of its own, as far as a byte can, and the example is laid over it. Unit 0 is not
+ * initialized; record 1 is of no known version. */
+static void lay_out(struct lent *l)
+{
+    uint8_t *bytes = (uint8_t *)l;
+    size_t k;
+    for (k = 0; k < sizeof *l; k++)
+        bytes[k] = (uint8_t)(k * 7 + k / 64 * 13 + 5);
+    for (k = MARKS; k < IMAGE_LEN; k++)
+        l->image0[k] = 0;
+    vsmd_record_clear(l->record0);
+    memcpy(l->host + BLOCK0, initialize, sizeof initialize);
+    memcpy(l->host + BLOCK1, two_sectors, sizeof two_sectors);
+    memcpy(l->host + UIB, uib, sizeof uib);
+}
+
+static uint32_t run_with(struct lent *l, size_t record0_len, size_t record1_len, size_t outcome_len)
+{
+    return vsmd_run(l->host, HOST_LEN, l->image0, IMAGE_LEN, l->image1, 0, l->events, EVENTS_LEN, l->record0, record0_len,
+                    l->record1, record1_len, l->outcome, outcome_len, BLOCK0, VSMD_ALLOWANCE_MOST);
+}
+
+static void layouts(void)
+{
+    expect_number("the layouts' version", vsmd_layout_version(), VSMD_LAYOUT_VERSION);
+    expect_number("the length of a record", (unsigned long)vsmd_record_len(), VSMD_RECORD_LEN);
+    expect_number("the length of an outcome", (unsigned long)vsmd_outcome_len(), VSMD_OUTCOME_LEN);
+}
+
+/* A buffer too short for its layout: its own code, record 0 first, and every byte as it was. */
+static void refusals(void)
+{
+    struct lent l, before;
+    lay_out(&before);
+    l = before;
+    expect_number("the answer with all three short", run_with(&l, 15, 15, 15), VSMD_RECORD0_SHORT);
+    expect_number("the answer with record 0 empty", run_with(&l, 0, 16, 16), VSMD_RECORD0_SHORT);
+    expect_number("the answer with record 1 and the outcome short", run_with(&l, 16, 15, 15), VSMD_RECORD1_SHORT);
+    expect_number("the answer with the outcome short", run_with(&l, 16, 16, 15), VSMD_OUTCOME_SHORT);
+    expect_number("the answer with the outcome empty", run_with(&l, 16, 16, 0), VSMD_OUTCOME_SHORT);
+    expect_lent(&l, &before);
+}
+
+/* Initialize linked to the read. The buffers of the layouts are lent longer than they need be. */
+static void the_example(struct lent *l)
+{
+    struct lent wanted;
+    lay_out(l);
+    wanted = *l;
+    expect_number("the answer", run_with(l, 16 + 3, 16, 16 + 3), VSMD_DONE);
+    /* status 80 and error 00; image bytes 448 to 511 and 768 to 831; nothing else of host memory */
+    wanted.host[BLOCK0 + 2] = 0x80;
+    wanted.host[BLOCK0 + 3] = 0x00;
+    wanted.host[BLOCK1 + 2] = 0x80;
+    wanted.host[BLOCK1 + 3] = 0x00;
+    memcpy(wanted.host + DATA, wanted.image0 + 448, 64);
+    memcpy(wanted.host + DATA + 64, wanted.image0 + 768, 64);
+    memcpy(wanted.events, events_after, sizeof events_after);
+    memcpy(wanted.record0, record_after, sizeof record_after);
+    memcpy(wanted.outcome, outcome_after, sizeof outcome_after);
+    expect_lent(l, &wanted);
+}
+
+static void helpers(const struct lent *l)
+{
+    uint8_t made[VSMD_RECORD_LEN];
+    vsmd_record_make(made, 10, 4, 64, 0, 2, 2, 1, 1);
+    expect_bytes("the record made", made, record_after, sizeof made);
+    expect_number("blocks", vsmd_outcome_blocks(l->outcome), 2);
+    expect_number("sectors", vsmd_outcome_sectors(l->outcome), 2);
+    expect_number("whether record 0 says initialized", (unsigned long)vsmd_record_says_initialized(l->record0), 1);
+    expect_number("whether record 1 says initialized", (unsigned long)vsmd_record_says_initialized(l->record1), 0);
+    expect_number("the cylinder", vsmd_record_cylinder(l->record0), 1);
+    expect_number("the travel", (unsigned long)vsmd_event_travel(l->events + VSMD_EVENT_LEN), 1);
+}
+
+/* A restore takes the heads back: travel -1, and record 1 is still what it was. */
+static void the_way_back(struct lent *l)
+{
+    l->host[BLOCK0] = 0x89;
+    l->host[BLOCK0 + 1] = 0x00;
+    expect_number("the answer of the restore", run_with(l, 16, 16, 16), VSMD_DONE);
+    expect_number("minus the travel of the restore", (unsigned long)-vsmd_event_travel(l->events), 1);
+    expect_number("the cylinder after it", vsmd_record_cylinder(l->record0), 0);
+}
+
+static void expect_part(const struct lent *l, size_t image0_len, uint32_t unit, uint64_t place, size_t at, size_t bytes)
+{
+    uint32_t image = 77;
+    size_t got_at = 77, got_bytes = 77;
+    uint32_t code = vsmd_inspect(l->record0, 16, l->record1, 16, image0_len, 0, unit, place, &image, &got_at, &got_bytes);
+    expect_number("the code of an inspection", code, 0);
+    expect_number("the image inspected", image, 0);
+    expect_number("the part's first byte", (unsigned long)got_at, (unsigned long)at);
+    expect_number("the part's length", (unsigned long)got_bytes, (unsigned long)bytes);
+}
+
+static void inspections(const struct lent *l)
+{
+    uint32_t image = 77;
+    size_t at = 78, bytes = 79;
+    expect_part(l, IMAGE_LEN, 0, 12, 768, 64);
+    expect_part(l, IMAGE_LEN, 0, 119, 7616, 64);
+    expect_part(l, IMAGE_LEN, 0, 120, 0, 0);
+    expect_part(l, IMAGE_LEN, 0, (uint64_t)1 << 58, 0, 0);
+    expect_part(l, IMAGE_LEN - 1, 0, 12, 0, 0);
+    expect_part(l, IMAGE_LEN, 1, 12, 0, 0);
+    expect_part(l, IMAGE_LEN, 2, 12, 0, 0);
+    expect_number("the code with record 0 short",
+                  vsmd_inspect(l->record0, 15, l->record1, 15, IMAGE_LEN, 0, 0, 12, &image, &at, &bytes), VSMD_RECORD0_SHORT);
+    expect_number("the code with record 1 short",
+                  vsmd_inspect(l->record0, 16, l->record1, 15, IMAGE_LEN, 0, 0, 12, &image, &at, &bytes), VSMD_RECORD1_SHORT);
+    expect_number("the image after a refused inspection", image, 77);
+    expect_number("the first byte after it", (unsigned long)at, 78);
+    expect_number("the length after it", (unsigned long)bytes, 79);
+}
+
+int main(void)
+{
+    struct lent l;
+    layouts();
+    refusals();
+    the_example(&l);
+    helpers(&l);
+    inspections(&l);
+    the_way_back(&l);
+    if (wrong)
+        return 1;
+    printf("two_sector_read: the session example, the refusals and the inspection through C are as the paper has them\n");
+    return 0;
+}
