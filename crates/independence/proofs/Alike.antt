@@ -1,0 +1,126 @@
+-- Two worlds that agree on what a block reads lead it to the same effect: the same stores, answer, sectors and record.
+-- Its 28 bytes are the same, and so it names the same unit; the judgement reads no byte that is not alike; and of what is done only a
+-- transfer through a list goes by host memory, by bytes that the judgement has read.
+use Prim.Native.Nat.{ℕ, _+_, _*_, _<_}
+use mathlib.Core.List.{List}
+use mathlib.Core.Logic.{inl, inr}
+use mathlib.Core.Path.{_≡_, refl, sym, _∙_, ap}
+use native.Mathlib.Nat.{zero-add}
+use native.Mathlib.Omega.{arith}
+use lib.ListN.{getD, length}
+use Rattle.wire.specs.Memory.{Among}
+use Rattle.wire.proofs.Laws.{word-same}
+use Rattle.geometry.specs.Drive.{B}
+use Rattle.request.specs.declared.Buffer.{Buffer}
+use Rattle.request.specs.declared.Buffer.the-variants.{Piece, List as Elements}
+use Rattle.request.specs.declared.UnitNumber.{UnitNumber}
+use Rattle.iopb.specs.declared.Block.{Block}
+use Rattle.iopb.specs.Ask.{taskOf, unitOf}
+use Rattle.iopb.specs.Layout.{blockAt, optionsOf}
+use Rattle.memory.specs.Lists.{elementOf}
+use Rattle.memory.proofs.Locality.{element-same}
+use Rattle.judge.specs.declared.Job.{Job}
+use Rattle.judge.specs.declared.Plan.{Plan}
+use Rattle.judge.specs.declared.Plan.the-variants.{Report, Initialize, Heads, Format, Move}
+use Rattle.judge.specs.declared.Verdict.{Verdict}
+use Rattle.judge.specs.declared.Verdict.the-variants.{Refused, Do}
+use Rattle.judge.specs.Given.{Asked}
+use Rattle.judge.specs.Verdict.{verdict}
+use Rattle.judge.proofs.Locality.{block-local}
+use Rattle.transfer.proofs.Joined.{joined-same}
+use Rattle.unit.specs.declared.Record.{Record}
+use Rattle.board.specs.Block.{Effect, dataByte, judged}
+use Rattle.board.specs.Footprint.{HostRead, namedDrive, names, verdictOf}
+use Rattle.board.specs.Visits.{Visit, blockOf, effectOf}
+use Rattle.board.specs.World.{Drive, World, driveOf}
+use Rattle.board.proofs.Gathered.{list-good, moved-same}
+use Rattle.board.proofs.Written.{effect-is}
+use Rattle.independence.proofs.Lists.{list-is-read}
+
+block-same : (h k : List ℕ) (at : ℕ) → ((x : ℕ) → Among at 28 x → getD h x 0 ≡ getD k x 0) → blockAt h at ≡ blockAt k at
+block-same h k at alike =
+    let byte : (j : ℕ) → j < 28 → getD h (at + j) 0 ≡ getD k (at + j) 0 = λ j j<. alike (at + j) (omega arith) in
+    let two : (j : ℕ) → j < 27 → _ = λ j j<. word-same 2 h k (at + j) (at + j) (λ x x<. alike (at + j + x) (omega arith)) in
+    let four : (j : ℕ) → j < 25 → _ = λ j j<. word-same 4 h k (at + j) (at + j) (λ x x<. alike (at + j + x) (omega arith)) in
+    let first = alike at (omega arith) in
+    λ i.
+    record {
+      command = first i;
+      options = optionsOf (byte 1 (omega arith) i);
+      cylinder = two 4 (omega arith) i;
+      head = byte 6 (omega arith) i;
+      sector = byte 7 (omega arith) i;
+      number = four 4 (omega arith) i;
+      count = two 8 (omega arith) i;
+      address = four 10 (omega arith) i;
+      «memory_type» = byte 14 (omega arith) i;
+      modifier = byte 15 (omega arith) i;
+      level = byte 16 (omega arith) i;
+      «normal_vector» = byte 17 (omega arith) i;
+      «error_vector» = byte 19 (omega arith) i;
+      link = four 20 (omega arith) i;
+      «link_memory_type» = byte 24 (omega arith) i;
+      «link_modifier» = byte 25 (omega arith) i;
+      elements = byte 27 (omega arith) i;
+    }
+
+module _
+    (v : Visit) (k : World) (long : length (v .world .host) ≡ length (k .host))
+    (alike : (x : ℕ) → HostRead v x → getD (v .world .host) x 0 ≡ getD (k .host) x 0)
+    (drive : namedDrive v ≡ driveOf k (names v))
+  where
+    abbrev h : List ℕ
+    h = v .world .host
+
+    -- The same block, found in the other world.
+    abbrev pub there : Visit
+    there = record { at = v .at; index = v .index; world = k }
+
+    pub block-alike : blockOf v ≡ blockOf there
+    block-alike = block-same h (k .host) (v .at) (λ x among. alike x (inl among))
+
+    pub names-alike : names v ≡ names there
+    names-alike = ap unitOf block-alike
+
+    pub drive-alike : namedDrive v ≡ namedDrive there
+    drive-alike = drive ∙ ap (driveOf k) names-alike
+
+    abbrev on : Block → Drive → List ℕ → Verdict
+    on b d host = verdict (record { task = taskOf host b; unit = d .unit; image = length (d .image); host = host })
+
+    pub verdict-alike : verdictOf v ≡ verdictOf there
+    verdict-alike =
+        block-local (namedDrive v .unit) (length (namedDrive v .image)) h (k .host) long (blockOf v) (λ x read. alike x (inr (inl read))) ∙
+        (λ i. on (block-alike i) (drive-alike i) (k .host))
+
+    -- Where byte y of the data of a job lies.
+    data-alike : (j : Job) → verdictOf v ≡ Do (Move j) → (b : Buffer) → j .buffer ≡ b → (y : ℕ) → dataByte h b y ≡ dataByte (k .host) b y
+    data-alike j is (Piece at) here y = refl
+    data-alike j is (Elements at n) here y =
+        let good = list-good h (namedDrive v .image) (namedDrive v .unit) (blockOf v) j is at n here in
+        let same : (i : ℕ) → i < n → elementOf h at i ≡ elementOf (k .host) at i =
+        element-same h (k .host) at n (λ x among. alike x (inr (inl (inr (list-is-read _ j at n _ x is here good among))))) in
+        joined-same (λ i. elementOf h at i .bytes) (λ i. elementOf (k .host) at i .bytes) (λ i. elementOf h at i .address)
+        (λ i. elementOf (k .host) at i .address) n 0 y
+        (λ t less. rw zero-add (ap (λ e. e .bytes) (same t less), ap (λ e. e .address) (same t less)))
+
+    done-alike :
+        (verd : Verdict) → verdictOf v ≡ verd →
+        judged (blockOf v) (v .at) (v .index) h (namedDrive v) verd ≡ judged (blockOf v) (v .at) (v .index) (k .host) (namedDrive v) verd
+    done-alike (Refused r) is = refl
+    done-alike (Do Report) is = refl
+    done-alike (Do (Initialize g)) is = refl
+    done-alike (Do (Heads c)) is = refl
+    done-alike (Do (Format s b)) is = refl
+    done-alike (Do (Move j)) is =
+        moved-same (namedDrive v .image) (namedDrive v .unit) j (dataByte h (j .buffer)) (dataByte (k .host) (j .buffer))
+        (λ y less. data-alike j is (j .buffer) refl y) (blockOf v) (v .at) (v .index)
+
+    by-verdict : (verd : Verdict) → verdictOf v ≡ verd → effectOf v ≡ effectOf there
+    by-verdict verd is =
+        effect-is v verd is ∙ done-alike verd is ∙
+        (λ i. judged (block-alike i) (v .at) (v .index) (k .host) (drive-alike i) verd) ∙
+        sym (effect-is there verd (sym verdict-alike ∙ is))
+
+    pub effect-alike : effectOf v ≡ effectOf there
+    effect-alike = by-verdict (verdictOf v) refl

@@ -1,0 +1,11 @@
+pub mod Alike
+pub mod Blocks
+pub mod Demand3
+pub mod Followed
+pub mod Lists
+pub mod Meets
+pub mod OneBlock
+pub mod Orders
+pub mod Outcomes
+pub mod Sources
+pub mod Steps

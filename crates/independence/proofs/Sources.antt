@@ -1,0 +1,156 @@
+-- Every byte of host memory that a store of a block takes its value from is one that the block reads, in the paper's words.
+-- What is stored before and after the data are numbers; the data of a write comes from where its transfer has it.
+use Prim.Native.Nat.{ℕ, zero, suc, _+_, _*_, _<_}
+use mathlib.Core.Bool.{Bool, true, false}
+use mathlib.Core.List.{List, [], _∷_, _++_}
+use mathlib.Core.Logic.{_⊎_, inl, inr, ⊎-elim}
+use mathlib.Core.Path.{_≡_, refl, sym, ap}
+use native.Mathlib.Omega.{arith}
+use lib.IntN.{ℤ, pos}
+use lib.ListN.{length}
+use Rattle.answers.specs.declared.BlockAnswer.{BlockAnswer}
+use Rattle.answers.specs.Numbers.{statusOf}
+use Rattle.geometry.specs.Drive.{B}
+use Rattle.iopb.specs.declared.Block.{Block}
+use Rattle.iopb.specs.Errors.{errorByte}
+use Rattle.iopb.specs.Identity.{identityBytes}
+use Rattle.judge.specs.declared.Plan.{Plan}
+use Rattle.judge.specs.declared.Plan.the-variants.{Report, Initialize, Heads, Format, Move}
+use Rattle.judge.specs.declared.Verdict.{Verdict}
+use Rattle.judge.specs.declared.Verdict.the-variants.{Refused, Do}
+use Rattle.unit.specs.declared.Record.{Record}
+use Rattle.unit.specs.Landing.{spotOf}
+use Rattle.transfer.specs.Progress.{lastTried}
+use Rattle.transfer.specs.Data.{Transfer, dataOn, diskByte, formatting, moveAt, progressOn}
+use Rattle.transfer.specs.Stores.{Cell, Store, Value, bytesFrom, copyOf, eventByte, hostByte, imageByte, number, upTo}
+use Rattle.board.specs.Block.{Effect, dataByte, finish, staged, transferOf}
+use Rattle.board.specs.Events.{entry, travelTo}
+use Rattle.board.specs.Footprint.{HostRead, makes, namedDrive, verdictOf}
+use Rattle.board.specs.Visits.{Visit, blockOf, effectOf}
+use Rattle.board.proofs.Written.{effect-is, made}
+use Rattle.independence.proofs.Meets.{Sourced}
+
+-- ---- where a value comes from
+
+source-kind : Value → ℕ
+source-kind (number n) = 0
+source-kind (copyOf (hostByte x)) = 1
+source-kind (copyOf (imageByte x)) = 2
+source-kind (copyOf (eventByte x)) = 3
+
+source-index : Value → ℕ
+source-index (number n) = n
+source-index (copyOf (hostByte x)) = x
+source-index (copyOf (imageByte x)) = x
+source-index (copyOf (eventByte x)) = x
+
+not-0-1 : _≡_ {A = ℕ} 0 1 → ⊥
+not-0-1 e = omega arith
+
+not-2-1 : _≡_ {A = ℕ} 2 1 → ⊥
+not-2-1 e = omega arith
+
+-- ---- segments
+
+numbers-have-none : (cell : ℕ → Cell) (at : ℕ) (ns : List ℕ) (x : ℕ) → Sourced (bytesFrom cell at ns) x → ⊥
+unfolding Sourced bytesFrom source-kind
+numbers-have-none cell at [] x there = there
+numbers-have-none cell at (n ∷ ns) x there =
+    ⊎-elim (λ is. not-0-1 (ap source-kind is)) (λ later. numbers-have-none cell (at + 1) ns x later) there
+
+of-append : (ss ts : List Store) (x : ℕ) → Sourced (ss ++ ts) x → Sourced ss x ⊎ Sourced ts x
+unfolding Sourced
+of-append [] ts x there = inr there
+of-append (s ∷ ss) ts x there =
+    ⊎-elim (λ here. inl (inl here))
+    (λ later. ⊎-elim (λ one. inl (inr one)) (λ other. inr other) (of-append ss ts x later)) there
+
+of-upTo :
+    (n : ℕ) (f : ℕ → Store) (x : ℕ) → Sourced (upTo n f) x → (k : ℕ) × ((k < n) × (f k .value ≡ copyOf (hostByte x)))
+unfolding Sourced upTo
+of-upTo zero f x there = absurd there
+of-upTo (suc n) f x there =
+    ⊎-elim
+    (λ earlier. let r = of-upTo n f x earlier in (r .0, (omega (arith, r .1 .0), r .1 .1)))
+    (λ last. ⊎-elim (λ is. (n, (omega arith, is))) (λ none. absurd none) last)
+    (of-append (upTo n f) (f n ∷ []) x there)
+
+-- ---- the data
+
+data-sources :
+    (image : List ℕ) (t : Transfer) (x : ℕ) → Sourced (dataOn image t) x →
+    (t .to-host ≡ false) × ((k : ℕ) × ((k < progressOn image t .sectors * B (t .geometry)) × (t .host-byte k ≡ x)))
+unfolding dataOn source-kind source-index
+data-sources image t x there =
+    let s = of-upTo (progressOn image t .sectors * B (t .geometry)) (moveAt t) x there in
+    by-way (t .to-host) refl (s .0) (s .1 .0) (s .1 .1)
+  where
+    by-way :
+        (way : Bool) → t .to-host ≡ way → (k : ℕ) → k < progressOn image t .sectors * B (t .geometry) →
+        moveAt t k .value ≡ copyOf (hostByte x) →
+        (t .to-host ≡ false) × ((k : ℕ) × ((k < progressOn image t .sectors * B (t .geometry)) × (t .host-byte k ≡ x)))
+    by-way false is k less same = (is, (k, (less, ap source-index (rw is at same))))
+    by-way true is k less same = absurd (not-2-1 (ap source-kind (rw is at same)))
+
+-- ---- a block
+
+finish-has-none :
+    (b : Block) (at i : ℕ) (answer : BlockAnswer) (travel : ℤ) (x : ℕ) → Sourced (finish b at i answer travel) x → ⊥
+finish-has-none b at i answer travel x there =
+    ⊎-elim (λ word. numbers-have-none hostByte (at + 2) (statusOf answer ∷ errorByte answer ∷ []) x word)
+    (λ event. numbers-have-none eventByte (8 * i) (entry b answer travel) x event)
+    (of-append (bytesFrom hostByte (at + 2) (statusOf answer ∷ errorByte answer ∷ [])) (bytesFrom eventByte (8 * i) (entry b answer travel)) x there)
+
+staged-sources :
+    (b : Block) (at i : ℕ) (between : List Store) (answer : BlockAnswer) (travel : ℤ) (x : ℕ) →
+    Sourced (staged b at i between answer travel) x → Sourced between x
+staged-sources b at i between answer travel x there =
+    ⊎-elim
+    (λ earlier.
+    ⊎-elim (λ mark. absurd (numbers-have-none hostByte (at + 2) (0x81 ∷ 0x00 ∷ []) x mark)) (λ middle. middle)
+    (of-append (bytesFrom hostByte (at + 2) (0x81 ∷ 0x00 ∷ [])) between x earlier))
+    (λ last. absurd (finish-has-none b at i answer travel x last))
+    (of-append (bytesFrom hostByte (at + 2) (0x81 ∷ 0x00 ∷ []) ++ between) (finish b at i answer travel) x there)
+
+module _ (v : Visit) (x : ℕ) where
+  abbrev u : Record
+  u = namedDrive v .unit
+
+  abbrev image : List ℕ
+  image = namedDrive v .image
+
+  data-read : (plan : Plan) (t : Transfer) → verdictOf v ≡ Do plan → makes v plan t → Sourced (dataOn (namedDrive v .image) t) x → HostRead v x
+  data-read plan t is mk there =
+      let d = data-sources (namedDrive v .image) t x there in
+      inr (inr (t, ((plan, (is, mk)), (d .0, (d .1 .0, (rw (made v plan t is mk .1) (d .1 .1 .0), d .1 .1 .1))))))
+
+  by-verdict : (verd : Verdict) → verdictOf v ≡ verd → Sourced (effectOf v .stores) x → HostRead v x
+  unfolding Sourced
+  by-verdict (Refused r) is there =
+      absurd (finish-has-none (blockOf v) (v .at) (v .index) (BlockAnswer.Failed r) (pos 0) x (rw (effect-is v (Refused r) is) at there))
+  by-verdict (Do Report) is there =
+      absurd
+      (numbers-have-none hostByte (v .at + 4) identityBytes x
+      (staged-sources (blockOf v) (v .at) (v .index) (bytesFrom hostByte (v .at + 4) identityBytes) BlockAnswer.Ended (pos 0) x
+      (rw (effect-is v (Do Report) is) at there)))
+  by-verdict (Do (Initialize g)) is there =
+      absurd
+      (staged-sources (blockOf v) (v .at) (v .index) [] BlockAnswer.Ended (pos 0) x (rw (effect-is v (Do (Initialize g)) is) at there))
+  by-verdict (Do (Heads c)) is there =
+      absurd
+      (staged-sources (blockOf v) (v .at) (v .index) [] BlockAnswer.Ended (travelTo (u .cylinder) c) x
+      (rw (effect-is v (Do (Heads c)) is) at there))
+  by-verdict (Do (Format s b)) is there =
+      let t = formatting u s b in
+      data-read (Format s b) t is refl
+      (staged-sources (blockOf v) (v .at) (v .index) (dataOn image t) (progressOn image t .answer) (travelTo (u .cylinder) (s .cylinder)) x
+      (rw (effect-is v (Do (Format s b)) is) at there))
+  by-verdict (Do (Move j)) is there =
+      let t = transferOf u j (dataByte (v .world .host) (j .buffer)) in
+      let last = spotOf u (j .volume) (j .first + lastTried (progressOn image t .sectors) (j .count)) in
+      data-read (Move j) t is refl
+      (staged-sources (blockOf v) (v .at) (v .index) (dataOn image t) (progressOn image t .answer)
+      (travelTo (u .cylinder) (last .cylinder)) x (rw (effect-is v (Do (Move j)) is) at there))
+
+  pub sources-are-read : Sourced (effectOf v .stores) x → HostRead v x
+  sources-are-read = by-verdict (verdictOf v) refl

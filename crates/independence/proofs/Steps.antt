@@ -1,0 +1,101 @@
+-- Steps in a row are local where each is, and two local steps that are apart can be made in either order.
+-- What one step writes the other finds as it was, so each goes as it goes alone; and cell by cell what is left is the same, whether the
+-- cell is written by the one, by the other or by none.
+use mathlib.Core.Logic.{_⊎_, inl, inr, ⊎-elim}
+use mathlib.Core.Path.{_≡_, refl, sym, _∙_, ap, subst}
+use Rattle.independence.specs.Local.{AgreeOn, Apart, EitherOrder, Kind, LeadsAlike, Local, Step, then}
+
+-- What a proof needs of a kind: shapes compare as equal things do, an equation of values that cannot fail holds, and states that
+-- differ in no cell are one.
+pub record Lawful (K : Kind) : Type 0 where
+  pub mirrored : {s t : K .State} → K .Alike s t → K .Alike t s
+  pub passed-on : {s t u : K .State} → K .Alike s t → K .Alike t u → K .Alike s u
+  pub stable : (c : K .Cell) (x y : K .Value c) → ((x ≡ y → ⊥) → ⊥) → x ≡ y
+  pub extensional : (s t : K .State) → K .Alike s t → ((c : K .Cell) → K .get s c ≡ K .get t c) → s ≡ t
+
+module _ (K : Kind) (laws : Lawful K) where
+  -- An equation of values may be proved by cases on any statement.
+  by-case :
+      (P : Type 0) (c : K .Cell) (x y : K .Value c) → (P → x ≡ y) → ((P → ⊥) → x ≡ y) → x ≡ y
+  by-case P c x y yes-is no-is = laws .stable c x y (λ differ. differ (no-is (λ p. differ (yes-is p))))
+
+  -- After a local step from two states that agree on what it reads, they agree on what it wrote and on all that they agreed on.
+  agree-after :
+      {A : Type 0} (S : Step K A) → Local K S → (P : K .Cell → Type 0) (s t : K .State) → AgreeOn K (S .Reads s) s t →
+      ((c : K .Cell) → P c → K .get s c ≡ K .get t c) → AgreeOn K P (S .left s) (S .left t)
+  agree-after S local P s t reads same =
+      let leads = local .local s t reads in
+      record {
+        shape = laws .passed-on (laws .passed-on (laws .mirrored (local .shape s)) (reads .shape)) (local .shape t);
+        cells = λ c p.
+            by-case (S .Writes s c) c _ _ (λ w. leads .stored c w)
+            (λ none. local .frame s c none ∙ same c p ∙ sym (local .frame t c (λ w. none (leads .elsewhere c w))));
+      }
+
+  -- Steps in a row.
+  in-a-row :
+      {A B : Type 0} (S : Step K A) (T : A → Step K B) → Local K S → ((a : A) → Local K (T a)) → (s t : K .State) →
+      AgreeOn K (then S T .Reads s) s t → LeadsAlike K (then S T) s t
+  in-a-row S T one two s t agree =
+      let reads : AgreeOn K (S .Reads s) s t = record { shape = agree .shape; cells = λ c r. agree .cells c (inl r) } in
+      let leads = one .local s t reads in
+      let same = leads .outcome in
+      let next = T (S .out s) in
+      let between = agree-after S one (λ c. next .Reads (S .left s) c) s t reads (λ c r. agree .cells c (inr r)) in
+      let further = two (S .out s) .local (S .left s) (S .left t) between in
+      record {
+        outcome = further .outcome ∙ ap (λ a. T a .out (S .left t)) same;
+        stored = λ c w.
+            by-case (next .Writes (S .left s) c) c _ _ (λ later. further .stored c later)
+            (λ none.
+            two (S .out s) .frame (S .left s) c none ∙
+            ⊎-elim (λ earlier. leads .stored c earlier) (λ later. absurd (none later)) w ∙
+            sym (two (S .out s) .frame (S .left t) c (λ later. none (further .elsewhere c later)))) ∙
+            ap (λ a. K .get (T a .left (S .left t)) c) same;
+        elsewhere = λ c w.
+            ⊎-elim (λ earlier. inl (leads .elsewhere c earlier))
+            (λ later. inr (further .elsewhere c (subst (λ a. T a .Writes (S .left t) c) (sym same) later))) w;
+      }
+
+  pub then-local :
+      {A B : Type 0} (S : Step K A) (T : A → Step K B) → Local K S → ((a : A) → Local K (T a)) → Local K (then S T)
+  then-local S T one two =
+      record {
+        shape = λ s. laws .passed-on (one .shape s) (two (S .out s) .shape (S .left s));
+        frame = λ s c none.
+            two (S .out s) .frame (S .left s) c (λ w. none (inr w)) ∙ one .frame s c (λ w. none (inl w));
+        local = λ s t agree. in-a-row S T one two s t agree;
+      }
+
+  -- A step that writes nothing that another reads is not noticed by it.
+  unnoticed :
+      {A B : Type 0} (S : Step K A) (T : Step K B) → Local K S → Local K T → (s : K .State) →
+      ((c : K .Cell) → T .Writes s c → S .Reads s c → ⊥) → LeadsAlike K S s (T .left s)
+  unnoticed S T one two s unread =
+      one .local s (T .left s)
+      (record { shape = two .shape s; cells = λ c r. sym (two .frame s c (λ w. unread c w r)) })
+
+  -- Two steps that are apart, in either order.
+  pub either-order :
+      {A B : Type 0} (S : Step K A) (T : Step K B) → Local K S → Local K T → (s : K .State) → Apart K S T s → EitherOrder K S T s
+  either-order S T one two s apart =
+      let first = unnoticed S T one two s (apart .unread′) in
+      let second = unnoticed T S two one s (apart .unread) in
+      record {
+        first = sym (first .outcome);
+        second = sym (second .outcome);
+        left =
+            laws .extensional _ _
+            (laws .passed-on
+            (laws .passed-on (laws .mirrored (two .shape (S .left s))) (laws .mirrored (one .shape s)))
+            (laws .passed-on (two .shape s) (one .shape (T .left s))))
+            (λ c.
+            by-case (S .Writes s c) c _ _
+            (λ w. two .frame (S .left s) c (λ v. apart .written c w (second .elsewhere c v)) ∙ first .stored c w)
+            (λ none.
+            by-case (T .Writes s c) c _ _
+            (λ w. sym (second .stored c w) ∙ sym (one .frame (T .left s) c (λ v. none (first .elsewhere c v))))
+            (λ neither.
+            two .frame (S .left s) c (λ v. neither (second .elsewhere c v)) ∙ one .frame s c none ∙ sym (two .frame s c neither) ∙
+            sym (one .frame (T .left s) c (λ v. none (first .elsewhere c v))))));
+      }
