@@ -3,7 +3,7 @@
 use Prim.Native.Nat.{ℕ}
 use mathlib.Core.Bool.{Bool}
 use mathlib.Core.List.{List, List-discrete}
-use mathlib.Core.Logic.{Dec·and, by-cases}
+use mathlib.Core.Logic.{Dec·and, _↔_, Iff·rfl, by-cases}
 use mathlib.Core.Path.{_≡_, refl, sym, _∙_, ap, subst}
 use native.Mathlib.Decide.{map-dec, ℕ-discrete}
 use lib.ListN.{getD, length}
@@ -18,10 +18,9 @@ use Rattle.board.specs.World.{Drive, World, driveOf}
 use Rattle.board.proofs.Keeps.{block-keeps-drive, block-keeps-host, block-keeps-lengths}
 use Rattle.board.proofs.Written.{host-written-exactly}
 use Rattle.independence.specs.Chains.{Both, First, Holds, Place, Second, Touches, Turn, both, drive, eventBuffer, eventsOf, holds, hostByte, leaving, worldFor}
-use Rattle.independence.specs.Local.{AgreeOn, LeadsAlike, Local, Step}
+use Rattle.independence.specs.Local.{AgreeOn, Lawful, LeadsAlike, Local, Step}
 use Rattle.independence.proofs.Alike.{block-alike, effect-alike, names-alike}
 use Rattle.independence.proofs.OneBlock.{drive-left-alike, events-alike, host-alike, written-alike}
-use Rattle.independence.proofs.Steps.{Lawful}
 
 -- ---- the kind is lawful
 
@@ -51,7 +50,7 @@ extensional s t long same =
     }
 
 pub lawful : Lawful both
-lawful = record { mirrored = λ e. sym e; passed-on = λ e f. e ∙ f; stable = stable; extensional = extensional }
+lawful = record { stable = stable; extensional = extensional }
 
 -- ---- a world left by one of the two
 
@@ -158,10 +157,13 @@ module _ (t : Turn) (at i : ℕ) where
         subst (λ r. holds (blockOn .left s) (eventBuffer r) ≡ holds (blockOn .left u) (eventBuffer r)) own
         (events-left t s _ ∙ events-alike v k (agree .shape) alike same-drive same-events ∙ sym (events-left t u _))
 
-    elsewhere : (c : Place) → blockOn .Writes u c → blockOn .Writes s c
-    elsewhere (hostByte x) written = written-alike v k (agree .shape) alike same-drive same-events x written
-    elsewhere (drive n) named = names-alike v k (agree .shape) alike same-drive ∙ named
-    elsewhere (eventBuffer r) own = own
+    written : (c : Place) → blockOn .Writes s c ↔ blockOn .Writes u c
+    written (hostByte x) = written-alike v k (agree .shape) alike same-drive same-events x
+    written (drive n) = (λ named. sym same-name ∙ named, λ named. same-name ∙ named)
+      where
+        same-name : names v ≡ names (visit k)
+        same-name = names-alike v k (agree .shape) alike same-drive
+    written (eventBuffer r) = Iff·rfl
 
     leads : LeadsAlike both blockOn s u
     leads =
@@ -171,7 +173,7 @@ module _ (t : Turn) (at i : ℕ) where
           outcome = λ i.
               record { answer = e i .answer; sectors = e i .sectors; linked = b i .options .link; link = b i .link };
           stored = stored;
-          elsewhere = elsewhere;
+          written = written;
         }
 
   pub block-is-local : Local both blockOn

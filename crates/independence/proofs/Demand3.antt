@@ -3,7 +3,7 @@
 -- are apart can be made in either order.
 use Prim.Native.Nat.{ℕ, _≤_, _<_}
 use mathlib.Core.List.{List, []}
-use mathlib.Core.Logic.{Dec·and, Dec·not, by-cases, if-neg, if-pos, ite}
+use mathlib.Core.Logic.{Dec·and, Dec·not, _↔_, Iff·rfl, by-cases, if-neg, if-pos, ite}
 use mathlib.Core.Path.{_≡_, refl, sym, _∙_, ap}
 use native.Mathlib.Decide.{decLe, decLt}
 use native.Mathlib.Omega.{arith}
@@ -67,10 +67,10 @@ module _ (t : Turn) (first allowance : ℕ) where
         Writes = Touches t (λ w x. ⊥) (λ w n. ⊥);
       }
 
-  elsewhere : (s u : Both) (c : Place) → refusal .Writes u c → refusal .Writes s c
-  elsewhere s u (hostByte x) w = w
-  elsewhere s u (drive n) w = w
-  elsewhere s u (eventBuffer r) w = w
+  written : (s u : Both) (c : Place) → refusal .Writes s c ↔ refusal .Writes u c
+  written s u (hostByte x) = Iff·rfl
+  written s u (drive n) = Iff·rfl
+  written s u (eventBuffer r) = Iff·rfl
 
   refusal-local : Local both refusal
   refusal-local =
@@ -81,7 +81,7 @@ module _ (t : Turn) (first allowance : ℕ) where
             record {
               outcome = ap (λ e. answerFor (length e)) (agree .cells (eventBuffer t) refl);
               stored = λ c w. agree .cells c w;
-              elsewhere = elsewhere s u;
+              written = written s u;
             };
       }
 
@@ -152,33 +152,24 @@ module _ (first1 allowance1 first2 allowance2 : ℕ) (s : Both) where
 
   apart : Independent first1 allowance1 first2 allowance2 s → Apart both one two s
   unfolding turn-number
-  apart i = record { written = written; unread = unread; unread′ = unread′ }
+  apart i = record { written = written-once; unread-by-second = by-second; unread-by-first = by-first }
     where
-      written : (c : Place) → one .Writes s c → two .Writes s c → ⊥
-      written (hostByte x) w v = i .written x w v
-      written (drive n) w v = i .units n w v
-      written (eventBuffer r) w v = no-turn (ap turn-number (w ∙ sym v))
+      written-once : (c : Place) → one .Writes s c → two .Writes s c → ⊥
+      written-once (hostByte x) w v = i .written x w v
+      written-once (drive n) w v = i .units n w v
+      written-once (eventBuffer r) w v = no-turn (ap turn-number (w ∙ sym v))
 
-      unread : (c : Place) → one .Writes s c → two .Reads s c → ⊥
-      unread (hostByte x) w v = i .read-by-second x w v
-      unread (drive n) w v = i .units n w v
-      unread (eventBuffer r) w v = no-turn (ap turn-number (w ∙ sym v))
+      by-second : (c : Place) → one .Writes s c → two .Reads s c → ⊥
+      by-second (hostByte x) w v = i .read-by-second x w v
+      by-second (drive n) w v = i .units n w v
+      by-second (eventBuffer r) w v = no-turn (ap turn-number (w ∙ sym v))
 
-      unread′ : (c : Place) → two .Writes s c → one .Reads s c → ⊥
-      unread′ (hostByte x) w v = i .read-by-first x w v
-      unread′ (drive n) w v = i .units n v w
-      unread′ (eventBuffer r) w v = no-turn (ap turn-number (v ∙ sym w))
+      by-first : (c : Place) → two .Writes s c → one .Reads s c → ⊥
+      by-first (hostByte x) w v = i .read-by-first x w v
+      by-first (drive n) w v = i .units n v w
+      by-first (eventBuffer r) w v = no-turn (ap turn-number (v ∙ sym w))
 
   -- For every start, any two first addresses and any two allowances.
   pub either-way : Independent first1 allowance1 first2 allowance2 s → EitherWay first1 allowance1 first2 allowance2 s
-  unfolding turn-number
   either-way i =
-      let order = either-order both lawful one two (run-local First first1 allowance1) (run-local Second first2 allowance2) s (apart i) in
-      record {
-        order = order;
-        events1 =
-            run-local Second first2 allowance2 .frame (one .left s) (eventBuffer First) (λ own. no-turn (ap turn-number (sym own)));
-        events2 =
-            ap (λ u. u .events2) (order .left) ∙
-            run-local First first1 allowance1 .frame (two .left s) (eventBuffer Second) (λ own. no-turn (ap turn-number own));
-      }
+      either-order both lawful one two (run-local First first1 allowance1) (run-local Second first2 allowance2) s (apart i)

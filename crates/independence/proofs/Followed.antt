@@ -3,7 +3,7 @@
 use Prim.Native.Nat.{ℕ, zero, suc, _+_}
 use mathlib.Core.Bool.{Bool, true, false}
 use mathlib.Core.List.{List, [], _∷_}
-use mathlib.Core.Logic.{_⊎_, inl, inr, by-cases, if-neg, ⊎-elim}
+use mathlib.Core.Logic.{_⊎_, _↔_, Iff·rfl, inl, inr, by-cases, if-neg, ⊎-elim}
 use mathlib.Core.Path.{_≡_, refl, sym, _∙_, ap, subst}
 use native.Mathlib.Omega.{arith}
 use lib.ListN.{length}
@@ -55,7 +55,10 @@ module _
             outcome = here .out ∙ leads .outcome ∙ sym (beyond .out);
             stored = λ c w.
                 ap (λ x. holds x c) (here .left) ∙ leads .stored c (here .writes c w) ∙ ap (λ x. holds x c) (sym (beyond .left));
-            elsewhere = λ c w. here .written c (leads .elsewhere c (beyond .writes c w));
+            written = λ c. (
+              λ w. beyond .written c (leads .written c .0 (here .writes c w)),
+              λ w. here .written c (leads .written c .1 (beyond .writes c w)),
+            );
           }
 
     pub branch-local : Local both U
@@ -76,10 +79,10 @@ module _ (t : Turn) where
   idle o =
       record { out = λ s. o; left = λ s. s; Reads = Touches t (λ w x. ⊥) (λ w n. ⊥); Writes = Touches t (λ w x. ⊥) (λ w n. ⊥) }
 
-  idle-elsewhere : (o : Told) (s u : Both) (c : Place) → idle o .Writes u c → idle o .Writes s c
-  idle-elsewhere o s u (hostByte x) w = w
-  idle-elsewhere o s u (drive n) w = w
-  idle-elsewhere o s u (eventBuffer r) w = w
+  idle-written : (o : Told) (s u : Both) (c : Place) → idle o .Writes s c ↔ idle o .Writes u c
+  idle-written o s u (hostByte x) = Iff·rfl
+  idle-written o s u (drive n) = Iff·rfl
+  idle-written o s u (eventBuffer r) = Iff·rfl
 
   idle-local : (o : Told) → Local both (idle o)
   idle-local o =
@@ -87,7 +90,7 @@ module _ (t : Turn) where
         shape = λ s. refl;
         frame = λ s c none. refl;
         local = λ s u agree.
-            record { outcome = refl; stored = λ c w. agree .cells c w; elsewhere = idle-elsewhere o s u };
+            record { outcome = refl; stored = λ c w. agree .cells c w; written = idle-written o s u };
       }
 
   -- ---- the footprint of some blocks

@@ -1,7 +1,7 @@
 -- Two worlds that agree on what a block reads are left by it with the same bytes where it writes, the same drive and the same events.
 -- The effect is the same, its stores take their values from bytes that agree, and so they leave the same where they go.
 use Prim.Native.Nat.{ℕ}
-use mathlib.Core.Logic.{_⊎_, inr}
+use mathlib.Core.Logic.{_⊎_, _↔_, inr}
 use mathlib.Core.Path.{_≡_, refl, sym, _∙_, ap}
 use lib.ListN.{getD, length}
 use Rattle.request.specs.declared.UnitNumber.{UnitNumber}
@@ -79,7 +79,9 @@ module _
     pub drive-left-alike : driveOf (worldLeft v) n ≡ driveOf (worldLeft v′) n
     drive-left-alike = λ i. record { unit = record-alike i; image = image-alike i }
 
-    -- It writes nowhere else there.
-    pub written-alike : (x : ℕ) → HostWritten v′ x → HostWritten v x
-    written-alike x written =
-        host-written-exactly v x .1 (rw (← same-effect) at (host-written-exactly v′ x .0 written))
+    -- It writes the same bytes there.
+    pub written-alike : (x : ℕ) → HostWritten v x ↔ HostWritten v′ x
+    written-alike x = (
+      λ written. host-written-exactly v′ x .1 (rw same-effect at (host-written-exactly v x .0 written)),
+      λ written. host-written-exactly v x .1 (rw (← same-effect) at (host-written-exactly v′ x .0 written)),
+    )

@@ -11,6 +11,7 @@ use Rattle.board.specs.World.{World, worldOf}
 use Rattle.independence.specs.declared.Came.{Came}
 use Rattle.independence.specs.declared.Order.{Order}
 use Rattle.independence.specs.declared.Order.the-variants.{FirstThenSecond, SecondThenFirst}
+use Rattle.independence.specs.declared.Twice.{Twice}
 use Rattle.independence.specs.Chains.{Both, EitherWay, First, Independent, Second, Turn, leaving, runOf, worldFor}
 use Rattle.independence.specs.Orders.{bothOf, cameOf, ranBoth, ranBothOf, toldBy}
 use Rattle.independence.proofs.Demand3.{either-way}
@@ -72,4 +73,14 @@ orders-are-one first1 allowance1 first2 allowance2 s apart o p = to-first o ∙ 
     to-first : (o : Order) → ranBoth o first1 allowance1 first2 allowance2 s ≡ ranBoth FirstThenSecond first1 allowance1 first2 allowance2 s
     to-first FirstThenSecond = refl
     to-first SecondThenFirst =
-        λ i. record { first = either .order .first i; second = sym (either .order .second) i; left = sym (either .order .left) i }
+        λ i. record { first = either .first i; second = sym (either .second) i; left = sym (either .left) i }
+
+-- So what the code hands back, by its promise, is the same in both orders.
+pub same-handed-back :
+    (first1 allowance1 first2 allowance2 : ℕ) (s : Both) → Independent first1 allowance1 first2 allowance2 s → (o p : Order)
+    (x y : Twice) (m n : Both) →
+    ranBothOf x m ≡ ranBoth o first1 allowance1 first2 allowance2 s →
+    ranBothOf y n ≡ ranBoth p first1 allowance1 first2 allowance2 s →
+    ranBothOf x m ≡ ranBothOf y n
+same-handed-back first1 allowance1 first2 allowance2 s apart o p x y m n one other =
+    one ∙ orders-are-one first1 allowance1 first2 allowance2 s apart o p ∙ sym other

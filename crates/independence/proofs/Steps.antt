@@ -3,15 +3,7 @@
 -- cell is written by the one, by the other or by none.
 use mathlib.Core.Logic.{_⊎_, inl, inr, ⊎-elim}
 use mathlib.Core.Path.{_≡_, refl, sym, _∙_, ap, subst}
-use Rattle.independence.specs.Local.{AgreeOn, Apart, EitherOrder, Kind, LeadsAlike, Local, Step, then}
-
--- What a proof needs of a kind: shapes compare as equal things do, an equation of values that cannot fail holds, and states that
--- differ in no cell are one.
-pub record Lawful (K : Kind) : Type 0 where
-  pub mirrored : {s t : K .State} → K .Alike s t → K .Alike t s
-  pub passed-on : {s t u : K .State} → K .Alike s t → K .Alike t u → K .Alike s u
-  pub stable : (c : K .Cell) (x y : K .Value c) → ((x ≡ y → ⊥) → ⊥) → x ≡ y
-  pub extensional : (s t : K .State) → K .Alike s t → ((c : K .Cell) → K .get s c ≡ K .get t c) → s ≡ t
+use Rattle.independence.specs.Local.{AgreeOn, Apart, EitherOrder, Kind, Lawful, LeadsAlike, Local, Step, then}
 
 module _ (K : Kind) (laws : Lawful K) where
   -- An equation of values may be proved by cases on any statement.
@@ -26,10 +18,10 @@ module _ (K : Kind) (laws : Lawful K) where
   agree-after S local P s t reads same =
       let leads = local .local s t reads in
       record {
-        shape = laws .passed-on (laws .passed-on (laws .mirrored (local .shape s)) (reads .shape)) (local .shape t);
+        shape = sym (local .shape s) ∙ reads .shape ∙ local .shape t;
         cells = λ c p.
             by-case (S .Writes s c) c _ _ (λ w. leads .stored c w)
-            (λ none. local .frame s c none ∙ same c p ∙ sym (local .frame t c (λ w. none (leads .elsewhere c w))));
+            (λ none. local .frame s c none ∙ same c p ∙ sym (local .frame t c (λ w. none (leads .written c .1 w))));
       }
 
   -- Steps in a row.
@@ -50,18 +42,23 @@ module _ (K : Kind) (laws : Lawful K) where
             (λ none.
             two (S .out s) .frame (S .left s) c none ∙
             ⊎-elim (λ earlier. leads .stored c earlier) (λ later. absurd (none later)) w ∙
-            sym (two (S .out s) .frame (S .left t) c (λ later. none (further .elsewhere c later)))) ∙
+            sym (two (S .out s) .frame (S .left t) c (λ later. none (further .written c .1 later)))) ∙
             ap (λ a. K .get (T a .left (S .left t)) c) same;
-        elsewhere = λ c w.
-            ⊎-elim (λ earlier. inl (leads .elsewhere c earlier))
-            (λ later. inr (further .elsewhere c (subst (λ a. T a .Writes (S .left t) c) (sym same) later))) w;
+        written = λ c. (
+          λ w.
+              ⊎-elim (λ earlier. inl (leads .written c .0 earlier))
+              (λ later. inr (subst (λ a. T a .Writes (S .left t) c) same (further .written c .0 later))) w,
+          λ w.
+              ⊎-elim (λ earlier. inl (leads .written c .1 earlier))
+              (λ later. inr (further .written c .1 (subst (λ a. T a .Writes (S .left t) c) (sym same) later))) w,
+        );
       }
 
   pub then-local :
       {A B : Type 0} (S : Step K A) (T : A → Step K B) → Local K S → ((a : A) → Local K (T a)) → Local K (then S T)
   then-local S T one two =
       record {
-        shape = λ s. laws .passed-on (one .shape s) (two (S .out s) .shape (S .left s));
+        shape = λ s. one .shape s ∙ two (S .out s) .shape (S .left s);
         frame = λ s c none.
             two (S .out s) .frame (S .left s) c (λ w. none (inr w)) ∙ one .frame s c (λ w. none (inl w));
         local = λ s t agree. in-a-row S T one two s t agree;
@@ -79,23 +76,26 @@ module _ (K : Kind) (laws : Lawful K) where
   pub either-order :
       {A B : Type 0} (S : Step K A) (T : Step K B) → Local K S → Local K T → (s : K .State) → Apart K S T s → EitherOrder K S T s
   either-order S T one two s apart =
-      let first = unnoticed S T one two s (apart .unread′) in
-      let second = unnoticed T S two one s (apart .unread) in
+      let first = unnoticed S T one two s (apart .unread-by-first) in
+      let second = unnoticed T S two one s (apart .unread-by-second) in
+      let by-first : (c : K .Cell) → S .Writes s c → K .get (T .left (S .left s)) c ≡ K .get (S .left s) c =
+      λ c w. two .frame (S .left s) c (λ v. apart .written c w (second .written c .1 v)) in
+      let by-second : (c : K .Cell) → T .Writes s c → K .get (T .left (S .left s)) c ≡ K .get (T .left s) c =
+      λ c w. sym (second .stored c w) in
       record {
         first = sym (first .outcome);
         second = sym (second .outcome);
         left =
             laws .extensional _ _
-            (laws .passed-on
-            (laws .passed-on (laws .mirrored (two .shape (S .left s))) (laws .mirrored (one .shape s)))
-            (laws .passed-on (two .shape s) (one .shape (T .left s))))
+            (sym (two .shape (S .left s)) ∙ sym (one .shape s) ∙ two .shape s ∙ one .shape (T .left s))
             (λ c.
-            by-case (S .Writes s c) c _ _
-            (λ w. two .frame (S .left s) c (λ v. apart .written c w (second .elsewhere c v)) ∙ first .stored c w)
+            by-case (S .Writes s c) c _ _ (λ w. by-first c w ∙ first .stored c w)
             (λ none.
-            by-case (T .Writes s c) c _ _
-            (λ w. sym (second .stored c w) ∙ sym (one .frame (T .left s) c (λ v. none (first .elsewhere c v))))
+            let unchanged = one .frame (T .left s) c (λ v. none (first .written c .1 v)) in
+            by-case (T .Writes s c) c _ _ (λ w. by-second c w ∙ sym unchanged)
             (λ neither.
-            two .frame (S .left s) c (λ v. neither (second .elsewhere c v)) ∙ one .frame s c none ∙ sym (two .frame s c neither) ∙
-            sym (one .frame (T .left s) c (λ v. none (first .elsewhere c v))))));
+            two .frame (S .left s) c (λ v. neither (second .written c .1 v)) ∙ one .frame s c none ∙ sym (two .frame s c neither) ∙
+            sym unchanged)));
+        by-first = by-first;
+        by-second = by-second;
       }

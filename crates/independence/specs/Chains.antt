@@ -5,13 +5,12 @@ use mathlib.Core.Path.{_≡_}
 use lib.ListN.{getD, length}
 use Rattle.answers.specs.declared.RunAnswer.{RunAnswer}
 use Rattle.request.specs.declared.UnitNumber.{UnitNumber}
-use Rattle.request.specs.declared.UnitNumber.the-variants.{Zero, One}
 use Rattle.board.specs.Chain.{Ending, Tally, ran}
 use Rattle.board.specs.Footprint.{RunNames, RunReads, RunWrites}
 use Rattle.board.specs.World.{Drive, World, driveOf}
 use Rattle.independence.specs.Local.{EitherOrder, Kind, Step}
 
--- Which of the two.
+-- Which of the two chains, by name and not by order.
 pub data Turn : Type 0 where
   First : Turn
   Second : Turn
@@ -57,13 +56,15 @@ abbrev pub both : Kind
 both =
     record {
       State = Both;
+      Shape = ℕ;
+      shape = λ s. length (s .host);
       Cell = Place;
       Value = Holds;
       get = holds;
-      Alike = λ s t. length (s .host) ≡ length (t .host);
     }
 
--- What a chain comes to: "answers with failed numbers, both pairs of counts".
+-- What a chain comes to: "an answer, with answer 4 the failed block's answer number .., the number of blocks run and the number of sectors
+-- moved" (01, What the board answers for).
 pub record Told : Type 0 where
   pub answer : RunAnswer
   pub failed : ℕ
@@ -73,7 +74,7 @@ abbrev pub told : Ending → Told
 told e = record { answer = e .answer; failed = e .failed; tally = e .tally }
 
 -- The cells that something on the world of one of the two touches: some bytes of host memory, the drives of some units, and its own
--- event buffer.
+-- event buffer. Drives and event buffers are taken whole, as read and written: more than a chain touches, and all that demand 3 asks.
 abbrev pub Touches : Turn → (World → ℕ → Type 0) → (World → UnitNumber → Type 0) → Both → Place → Type 0
 Touches t bytes units s (hostByte x) = bytes (worldFor t s) x
 Touches t bytes units s (drive n) = units (worldFor t s) n
@@ -91,7 +92,7 @@ runOf t first allowance =
     }
 
 -- "If the blocks they fetch name no unit in common .. and no host byte that one writes is read or written by the other": of each chain
--- followed alone from the same start.
+-- followed alone from the same start. That "their event buffers are separate" is in `Both`, which has two.
 pub record Independent (first1 allowance1 first2 allowance2 : ℕ) (s : Both) : Type 0 where
   pub units :
       (n : UnitNumber) → RunNames first1 allowance1 (worldFor First s) n → RunNames first2 allowance2 (worldFor Second s) n → ⊥
@@ -102,13 +103,7 @@ pub record Independent (first1 allowance1 first2 allowance2 : ℕ) (s : Both) : 
   pub read-by-first :
       (x : ℕ) → RunWrites first2 allowance2 (worldFor Second s) x → RunReads first1 allowance1 (worldFor First s) x → ⊥
 
--- Both orders: the same memory, drives and event buffers are left; and what each chain comes to, events included, is what it comes to
--- alone.
-pub record EitherWay (first1 allowance1 first2 allowance2 : ℕ) (s : Both) : Type 0 where
-  pub order : EitherOrder both (runOf First first1 allowance1) (runOf Second first2 allowance2) s
-  pub events1 :
-      runOf Second first2 allowance2 .left (runOf First first1 allowance1 .left s) .events1 ≡
-      runOf First first1 allowance1 .left s .events1
-  pub events2 :
-      runOf Second first2 allowance2 .left (runOf First first1 allowance1 .left s) .events2 ≡
-      runOf Second first2 allowance2 .left s .events2
+-- Both orders: the same memory, drives and event buffers are left; what each chain comes to, and what it stores, events included, is
+-- what it comes to and stores alone.
+abbrev pub EitherWay : (first1 allowance1 first2 allowance2 : ℕ) → Both → Type 0
+EitherWay first1 allowance1 first2 allowance2 s = EitherOrder both (runOf First first1 allowance1) (runOf Second first2 allowance2) s
