@@ -44,22 +44,20 @@ module _ (first1 allowance1 first2 allowance2 : ℕ) (host image0 image1 events1
         left = (left-by-call Second first2 allowance2 between two ∙ ap (runOf Second first2 allowance2 .left) step) i;
       }
 
-  pub second-then-first :
-      {r q : Outcome} {c d : Came} {h a b e h′ a′ b′ e′ : List ℕ} →
-      CameTo (ran first2 allowance2 (worldOf host image0 image1 events2 units)) (worldOf h a b e (r .units)) r →
-      CameTo (ran first1 allowance1 (worldOf h a b events1 (r .units))) (worldOf h′ a′ b′ e′ (q .units)) q →
-      c ≡ cameOf q → d ≡ cameOf r →
-      ranBothOf (record { first = c; second = d; units = q .units }) (bothOf h′ a′ b′ e′ e (q .units)) ≡
-      ranBoth SecondThenFirst first1 allowance1 first2 allowance2 s
-  second-then-first {r} {q} {c} {d} {h} {a} {b} {e} two one is-c is-d =
-      let between = bothOf h a b events1 e (r .units) in
-      let step = left-by-call Second first2 allowance2 s two in
-      λ i.
-      record {
-        first = (ap toldBy is-c ∙ told-by-call First first1 allowance1 between one ∙ ap (runOf First first1 allowance1 .out) step) i;
-        second = (ap toldBy is-d ∙ told-by-call Second first2 allowance2 s two) i;
-        left = (left-by-call First first1 allowance1 between one ∙ ap (runOf First first1 allowance1 .left) step) i;
-      }
+-- The other order is this one with the chains and their event buffers exchanged.
+mirrored : Both → Both
+mirrored s = record { host = s .host; drive0 = s .drive0; drive1 = s .drive1; events1 = s .events2; events2 = s .events1 }
+
+pub exchanged :
+    (first1 allowance1 first2 allowance2 : ℕ) (host image0 image1 events1 events2 : List ℕ) (units : Units) (x : Twice)
+    (h a b e e′ : List ℕ) →
+    ranBothOf x (bothOf h a b e′ e (x .units)) ≡
+    ranBoth FirstThenSecond first2 allowance2 first1 allowance1 (bothOf host image0 image1 events2 events1 units) →
+    ranBothOf (record { first = x .second; second = x .first; units = x .units }) (bothOf h a b e e′ (x .units)) ≡
+    ranBoth SecondThenFirst first1 allowance1 first2 allowance2 (bothOf host image0 image1 events1 events2 units)
+unfolding mirrored
+exchanged first1 allowance1 first2 allowance2 host image0 image1 events1 events2 units x h a b e e′ is =
+    λ i. record { first = is i .second; second = is i .first; left = mirrored (is i .left) }
 
 -- Of independent chains the order does not matter, whichever it is.
 pub orders-are-one :

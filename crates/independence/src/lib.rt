@@ -41,7 +41,8 @@ fn told(o: Outcome) -> Came
     }
 }
 
-fn first_then_second(
+// The first chain and then the second.
+fn in_turn(
     host: &mut [u8],
     image0: &mut [u8],
     image1: &mut [u8],
@@ -67,32 +68,6 @@ fn first_then_second(
     }
 }
 
-fn second_then_first(
-    host: &mut [u8],
-    image0: &mut [u8],
-    image1: &mut [u8],
-    events1: &mut [u8],
-    events2: &mut [u8],
-    units: Units,
-    first1: u32,
-    allowance1: u32,
-    first2: u32,
-    allowance2: u32,
-) -> Twice
-    ensures { λ r. ⌜ ranBothOf r (bothOf (now (host .exit)) (now (image0 .exit)) (now (image1 .exit)) (now (events1 .exit)) (now (events2 .exit)) (r .units))
-        ≡ ranBoth Order.SecondThenFirst first1 allowance1 first2 allowance2 (bothOf (now (host .entry)) (now (image0 .entry)) (now (image1 .entry)) (now (events1 .entry)) (now (events2 .entry)) units) ⌝ }
-{
-    let two = board::run(host, image0, image1, events2, units, first2, allowance2);
-    let between = two.units;
-    let one = board::run(host, image0, image1, events1, between, first1, allowance1);
-    let after = one.units;
-    Twice {
-        first: told(one),
-        second: told(two),
-        units: after,
-    }
-}
-
 // Runs two chains one after the other, each with an event buffer of its own.
 pub fn run_both(
     host: &mut [u8],
@@ -111,7 +86,7 @@ pub fn run_both(
         ≡ ranBoth order first1 allowance1 first2 allowance2 (bothOf (now (host .entry)) (now (image0 .entry)) (now (image1 .entry)) (now (events1 .entry)) (now (events2 .entry)) units) ⌝ }
 {
     match order {
-        Order::FirstThenSecond => first_then_second(
+        Order::FirstThenSecond => in_turn(
             host,
             image0,
             image1,
@@ -123,17 +98,27 @@ pub fn run_both(
             first2,
             allowance2,
         ),
-        Order::SecondThenFirst => second_then_first(
-            host,
-            image0,
-            image1,
-            events1,
-            events2,
-            units,
-            first1,
-            allowance1,
-            first2,
-            allowance2,
-        ),
+        Order::SecondThenFirst => {
+            let exchanged = in_turn(
+                host,
+                image0,
+                image1,
+                events2,
+                events1,
+                units,
+                first2,
+                allowance2,
+                first1,
+                allowance1,
+            );
+            let first = exchanged.second;
+            let second = exchanged.first;
+            let units = exchanged.units;
+            Twice {
+                first,
+                second,
+                units,
+            }
+        }
     }
 }

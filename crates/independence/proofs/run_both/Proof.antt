@@ -1,6 +1,8 @@
--- Each arm is one order, and calls the function of that order.
+-- One order is the two calls in turn, and the other is the same with the chains exchanged.
 -- The order that was asked for is the arm's.
+use Rattle.independence.proofs.Orders.{exchanged}
 use Rattle.independence.specs.declared.Order.the-variants.{FirstThenSecond, SecondThenFirst}
+use denote.Ref.{now}
 use mathlib.Core.Path.{_≡_}
 use borrow.Author.Needs.{needs}
 use Rattle.independence.proofs.run_both.Statement.{statement}
@@ -9,14 +11,14 @@ use Rattle.independence.proofs.run_both.Tie as tie
 enum-told : tie.Need-enum-told
 enum-told c = search needs
 
-first-then-second-requires : tie.Need-first-then-second-requires
-first-then-second-requires c κs = search needs
+in-turn-requires : tie.Need-in-turn-requires
+in-turn-requires c κs = search needs
 
 enum-told-2 : tie.Need-enum-told-2
 enum-told-2 c = search needs
 
-second-then-first-requires : tie.Need-second-then-first-requires
-second-then-first-requires c κs = search needs
+in-turn-requires-2 : tie.Need-in-turn-requires-2
+in-turn-requires-2 c κs = search needs
 
 same-length : tie.Need-same-length
 same-length c = search needs
@@ -35,9 +37,8 @@ same-length-5 c = search needs
 
 returns : tie.Need-returns
 returns c =
-    let x = c .before .before .before .before .before .before .before .before .before .before .before .before .before .before .before .before .before .before .before .before .before .before .before .args in
-    let is : x .order ≡ FirstThenSecond = cc in
-    rw is (c .before .before .before .before .before .before .before .before .before .before .first-then-second .ensures)
+    let is : c .before .before .before .before .before .before .before .before .before .before .before .before .before .before .before .before .before .before .before .before .before .before .before .args .order ≡ FirstThenSecond = cc in
+    rw is (c .before .before .before .before .before .before .before .before .before .before .in-turn .ensures)
 
 same-length-6 : tie.Need-same-length-6
 same-length-6 c = search needs
@@ -54,20 +55,27 @@ same-length-9 c = search needs
 same-length-10 : tie.Need-same-length-10
 same-length-10 c = search needs
 
+-- What the second arm knows of the order.
+asked : (c : tie.After-in-turn2) → c .before .before .before .before .before .before .before .before .before .before .before .before .before .args .order ≡ SecondThenFirst
+asked c = cc
+
 returns-2 : tie.Need-returns-2
 returns-2 c =
-    let x = c .before .before .before .before .before .before .before .before .before .before .before .before .before .before .before .before .before .before .before .before .before .before .before .args in
-    let is : x .order ≡ SecondThenFirst = cc in
-    rw is (c .before .before .before .before .before .before .before .before .before .before .second-then-first .ensures)
+    let x = c .before .before .before .before .before .before .before .before .before .before .before .before .before .before .before .before .before .before .before .before .before .before .before .before .before .before .args in
+    let y = c .before .before .before .before .before .before .before .before .before .before .before .before .before .in-turn2 in
+    rw (asked (c .before .before .before .before .before .before .before .before .before .before .before .before .before))
+    (exchanged (x .first1) (x .allowance1) (x .first2) (x .allowance2) (now (x .host)) (now (x .image0)) (now (x .image1))
+    (now (x .events1)) (now (x .events2)) (x .units) (y .result) (y .last .0) (y .last .1 .0) (y .last .1 .1 .0)
+    (y .last .1 .1 .1 .1 .0) (y .last .1 .1 .1 .0) (y .ensures))
 
 pub run-both-spec : {M : Type 1} → statement M
 run-both-spec =
     tie.close
     (tie.spec
     enum-told
-    first-then-second-requires
+    in-turn-requires
     enum-told-2
-    second-then-first-requires
+    in-turn-requires-2
     same-length
     same-length-2
     same-length-3

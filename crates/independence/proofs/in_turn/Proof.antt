@@ -4,8 +4,8 @@ use Rattle.independence.proofs.Orders.{first-then-second}
 use denote.Ref.{now}
 use mathlib.Core.Path.{_∙_}
 use borrow.Author.Needs.{needs}
-use Rattle.independence.proofs.first_then_second.Statement.{statement}
-use Rattle.independence.proofs.first_then_second.Tie as tie
+use Rattle.independence.proofs.in_turn.Statement.{statement}
+use Rattle.independence.proofs.in_turn.Tie as tie
 
 run-requires : tie.Need-run-requires
 run-requires c κs = search needs
@@ -40,8 +40,8 @@ returns c =
     first-then-second (x .first1) (x .allowance1) (x .first2) (x .allowance2) (now (x .host)) (now (x .image0)) (now (x .image1))
     (now (x .events1)) (now (x .events2)) (x .units) (c .before .before .before .before .before .before .before .before .before .before .before .before .before .before .before .before .before .before .before .before .before .before .before .before .before .run .ensures) (c .before .before .before .before .before .before .before .before .before .before .before .run2 .ensures) (c .before .told .ensures) (c .told2 .ensures)
 
-pub first-then-second-spec : {M : Type 1} → statement M
-first-then-second-spec =
+pub in-turn-spec : {M : Type 1} → statement M
+in-turn-spec =
     tie.close
     (tie.spec
     run-requires
