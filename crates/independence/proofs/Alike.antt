@@ -1,7 +1,7 @@
 -- Two worlds that agree on what a block reads lead it to the same effect: the same stores, answer, sectors and record.
 -- Its 28 bytes are the same, and so it names the same unit; the judgement reads no byte that is not alike; and of what is done only a
 -- transfer through a list goes by host memory, by bytes that the judgement has read.
-use Prim.Native.Nat.{ℕ, _+_, _*_, _<_}
+use Prim.Native.Nat.{ℕ, _+_, _<_}
 use mathlib.Core.List.{List}
 use mathlib.Core.Logic.{inl, inr}
 use mathlib.Core.Path.{_≡_, refl, sym, _∙_, ap}
@@ -10,26 +10,21 @@ use native.Mathlib.Omega.{arith}
 use lib.ListN.{getD, length}
 use Rattle.wire.specs.Memory.{Among}
 use Rattle.wire.proofs.Laws.{word-same}
-use Rattle.geometry.specs.Drive.{B}
 use Rattle.request.specs.declared.Buffer.{Buffer}
 use Rattle.request.specs.declared.Buffer.the-variants.{Piece, List as Elements}
-use Rattle.request.specs.declared.UnitNumber.{UnitNumber}
 use Rattle.iopb.specs.declared.Block.{Block}
 use Rattle.iopb.specs.Ask.{taskOf, unitOf}
 use Rattle.iopb.specs.Layout.{blockAt, optionsOf}
 use Rattle.memory.specs.Lists.{elementOf}
 use Rattle.memory.proofs.Locality.{element-same}
 use Rattle.judge.specs.declared.Job.{Job}
-use Rattle.judge.specs.declared.Plan.{Plan}
 use Rattle.judge.specs.declared.Plan.the-variants.{Report, Initialize, Heads, Format, Move}
 use Rattle.judge.specs.declared.Verdict.{Verdict}
 use Rattle.judge.specs.declared.Verdict.the-variants.{Refused, Do}
-use Rattle.judge.specs.Given.{Asked}
 use Rattle.judge.specs.Verdict.{verdict}
 use Rattle.judge.proofs.Locality.{block-local}
 use Rattle.transfer.proofs.Joined.{joined-same}
-use Rattle.unit.specs.declared.Record.{Record}
-use Rattle.board.specs.Block.{Effect, dataByte, judged}
+use Rattle.board.specs.Block.{dataByte, judged}
 use Rattle.board.specs.Footprint.{HostRead, namedDrive, names, verdictOf}
 use Rattle.board.specs.Visits.{Visit, blockOf, effectOf}
 use Rattle.board.specs.World.{Drive, World, driveOf}

@@ -2,7 +2,7 @@
 -- What a block leaves of its world is taken over cell by cell; the laws of one block say the rest.
 use Prim.Native.Nat.{ℕ}
 use mathlib.Core.Bool.{Bool}
-use mathlib.Core.List.{List, List-discrete}
+use mathlib.Core.List.{List-discrete}
 use mathlib.Core.Logic.{Dec·and, _↔_, Iff·rfl, by-cases}
 use mathlib.Core.Path.{_≡_, refl, sym, _∙_, ap, subst}
 use native.Mathlib.Decide.{map-dec, ℕ-discrete}

@@ -1,24 +1,22 @@
 -- Demand 3: two chains that are independent can be run in either order.
 -- A run is a chain where its three checks are passed, and does nothing where they are not; so it is a local step, and two local steps that
 -- are apart can be made in either order.
-use Prim.Native.Nat.{ℕ, _≤_, _<_}
-use mathlib.Core.List.{List, []}
+use Prim.Native.Nat.{ℕ}
+use mathlib.Core.List.{[]}
 use mathlib.Core.Logic.{Dec·and, Dec·not, _↔_, Iff·rfl, by-cases, if-neg, if-pos, ite}
 use mathlib.Core.Path.{_≡_, refl, sym, _∙_, ap}
 use native.Mathlib.Decide.{decLe, decLt}
 use native.Mathlib.Omega.{arith}
 use lib.ListN.{length}
-use Rattle.wire.specs.Memory.{InMemory}
 use Rattle.wire.proofs.Memory.{range-same}
 use Rattle.answers.specs.declared.RunAnswer.{RunAnswer}
 use Rattle.board.specs.Chain.{nothing, ran}
 use Rattle.board.specs.Footprint.{HostRead, HostWritten}
 use Rattle.board.specs.Visits.{Passes, fetchedBy, passes?, visits}
-use Rattle.board.specs.World.{World}
 use Rattle.board.proofs.RunAnswers.{not-passed}
 use Rattle.board.proofs.Runs.{ran-allowance-bad, ran-chain, ran-events-short, ran-first-bad}
 use Rattle.independence.specs.Chains.{Both, EitherWay, First, Independent, Place, Second, Told, Touches, Turn, both, drive, eventBuffer, eventsOf, hostByte, leaving, runOf, told, worldFor}
-use Rattle.independence.specs.Local.{AgreeOn, Apart, Local, Step}
+use Rattle.independence.specs.Local.{Apart, Local, Step}
 use Rattle.independence.proofs.Blocks.{lawful, left-as-found}
 use Rattle.independence.proofs.Followed.{SameAt, blocksOf, branch-local, chain-local, chainOn, none-touched, of-touched, touched-none, touched-of}
 use Rattle.independence.proofs.Steps.{either-order}

@@ -1,10 +1,10 @@
 -- A chain is a local step: it is a block and then what follows it, with less of the allowance. Where its address is bad, it is a step that
 -- does nothing; whether it is depends on the length of host memory alone.
-use Prim.Native.Nat.{ℕ, zero, suc, _+_}
+use Prim.Native.Nat.{ℕ, zero, suc}
 use mathlib.Core.Bool.{Bool, true, false}
 use mathlib.Core.List.{List, [], _∷_}
 use mathlib.Core.Logic.{_⊎_, _↔_, Iff·rfl, inl, inr, by-cases, if-neg, ⊎-elim}
-use mathlib.Core.Path.{_≡_, refl, sym, _∙_, ap, subst}
+use mathlib.Core.Path.{_≡_, refl, sym, _∙_, ap}
 use native.Mathlib.Omega.{arith}
 use lib.ListN.{length}
 use Rattle.wire.specs.Memory.{InMemory, inMemory?}
@@ -22,7 +22,7 @@ use Rattle.board.proofs.Chains.{fetched-bad, fetched-spent}
 use Rattle.board.proofs.Endings.{fetched-step, visits-step}
 use Rattle.independence.specs.Chains.{Both, Place, Told, Touches, Turn, both, drive, eventBuffer, holds, hostByte, leaving, told, worldFor}
 use Rattle.independence.specs.Local.{AgreeOn, LeadsAlike, Local, Step, then}
-use Rattle.independence.proofs.Blocks.{Next, block-is-local, blockOn, host-left, lawful, left-again, left-as-found, visit, world-left}
+use Rattle.independence.proofs.Blocks.{Next, block-is-local, blockOn, lawful, left-again, left-as-found, visit, world-left}
 use Rattle.independence.proofs.Steps.{then-local}
 
 -- ---- steps that are the same at a state

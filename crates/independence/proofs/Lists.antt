@@ -6,7 +6,7 @@ use mathlib.Core.Path.{_≡_}
 use Rattle.wire.specs.Memory.{Among}
 use Rattle.wire.proofs.Promises.{never as impossible}
 use Rattle.memory.specs.Lists.{ListGood}
-use Rattle.request.specs.declared.Buffer.the-variants.{Piece, List as Elements}
+use Rattle.request.specs.declared.Buffer.the-variants.{List as Elements}
 use Rattle.request.specs.declared.Shape.the-variants.{Misplaced, Given as Says}
 use Rattle.request.specs.declared.Task.{Task}
 use Rattle.request.specs.declared.Task.the-variants.{Unknown, Move as Moves, Handshake, Initialize, Restore, Seek, Format}
@@ -16,7 +16,7 @@ use Rattle.judge.specs.declared.Plan.{Plan}
 use Rattle.judge.specs.declared.Verdict.{Verdict}
 use Rattle.judge.specs.Checks.{None}
 use Rattle.judge.specs.Given.{Asked, numberOf}
-use Rattle.judge.specs.Reads.{InBuffer, InList, Read}
+use Rattle.judge.specs.Reads.{Read}
 use Rattle.judge.specs.Verdict.{checks, found, jobOf, verdict}
 use Rattle.judge.proofs.LetThrough.{all-passed}
 

@@ -6,12 +6,11 @@ use mathlib.Core.Path.{_≡_, refl, sym, _∙_, ap}
 use lib.ListN.{getD, length}
 use Rattle.request.specs.declared.UnitNumber.{UnitNumber}
 use Rattle.request.specs.declared.UnitNumber.the-variants.{Zero, One}
-use Rattle.unit.specs.declared.Record.{Record}
 use Rattle.transfer.specs.Stores.{Buffers, Stored, after, hostByte}
 use Rattle.board.specs.Block.{worldAfter}
 use Rattle.board.specs.Footprint.{HostRead, HostWritten, namedDrive, names}
 use Rattle.board.specs.Visits.{Visit, effectOf, worldLeft}
-use Rattle.board.specs.World.{Drive, World, buffersOf, changed, driveOf}
+use Rattle.board.specs.World.{World, buffersOf, changed, driveOf}
 use Rattle.board.proofs.Keeps.{buffers-left}
 use Rattle.board.proofs.Written.{host-written-exactly}
 use Rattle.independence.proofs.Alike.{effect-alike, names-alike, there}

@@ -4,10 +4,9 @@ use Prim.Native.Nat.{ℕ, zero, suc, _+_, _*_, _<_}
 use mathlib.Core.Bool.{Bool, true, false}
 use mathlib.Core.List.{List, [], _∷_, _++_}
 use mathlib.Core.Logic.{_⊎_, inl, inr, ⊎-elim}
-use mathlib.Core.Path.{_≡_, refl, sym, ap}
+use mathlib.Core.Path.{_≡_, refl, ap}
 use native.Mathlib.Omega.{arith}
 use lib.IntN.{ℤ, pos}
-use lib.ListN.{length}
 use Rattle.answers.specs.declared.BlockAnswer.{BlockAnswer}
 use Rattle.answers.specs.Numbers.{statusOf}
 use Rattle.geometry.specs.Drive.{B}
@@ -21,9 +20,9 @@ use Rattle.judge.specs.declared.Verdict.the-variants.{Refused, Do}
 use Rattle.unit.specs.declared.Record.{Record}
 use Rattle.unit.specs.Landing.{spotOf}
 use Rattle.transfer.specs.Progress.{lastTried}
-use Rattle.transfer.specs.Data.{Transfer, dataOn, diskByte, formatting, moveAt, progressOn}
+use Rattle.transfer.specs.Data.{Transfer, dataOn, formatting, moveAt, progressOn}
 use Rattle.transfer.specs.Stores.{Cell, Store, Value, bytesFrom, copyOf, eventByte, hostByte, imageByte, number, upTo}
-use Rattle.board.specs.Block.{Effect, dataByte, finish, staged, transferOf}
+use Rattle.board.specs.Block.{dataByte, finish, staged, transferOf}
 use Rattle.board.specs.Events.{entry, travelTo}
 use Rattle.board.specs.Footprint.{HostRead, makes, namedDrive, verdictOf}
 use Rattle.board.specs.Visits.{Visit, blockOf, effectOf}

@@ -2,7 +2,7 @@
 -- What one step writes the other finds as it was, so each goes as it goes alone; and cell by cell what is left is the same, whether the
 -- cell is written by the one, by the other or by none.
 use mathlib.Core.Logic.{_⊎_, inl, inr, ⊎-elim}
-use mathlib.Core.Path.{_≡_, refl, sym, _∙_, ap, subst}
+use mathlib.Core.Path.{_≡_, sym, _∙_, ap, subst}
 use Rattle.independence.specs.Local.{AgreeOn, Apart, EitherOrder, Kind, Lawful, LeadsAlike, Local, Step, then}
 
 module _ (K : Kind) (laws : Lawful K) where

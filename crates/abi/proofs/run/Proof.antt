@@ -3,8 +3,6 @@
 use Rattle.abi.proofs.Called.{made-is}
 use Rattle.abi.specs.Calls.{lentOf}
 use denote.Ref.{now}
-use native.Mathlib.Omega.{arith}
-use mathlib.Core.Path.{sym, _∙_}
 use borrow.Author.Needs.{needs}
 use Rattle.abi.proofs.run.Statement.{statement}
 use Rattle.abi.proofs.run.Tie as tie

@@ -3,7 +3,7 @@
 use Rattle.abi.proofs.Called.{inspection-made, inspection-refused-0, inspection-refused-1}
 use denote.Ref.{now}
 use native.Mathlib.Omega.{arith}
-use mathlib.Core.Path.{_≡_, refl, sym, _∙_, ap}
+use mathlib.Core.Path.{sym}
 use borrow.Author.Needs.{needs}
 use Rattle.abi.proofs.vsmd_inspect.Statement.{statement}
 use Rattle.abi.proofs.vsmd_inspect.Tie as tie

@@ -2,7 +2,6 @@
 -- A part that ends within it has its own length.
 use denote.Ref.{now}
 use lib.Seq.{length-take-le}
-use lib.ListN.{length-take}
 use mathlib.Core.Path.{sym}
 use native.Mathlib.Omega.{arith}
 use borrow.Author.Needs.{needs}
