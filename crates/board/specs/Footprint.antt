@@ -61,8 +61,8 @@ HostData v t x = (k : ℕ) × ((k < effectOf v .sectors * B (t .geometry)) × (t
 abbrev pub DiskData : Visit → Transfer → ℕ → Type 0
 DiskData v t x = (k : ℕ) × ((k < effectOf v .sectors * B (t .geometry)) × (diskByte (t .geometry) (t .place) k ≡ x))
 
--- "the 28 of each fetched block; a UIB that passed check 12; a list ..; the data of 82, A2 and 8C": the bytes moved, and a
--- write that is let through moves all of them.
+-- "the 28 of each fetched block; a UIB that passed check 12; a list ..; the data of 82, A2 and 8C": the bytes moved, which
+-- are all of them unless 21 stops the transfer.
 abbrev pub HostRead : Visit → ℕ → Type 0
 HostRead v x =
     Among (v .at) 28 x ⊎
