@@ -13,8 +13,9 @@ use Rattle.board.specs.declared.chain.Outcome.{Outcome}
 use Rattle.board.specs.declared.inspection.Part.{Part}
 use Rattle.board.specs.Chain.{Ending, ran}
 use Rattle.board.specs.Inspection.{partOf}
-use Rattle.board.specs.Steps.{CameTo, written}
-use Rattle.board.specs.World.{worldOf}
+use Rattle.board.specs.Steps.{CameTo}
+use Rattle.block.specs.Steps.{written}
+use Rattle.board.specs.Lent.{worldOf}
 use Rattle.abi.specs.Calls.{Lent, answered, called, calledOf, imageNumber, inspectedOf, inspection, lentOf, made, outcomeShort, record0Short, record1Short, recordLeft, worldIn}
 use Rattle.abi.specs.Layouts.{outcomeBytes, recordIn}
 

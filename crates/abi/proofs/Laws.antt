@@ -13,7 +13,7 @@ use Rattle.geometry.proofs.Same.{geometry-is}
 use Rattle.unit.specs.declared.Record.{Record}
 use Rattle.unit.proofs.Decided.{record-is, same?}
 use Rattle.board.specs.Chain.{Ending}
-use Rattle.board.specs.Steps.{written}
+use Rattle.block.specs.Steps.{written}
 use Rattle.abi.specs.Calls.{recordLeft}
 use Rattle.abi.specs.Layouts.{endingBytes, geometryBytes, openingBytes, outcomeLength, recordBytes, recordIn, recordLength, saysInitialized, twoBytes}
 use Rattle.abi.proofs.Left.{left-anew, left-as-it-came}

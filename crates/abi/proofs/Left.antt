@@ -6,7 +6,7 @@ use mathlib.Core.Logic.{if-neg, if-pos}
 use mathlib.Core.Path.{_≡_}
 use Rattle.unit.specs.declared.Record.{Record}
 use Rattle.unit.proofs.Decided.{same?}
-use Rattle.board.specs.Steps.{written}
+use Rattle.block.specs.Steps.{written}
 use Rattle.abi.specs.Calls.{recordLeft}
 use Rattle.abi.specs.Layouts.{recordBytes, recordIn}
 

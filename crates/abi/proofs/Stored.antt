@@ -9,7 +9,7 @@ use lib.ListN.{set}
 use Rattle.wire.specs.Words.{stored, with16, with32}
 use Rattle.geometry.specs.declared.Geometry.{Geometry}
 use Rattle.geometry.specs.declared.Volume.{Volume}
-use Rattle.board.specs.Steps.{written}
+use Rattle.block.specs.Steps.{written}
 use Rattle.abi.specs.Layouts.{geometryBytes, openingBytes, outcomeBytes, twoBytes, volumeBytes}
 
 pub two-stored : (bytes : List ℕ) (at a b : ℕ) → set (set bytes at a) (at + 1) b ≡ written bytes at (a ∷ b ∷ [])

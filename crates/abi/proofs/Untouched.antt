@@ -7,8 +7,8 @@ use native.Mathlib.Decide.{decLe}
 use native.Mathlib.Omega.{arith}
 use lib.ListN.{length}
 use Rattle.request.specs.declared.UnitNumber.the-variants.{Zero, One}
-use Rattle.board.specs.Footprint.{RunWritesRecord}
-use Rattle.board.proofs.Keeps.{run-keeps-record}
+use Rattle.demands.specs.Footprint.{RunWritesRecord}
+use Rattle.demands.proofs.Keeps.{run-keeps-record}
 use Rattle.abi.specs.Calls.{Called, Lent, called, calledOf, made, worldIn}
 use Rattle.abi.proofs.Called.{called-made, called-refused-0, called-refused-1, called-refused-2}
 use Rattle.abi.proofs.Left.{left-as-it-came}

@@ -13,8 +13,9 @@ use Rattle.unit.proofs.Decided.{same?}
 use Rattle.board.specs.declared.inspection.Part.{Part}
 use Rattle.board.specs.Chain.{Ending, ran}
 use Rattle.board.specs.Inspection.{partOf}
-use Rattle.board.specs.Steps.{written}
-use Rattle.board.specs.World.{World, worldOf}
+use Rattle.block.specs.Steps.{written}
+use Rattle.block.specs.World.{World}
+use Rattle.board.specs.Lent.{worldOf}
 use Rattle.abi.specs.Layouts.{endingBytes, outcomeLength, recordBytes, recordIn, recordLength}
 
 -- All that a caller lends to a run, no two of them overlapping: what a caller in C has to see to.

@@ -26,7 +26,7 @@ use Rattle.unit.specs.declared.Record.{Record}
 use Rattle.unit.specs.Standing.{recordOf}
 use Rattle.answers.specs.Numbers.{runNumber}
 use Rattle.board.specs.Chain.{Ending}
-use Rattle.board.specs.Events.{bigEndian}
+use Rattle.block.specs.Events.{bigEndian}
 
 abbrev pub recordLength : ℕ
 recordLength = 16

@@ -10,7 +10,7 @@ ghost use Prim.Native.Nat.{_+_, _≤_};
 ghost use lib.ListN.{length};
 ghost use Rattle.abi.specs.Calls.{recordLeft};
 ghost use Rattle.abi.specs.Layouts.{geometryBytes, geometryIn, openingBytes, outcomeBytes, recordBytes, recordIn, volumeBytes, volumeIn};
-ghost use Rattle.board.specs.Steps.{written};
+ghost use Rattle.block.specs.Steps.{written};
 
 fn volume(bytes: &[u8], at: usize) -> Volume
     requires { ⌜ at + 2 ≤ length (now bytes) ⌝ }

@@ -17,14 +17,16 @@ use Rattle.iopb.specs.Layout.{blockAt}
 use Rattle.request.specs.declared.UnitNumber.{UnitNumber}
 use Rattle.transfer.specs.Stores.{Buffers}
 use Rattle.board.specs.declared.Units.{Units}
-use Rattle.board.specs.declared.block.Done.{Done}
+use Rattle.block.specs.declared.Done.{Done}
 use Rattle.board.specs.declared.chain.Count.{Count}
 use Rattle.board.specs.declared.chain.Outcome.{Outcome}
 use Rattle.board.specs.declared.chain.Stepped.{Stepped}
-use Rattle.board.specs.Block.{effectAt, effectOn, unitAt, worldAfter}
+use Rattle.block.specs.Block.{effectAt, effectOn, unitAt, worldAfter}
 use Rattle.board.specs.Chain.{Ending, Tally, ends, executed, fetched}
-use Rattle.board.specs.Steps.{CameTo, Did, Spare, SteppedTo, countedOf, endedOf, tallyOf}
-use Rattle.board.specs.World.{World, buffersOf, changed, driveOf, worldOf}
+use Rattle.board.specs.Steps.{CameTo, Spare, SteppedTo, countedOf, endedOf, tallyOf}
+use Rattle.block.specs.Steps.{Did}
+use Rattle.block.specs.World.{World, buffersOf, changed, driveOf}
+use Rattle.board.specs.Lent.{worldOf}
 
 -- What a chain goes by, of a block that came to d.
 abbrev pub steppedOf : Block → Done → Units → Stepped

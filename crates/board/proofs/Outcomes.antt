@@ -12,21 +12,14 @@ use Rattle.board.specs.declared.chain.Stepped.{Stepped}
 use Rattle.iopb.specs.declared.Block.{Block}
 use Rattle.iopb.specs.Layout.{blockAt}
 use Rattle.board.specs.Chain.{Ending}
-use Rattle.board.specs.Block.{Effect, effectAt, worldAfter}
+use Rattle.block.specs.Block.{Effect, effectAt, worldAfter}
 use Rattle.board.specs.Steps.{CameTo, RanOne, SteppedTo}
-use Rattle.board.specs.World.{World, worldOf}
+use Rattle.block.specs.World.{World}
+use Rattle.board.specs.Lent.{worldOf}
 use Rattle.board.proofs.chain.run.Reads as run
 use Rattle.board.proofs.chain.run_one.Reads as run-one
-use Rattle.board.proofs.events.put_event.Reads as put-event
-use Rattle.board.proofs.events.travel.Reads as travel
 use Rattle.board.proofs.inspection.inspect.Reads as inspect
 use Rattle.board.proofs.inspection.part_of.Reads as part-of
-
-travel-once : OneResult travel.Post
-travel-once κ a e x y p q = p ∙ sym q
-
-put-event-once : OneOutcome put-event.Post (λ κ x e. now (e .0))
-put-event-once κ a x y e f p q = p ∙ sym q
 
 part-of-once : OneResult part-of.Post
 part-of-once κ a e x y p q = p ∙ sym q

@@ -1,15 +1,16 @@
 // A chain: each block is fetched and executed, and one that ends with a link leads to fetching the next.
 use crate::Units;
-use crate::block::run_block;
 use answers::BlockAnswer;
 use answers::RunAnswer;
+use block::run_block;
 use iopb::Block;
 ghost use mathlib.Core.Path.{_≡_};
 ghost use Prim.Native.Nat.{_+_, _*_, _≤_};
 ghost use lib.ListN.{length};
 ghost use Rattle.board.specs.Chain.{executed, fetched, ran};
-ghost use Rattle.board.specs.Steps.{CameTo, RanOne, Room, Spare, SteppedTo, countedOf, endedOf, nothingCounted, tallyOf};
-ghost use Rattle.board.specs.World.{worldOf};
+ghost use Rattle.board.specs.Steps.{CameTo, RanOne, Spare, SteppedTo, countedOf, endedOf, nothingCounted, tallyOf};
+ghost use Rattle.block.specs.Steps.{Room};
+ghost use Rattle.board.specs.Lent.{worldOf};
 ghost use Rattle.wire.specs.Memory.{InMemory};
 
 // What a chain goes by after a block.

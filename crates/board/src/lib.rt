@@ -4,9 +4,7 @@
 use unit::Record;
 ghost use mathlib.Core.Path.{_≡_};
 
-mod block;
 mod chain;
-mod events;
 mod inspection;
 
 pub use chain::Outcome;

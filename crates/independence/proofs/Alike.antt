@@ -24,12 +24,13 @@ use Rattle.judge.specs.declared.Verdict.the-variants.{Refused, Do}
 use Rattle.judge.specs.Verdict.{verdict}
 use Rattle.judge.proofs.Locality.{block-local}
 use Rattle.transfer.proofs.Joined.{joined-same}
-use Rattle.board.specs.Block.{dataByte, judged}
-use Rattle.board.specs.Footprint.{HostRead, namedDrive, names, verdictOf}
-use Rattle.board.specs.Visits.{Visit, blockOf, effectOf}
-use Rattle.board.specs.World.{Drive, World, driveOf}
-use Rattle.board.proofs.Gathered.{list-good, moved-same}
-use Rattle.board.proofs.Written.{effect-is}
+use Rattle.block.specs.Block.{dataByte, judged}
+use Rattle.demands.specs.Footprint.{namedDrive, names, verdictOf}
+use Rattle.independence.specs.Reads.{HostRead}
+use Rattle.demands.specs.Visits.{Visit, blockOf, effectOf}
+use Rattle.block.specs.World.{Drive, World, driveOf}
+use Rattle.block.proofs.Gathered.{list-good, moved-same}
+use Rattle.demands.proofs.Written.{effect-is}
 use Rattle.independence.proofs.Lists.{list-is-read}
 
 block-same : (h k : List ℕ) (at : ℕ) → ((x : ℕ) → Among at 28 x → getD h x 0 ≡ getD k x 0) → blockAt h at ≡ blockAt k at

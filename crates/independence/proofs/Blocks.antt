@@ -12,12 +12,13 @@ use Rattle.answers.specs.declared.BlockAnswer.{BlockAnswer}
 use Rattle.request.specs.declared.UnitNumber.{UnitNumber}
 use Rattle.request.specs.declared.UnitNumber.the-variants.{Zero, One}
 use Rattle.unit.proofs.Decided.{same?}
-use Rattle.board.specs.Footprint.{HostRead, HostWritten, namedDrive, names}
-use Rattle.board.specs.Visits.{Visit, blockOf, effectOf, worldLeft}
-use Rattle.board.specs.World.{Drive, World, driveOf}
-use Rattle.board.proofs.Keeps.{block-keeps-drive, block-keeps-host, block-keeps-lengths}
-use Rattle.board.proofs.Written.{host-written-exactly}
-use Rattle.independence.specs.Chains.{Both, First, Holds, Place, Second, Touches, Turn, both, drive, eventBuffer, eventsOf, holds, hostByte, leaving, worldFor}
+use Rattle.demands.specs.Footprint.{HostWritten, namedDrive, names}
+use Rattle.independence.specs.Reads.{HostRead}
+use Rattle.demands.specs.Visits.{Visit, blockOf, effectOf, worldLeft}
+use Rattle.block.specs.World.{Drive, World, driveOf}
+use Rattle.demands.proofs.Keeps.{block-keeps-drive, block-keeps-host, block-keeps-lengths}
+use Rattle.demands.proofs.Written.{host-written-exactly}
+use Rattle.independence.specs.Chains.{Both, First, Holds, Cell, Second, Touches, Which, both, drive, eventBuffer, eventsOf, holds, hostByte, leaving, worldFor}
 use Rattle.independence.specs.Local.{AgreeOn, Lawful, LeadsAlike, Local, Step}
 use Rattle.independence.proofs.Alike.{block-alike, effect-alike, names-alike}
 use Rattle.independence.proofs.OneBlock.{drive-left-alike, events-alike, host-alike, written-alike}
@@ -32,12 +33,12 @@ drive? d e =
 certain : {A : Type 0} {x y : A} → Dec (x ≡ y) → ((x ≡ y → ⊥) → ⊥) → x ≡ y
 certain d not-not = by-cases d (λ same. same) (λ differ. absurd (not-not differ))
 
-stable : (c : Place) (x y : Holds c) → ((x ≡ y → ⊥) → ⊥) → x ≡ y
+stable : (c : Cell) (x y : Holds c) → ((x ≡ y → ⊥) → ⊥) → x ≡ y
 stable (hostByte n) x y h = certain (ℕ-discrete x y) h
 stable (drive n) x y h = certain (drive? x y) h
 stable (eventBuffer t) x y h = certain (List-discrete ℕ-discrete x y) h
 
-extensional : (s t : Both) → length (s .host) ≡ length (t .host) → ((c : Place) → holds s c ≡ holds t c) → s ≡ t
+extensional : (s t : Both) → length (s .host) ≡ length (t .host) → ((c : Cell) → holds s c ≡ holds t c) → s ≡ t
 extensional s t long same =
     let host = ext-getD 0 (s .host) (t .host) long (λ i less. same (hostByte i)) in
     λ i.
@@ -54,37 +55,37 @@ lawful = record { stable = stable; extensional = extensional }
 
 -- ---- a world left by one of the two
 
-pub host-left : (t : Turn) (s : Both) (w : World) → leaving t s w .host ≡ w .host
+pub host-left : (t : Which) (s : Both) (w : World) → leaving t s w .host ≡ w .host
 host-left First s w = refl
 host-left Second s w = refl
 
-pub world-left : (t : Turn) (s : Both) (w : World) → worldFor t (leaving t s w) ≡ w
+pub world-left : (t : Which) (s : Both) (w : World) → worldFor t (leaving t s w) ≡ w
 world-left First s w = refl
 world-left Second s w = refl
 
-pub left-again : (t : Turn) (s : Both) (w u : World) → leaving t (leaving t s w) u ≡ leaving t s u
+pub left-again : (t : Which) (s : Both) (w u : World) → leaving t (leaving t s w) u ≡ leaving t s u
 left-again First s w u = refl
 left-again Second s w u = refl
 
-pub left-as-found : (t : Turn) (s : Both) → leaving t s (worldFor t s) ≡ s
+pub left-as-found : (t : Which) (s : Both) → leaving t s (worldFor t s) ≡ s
 left-as-found First s = refl
 left-as-found Second s = refl
 
-drive-for : (t : Turn) (s : Both) (n : UnitNumber) → driveOf (worldFor t s) n ≡ holds s (drive n)
+drive-for : (t : Which) (s : Both) (n : UnitNumber) → driveOf (worldFor t s) n ≡ holds s (drive n)
 drive-for t s Zero = refl
 drive-for t s One = refl
 
-drive-left : (t : Turn) (s : Both) (w : World) (n : UnitNumber) → holds (leaving t s w) (drive n) ≡ driveOf w n
+drive-left : (t : Which) (s : Both) (w : World) (n : UnitNumber) → holds (leaving t s w) (drive n) ≡ driveOf w n
 drive-left First s w Zero = refl
 drive-left First s w One = refl
 drive-left Second s w Zero = refl
 drive-left Second s w One = refl
 
-events-left : (t : Turn) (s : Both) (w : World) → eventsOf (leaving t s w) t ≡ w .events
+events-left : (t : Which) (s : Both) (w : World) → eventsOf (leaving t s w) t ≡ w .events
 events-left First s w = refl
 events-left Second s w = refl
 
-other-events : (t u : Turn) (s : Both) (w : World) → (t ≡ u → ⊥) → eventsOf (leaving t s w) u ≡ eventsOf s u
+other-events : (t u : Which) (s : Both) (w : World) → (t ≡ u → ⊥) → eventsOf (leaving t s w) u ≡ eventsOf s u
 other-events First First s w other = absurd (other refl)
 other-events First Second s w other = refl
 other-events Second First s w other = refl
@@ -99,7 +100,7 @@ pub record Next : Type 0 where
   pub linked : Bool
   pub link : ℕ
 
-module _ (t : Turn) (at i : ℕ) where
+module _ (t : Which) (at i : ℕ) where
   abbrev pub visit : World → Visit
   visit w = record { at = at; index = i; world = w }
 
@@ -119,7 +120,7 @@ module _ (t : Turn) (at i : ℕ) where
         Writes = Touches t (λ w x. HostWritten (visit w) x) (λ w n. names (visit w) ≡ n);
       }
 
-  frame : (s : Both) (c : Place) → (blockOn .Writes s c → ⊥) → holds (blockOn .left s) c ≡ holds s c
+  frame : (s : Both) (c : Cell) → (blockOn .Writes s c → ⊥) → holds (blockOn .left s) c ≡ holds s c
   frame s (hostByte x) none =
       let v = visit (worldFor t s) in
       ap (λ h. getD h x 0) (host-left t s (worldLeft v)) ∙
@@ -145,7 +146,7 @@ module _ (t : Turn) (at i : ℕ) where
     same-events : eventsOf s t ≡ eventsOf u t
     same-events = agree .cells (eventBuffer t) refl
 
-    stored : (c : Place) → blockOn .Writes s c → holds (blockOn .left s) c ≡ holds (blockOn .left u) c
+    stored : (c : Cell) → blockOn .Writes s c → holds (blockOn .left s) c ≡ holds (blockOn .left u) c
     stored (hostByte x) written =
         ap (λ h. getD h x 0) (host-left t s _) ∙ host-alike v k (agree .shape) alike same-drive same-events x written ∙
         sym (ap (λ h. getD h x 0) (host-left t u _))
@@ -157,7 +158,7 @@ module _ (t : Turn) (at i : ℕ) where
         subst (λ r. holds (blockOn .left s) (eventBuffer r) ≡ holds (blockOn .left u) (eventBuffer r)) own
         (events-left t s _ ∙ events-alike v k (agree .shape) alike same-drive same-events ∙ sym (events-left t u _))
 
-    written : (c : Place) → blockOn .Writes s c ↔ blockOn .Writes u c
+    written : (c : Cell) → blockOn .Writes s c ↔ blockOn .Writes u c
     written (hostByte x) = written-alike v k (agree .shape) alike same-drive same-events x
     written (drive n) = (λ named. sym same-name ∙ named, λ named. same-name ∙ named)
       where

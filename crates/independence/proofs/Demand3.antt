@@ -11,22 +11,30 @@ use lib.ListN.{length}
 use Rattle.wire.proofs.Memory.{range-same}
 use Rattle.answers.specs.declared.RunAnswer.{RunAnswer}
 use Rattle.board.specs.Chain.{nothing, ran}
-use Rattle.board.specs.Footprint.{HostRead, HostWritten}
-use Rattle.board.specs.Visits.{Passes, fetchedBy, passes?, visits}
-use Rattle.board.proofs.RunAnswers.{not-passed}
+use Rattle.demands.specs.Footprint.{HostWritten}
+use Rattle.independence.specs.Reads.{HostRead}
+use Rattle.demands.specs.Visits.{Passes, fetchedBy, passes?, visits}
+use Rattle.demands.proofs.RunAnswers.{not-passed}
 use Rattle.board.proofs.Runs.{ran-allowance-bad, ran-chain, ran-events-short, ran-first-bad}
-use Rattle.independence.specs.Chains.{Both, EitherWay, First, Independent, Place, Second, Told, Touches, Turn, both, drive, eventBuffer, eventsOf, hostByte, leaving, runOf, told, worldFor}
+use Rattle.independence.specs.Chains.{Both, Cell, Chain, First, Second, Told, Touches, Which, both, drive, eventBuffer, eventsOf, hostByte, leaving, runOf, told, worldFor}
+use Rattle.independence.specs.Demand3.{Demand3, Independent}
 use Rattle.independence.specs.Local.{Apart, Local, Step}
 use Rattle.independence.proofs.Blocks.{lawful, left-as-found}
 use Rattle.independence.proofs.Followed.{SameAt, blocksOf, branch-local, chain-local, chainOn, none-touched, of-touched, touched-none, touched-of}
 use Rattle.independence.proofs.Steps.{either-order}
 
-module _ (t : Turn) (first allowance : ℕ) where
+module _ (t : Which) (chain : Chain) where
+  abbrev first : ℕ
+  first = chain .first
+
+  abbrev allowance : ℕ
+  allowance = chain .allowance
+
   abbrev Passing : Both → Type 0
   Passing s = Passes first allowance (worldFor t s)
 
   -- A run whose checks are passed is its chain.
-  as-chain : (s : Both) → Passing s → SameAt (runOf t first allowance) (chainOn t allowance nothing first) s
+  as-chain : (s : Both) → Passing s → SameAt (runOf t chain) (chainOn t allowance nothing first) s
   unfolding fetchedBy
   as-chain s p =
       let w = worldFor t s in
@@ -65,7 +73,7 @@ module _ (t : Turn) (first allowance : ℕ) where
         Writes = Touches t (λ w x. ⊥) (λ w n. ⊥);
       }
 
-  written : (s u : Both) (c : Place) → refusal .Writes s c ↔ refusal .Writes u c
+  written : (s u : Both) (c : Cell) → refusal .Writes s c ↔ refusal .Writes u c
   written s u (hostByte x) = Iff·rfl
   written s u (drive n) = Iff·rfl
   written s u (eventBuffer r) = Iff·rfl
@@ -100,7 +108,7 @@ module _ (t : Turn) (first allowance : ℕ) where
       ap told (ran-allowance-bad first allowance w (omega (arith, long)) bad) ∙
       sym (no-short ∙ if-pos (Dec·not (Dec·and (decLe 1 allowance) (decLe allowance 64))) bad _ _)))
 
-  as-refusal : (s : Both) → (Passing s → ⊥) → SameAt (runOf t first allowance) refusal s
+  as-refusal : (s : Both) → (Passing s → ⊥) → SameAt (runOf t chain) refusal s
   unfolding fetchedBy
   as-refusal s refused =
       let w = worldFor t s in
@@ -123,9 +131,9 @@ module _ (t : Turn) (first allowance : ℕ) where
         place = range-same (s .host) (u .host) first 28 long (p .place);
       }
 
-  pub run-local : Local both (runOf t first allowance)
+  pub run-local : Local both (runOf t chain)
   run-local =
-      branch-local Passing (λ s. passes? first allowance (worldFor t s)) (runOf t first allowance) (chainOn t allowance nothing first)
+      branch-local Passing (λ s. passes? first allowance (worldFor t s)) (runOf t chain) (chainOn t allowance nothing first)
       refusal
       (λ s u agree.
       let events = ap length (agree .cells (eventBuffer t) refl) in
@@ -134,40 +142,41 @@ module _ (t : Turn) (first allowance : ℕ) where
 
 -- ---- two of them
 
-turn-number : Turn → ℕ
+turn-number : Which → ℕ
 turn-number First = 0
 turn-number Second = 1
 
 no-turn : _≡_ {A = ℕ} 0 1 → ⊥
 no-turn e = omega arith
 
-module _ (first1 allowance1 first2 allowance2 : ℕ) (s : Both) where
+module _ (first second : Chain) (s : Both) where
   abbrev one : Step both Told
-  one = runOf First first1 allowance1
+  one = runOf First first
 
   abbrev two : Step both Told
-  two = runOf Second first2 allowance2
+  two = runOf Second second
 
-  apart : Independent first1 allowance1 first2 allowance2 s → Apart both one two s
+  apart : Independent first second s → Apart both one two s
   unfolding turn-number
   apart i = record { written = written-once; unread-by-second = by-second; unread-by-first = by-first }
     where
-      written-once : (c : Place) → one .Writes s c → two .Writes s c → ⊥
+      written-once : (c : Cell) → one .Writes s c → two .Writes s c → ⊥
       written-once (hostByte x) w v = i .written x w v
       written-once (drive n) w v = i .units n w v
       written-once (eventBuffer r) w v = no-turn (ap turn-number (w ∙ sym v))
 
-      by-second : (c : Place) → one .Writes s c → two .Reads s c → ⊥
+      by-second : (c : Cell) → one .Writes s c → two .Reads s c → ⊥
       by-second (hostByte x) w v = i .read-by-second x w v
       by-second (drive n) w v = i .units n w v
       by-second (eventBuffer r) w v = no-turn (ap turn-number (w ∙ sym v))
 
-      by-first : (c : Place) → two .Writes s c → one .Reads s c → ⊥
+      by-first : (c : Cell) → two .Writes s c → one .Reads s c → ⊥
       by-first (hostByte x) w v = i .read-by-first x w v
       by-first (drive n) w v = i .units n v w
       by-first (eventBuffer r) w v = no-turn (ap turn-number (v ∙ sym w))
 
-  -- For every start, any two first addresses and any two allowances.
-  pub either-way : Independent first1 allowance1 first2 allowance2 s → EitherWay first1 allowance1 first2 allowance2 s
-  either-way i =
-      either-order both lawful one two (run-local First first1 allowance1) (run-local Second first2 allowance2) s (apart i)
+-- For every start, any two first addresses and any two allowances.
+pub either-way : Demand3
+either-way first second s i =
+    either-order both lawful (runOf First first) (runOf Second second) (run-local First first) (run-local Second second) s
+    (apart first second s i)

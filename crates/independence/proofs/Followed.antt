@@ -15,12 +15,13 @@ use Rattle.answers.specs.declared.RunAnswer.{RunAnswer}
 use Rattle.answers.specs.Numbers.{refusalNumber}
 use Rattle.request.specs.declared.UnitNumber.{UnitNumber}
 use Rattle.board.specs.Chain.{Ending, Tally, counted, fetched, follows}
-use Rattle.board.specs.Footprint.{HostRead, HostWritten, Some, names}
-use Rattle.board.specs.Visits.{Visit, blockOf, effectOf, onwards, visits, worldLeft}
-use Rattle.board.specs.World.{World}
+use Rattle.demands.specs.Footprint.{HostWritten, Some, names}
+use Rattle.independence.specs.Reads.{HostRead}
+use Rattle.demands.specs.Visits.{Visit, blockOf, effectOf, onwards, visits, worldLeft}
+use Rattle.block.specs.World.{World}
 use Rattle.board.proofs.Chains.{fetched-bad, fetched-spent}
-use Rattle.board.proofs.Endings.{fetched-step, visits-step}
-use Rattle.independence.specs.Chains.{Both, Place, Told, Touches, Turn, both, drive, eventBuffer, holds, hostByte, leaving, told, worldFor}
+use Rattle.demands.proofs.Endings.{fetched-step, visits-step}
+use Rattle.independence.specs.Chains.{Both, Cell, Told, Touches, Which, both, drive, eventBuffer, holds, hostByte, leaving, told, worldFor}
 use Rattle.independence.specs.Local.{AgreeOn, LeadsAlike, Local, Step, then}
 use Rattle.independence.proofs.Blocks.{Next, block-is-local, blockOn, lawful, left-again, left-as-found, visit, world-left}
 use Rattle.independence.proofs.Steps.{then-local}
@@ -30,9 +31,9 @@ use Rattle.independence.proofs.Steps.{then-local}
 pub record SameAt (U S : Step both Told) (s : Both) : Type 0 where
   pub out : U .out s ≡ S .out s
   pub left : U .left s ≡ S .left s
-  pub reads : (c : Place) → S .Reads s c → U .Reads s c
-  pub writes : (c : Place) → U .Writes s c → S .Writes s c
-  pub written : (c : Place) → S .Writes s c → U .Writes s c
+  pub reads : (c : Cell) → S .Reads s c → U .Reads s c
+  pub writes : (c : Cell) → U .Writes s c → S .Writes s c
+  pub written : (c : Cell) → S .Writes s c → U .Writes s c
 
 -- A step that is one local step where a statement holds, and another where it does not, is local, if what it reads settles the statement.
 module _
@@ -44,7 +45,7 @@ module _
       shape-at : (s : Both) → SameAt U R s → length (s .host) ≡ length (U .left s .host)
       shape-at s same = local .shape s ∙ ap (λ u. length (u .host)) (sym (same .left))
 
-      frame-at : (s : Both) → SameAt U R s → (c : Place) → (U .Writes s c → ⊥) → holds (U .left s) c ≡ holds s c
+      frame-at : (s : Both) → SameAt U R s → (c : Cell) → (U .Writes s c → ⊥) → holds (U .left s) c ≡ holds s c
       frame-at s same c none =
           ap (λ u. holds u c) (same .left) ∙ local .frame s c (λ w. none (same .written c w))
 
@@ -72,14 +73,14 @@ module _
               (λ n. local-at T two s u (else s n) (else u (λ p. n (settled s u agree .1 p))) agree);
         }
 
-module _ (t : Turn) where
+module _ (t : Which) where
   -- ---- a step that does nothing
 
   abbrev idle : Told → Step both Told
   idle o =
       record { out = λ s. o; left = λ s. s; Reads = Touches t (λ w x. ⊥) (λ w n. ⊥); Writes = Touches t (λ w x. ⊥) (λ w n. ⊥) }
 
-  idle-written : (o : Told) (s u : Both) (c : Place) → idle o .Writes s c ↔ idle o .Writes u c
+  idle-written : (o : Told) (s u : Both) (c : Cell) → idle o .Writes s c ↔ idle o .Writes u c
   idle-written o s u (hostByte x) = Iff·rfl
   idle-written o s u (drive n) = Iff·rfl
   idle-written o s u (eventBuffer r) = Iff·rfl
@@ -95,7 +96,7 @@ module _ (t : Turn) where
 
   -- ---- the footprint of some blocks
 
-  abbrev pub Of : (Visit → ℕ → Type 0) → List Visit → Place → Type 0
+  abbrev pub Of : (Visit → ℕ → Type 0) → List Visit → Cell → Type 0
   Of P vs (hostByte x) = Some (λ v. P v x) vs
   Of P vs (drive n) = Some (λ v. names v ≡ n) vs
   Of P vs (eventBuffer u) = t ≡ u
@@ -109,32 +110,32 @@ module _ (t : Turn) where
   module _ (P : Visit → ℕ → Type 0) where
     -- Cell by cell it is what a step on a world touches.
     pub of-touched :
-        (blocks : World → List Visit) (s : Both) (vs : List Visit) → blocks (worldFor t s) ≡ vs → (c : Place) →
+        (blocks : World → List Visit) (s : Both) (vs : List Visit) → blocks (worldFor t s) ≡ vs → (c : Cell) →
         Touches t (Bytes P blocks) (Units blocks) s c → Of P vs c
     of-touched blocks s vs is (hostByte x) w = rw is at w
     of-touched blocks s vs is (drive n) w = rw is at w
     of-touched blocks s vs is (eventBuffer u) w = w
 
     pub touched-of :
-        (blocks : World → List Visit) (s : Both) (vs : List Visit) → blocks (worldFor t s) ≡ vs → (c : Place) →
+        (blocks : World → List Visit) (s : Both) (vs : List Visit) → blocks (worldFor t s) ≡ vs → (c : Cell) →
         Of P vs c → Touches t (Bytes P blocks) (Units blocks) s c
     touched-of blocks s vs is (hostByte x) w = rw is w
     touched-of blocks s vs is (drive n) w = rw is w
     touched-of blocks s vs is (eventBuffer u) w = w
 
-    pub none-touched : (s : Both) (c : Place) → Touches t (λ w x. ⊥) (λ w n. ⊥) s c → Of P [] c
+    pub none-touched : (s : Both) (c : Cell) → Touches t (λ w x. ⊥) (λ w n. ⊥) s c → Of P [] c
     none-touched s (hostByte x) w = w
     none-touched s (drive n) w = w
     none-touched s (eventBuffer u) w = w
 
-    pub touched-none : (s : Both) (c : Place) → Of P [] c → Touches t (λ w x. ⊥) (λ w n. ⊥) s c
+    pub touched-none : (s : Both) (c : Cell) → Of P [] c → Touches t (λ w x. ⊥) (λ w n. ⊥) s c
     touched-none s (hostByte x) w = w
     touched-none s (drive n) w = w
     touched-none s (eventBuffer u) w = w
 
     -- A block and those after it.
     of-one-more :
-        (at i : ℕ) (s : Both) (vs : List Visit) (c : Place) →
+        (at i : ℕ) (s : Both) (vs : List Visit) (c : Cell) →
         Touches t (λ w x. P (visit t at i w) x) (λ w n. names (visit t at i w) ≡ n) s c ⊎ Of P vs c →
         Of P (visit t at i (worldFor t s) ∷ vs) c
     of-one-more at i s vs (hostByte x) w = w
@@ -142,7 +143,7 @@ module _ (t : Turn) where
     of-one-more at i s vs (eventBuffer u) w = ⊎-elim (λ e. e) (λ e. e) w
 
     one-more-of :
-        (at i : ℕ) (s : Both) (vs : List Visit) (c : Place) → Of P (visit t at i (worldFor t s) ∷ vs) c →
+        (at i : ℕ) (s : Both) (vs : List Visit) (c : Cell) → Of P (visit t at i (worldFor t s) ∷ vs) c →
         Touches t (λ w x. P (visit t at i w) x) (λ w n. names (visit t at i w) ≡ n) s c ⊎ Of P vs c
     one-more-of at i s vs (hostByte x) w = w
     one-more-of at i s vs (drive n) w = w
@@ -211,17 +212,17 @@ module _ (t : Turn) where
     here-as-there : blocksOf k tally at (worldFor t s′) ≡ blocksOf k tally at w
     here-as-there = ap (blocksOf k tally at) (world-left t s w)
 
-    following-reads : (a : BlockAnswer) (linked : Bool) (c : Place) → following k a linked tally at .Reads s′ c → Of HostRead (blocks a linked) c
+    following-reads : (a : BlockAnswer) (linked : Bool) (c : Cell) → following k a linked tally at .Reads s′ c → Of HostRead (blocks a linked) c
     following-reads (Failed r) linked c r′ = none-touched HostRead s′ c r′
     following-reads Ended false c r′ = none-touched HostRead s′ c r′
     following-reads Ended true c r′ = of-touched HostRead (blocksOf k tally at) s′ _ here-as-there c r′
 
-    following-writes : (a : BlockAnswer) (linked : Bool) (c : Place) → Of HostWritten (blocks a linked) c → following k a linked tally at .Writes s′ c
+    following-writes : (a : BlockAnswer) (linked : Bool) (c : Cell) → Of HostWritten (blocks a linked) c → following k a linked tally at .Writes s′ c
     following-writes (Failed r) linked c w′ = touched-none HostWritten s′ c w′
     following-writes Ended false c w′ = touched-none HostWritten s′ c w′
     following-writes Ended true c w′ = touched-of HostWritten (blocksOf k tally at) s′ _ here-as-there c w′
 
-    following-written : (a : BlockAnswer) (linked : Bool) (c : Place) → following k a linked tally at .Writes s′ c → Of HostWritten (blocks a linked) c
+    following-written : (a : BlockAnswer) (linked : Bool) (c : Cell) → following k a linked tally at .Writes s′ c → Of HostWritten (blocks a linked) c
     following-written (Failed r) linked c w′ = none-touched HostWritten s′ c w′
     following-written Ended false c w′ = none-touched HostWritten s′ c w′
     following-written Ended true c w′ = of-touched HostWritten (blocksOf k tally at) s′ _ here-as-there c w′

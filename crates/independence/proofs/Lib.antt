@@ -5,7 +5,5 @@ pub mod Followed
 pub mod Lists
 pub mod Meets
 pub mod OneBlock
-pub mod Orders
-pub mod Outcomes
 pub mod Sources
 pub mod Steps

@@ -7,12 +7,13 @@ use lib.ListN.{getD, length}
 use Rattle.request.specs.declared.UnitNumber.{UnitNumber}
 use Rattle.request.specs.declared.UnitNumber.the-variants.{Zero, One}
 use Rattle.transfer.specs.Stores.{Buffers, Stored, after, hostByte}
-use Rattle.board.specs.Block.{worldAfter}
-use Rattle.board.specs.Footprint.{HostRead, HostWritten, namedDrive, names}
-use Rattle.board.specs.Visits.{Visit, effectOf, worldLeft}
-use Rattle.board.specs.World.{World, buffersOf, changed, driveOf}
-use Rattle.board.proofs.Keeps.{buffers-left}
-use Rattle.board.proofs.Written.{host-written-exactly}
+use Rattle.block.specs.Block.{worldAfter}
+use Rattle.demands.specs.Footprint.{HostWritten, namedDrive, names}
+use Rattle.independence.specs.Reads.{HostRead}
+use Rattle.demands.specs.Visits.{Visit, effectOf, worldLeft}
+use Rattle.block.specs.World.{World, buffersOf, changed, driveOf}
+use Rattle.demands.proofs.Keeps.{buffers-left}
+use Rattle.demands.proofs.Written.{host-written-exactly}
 use Rattle.independence.proofs.Alike.{effect-alike, names-alike, there}
 use Rattle.independence.proofs.Meets.{Meet, stores-meet}
 use Rattle.independence.proofs.Sources.{sources-are-read}

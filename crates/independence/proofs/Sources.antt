@@ -22,11 +22,12 @@ use Rattle.unit.specs.Landing.{spotOf}
 use Rattle.transfer.specs.Progress.{lastTried}
 use Rattle.transfer.specs.Data.{Transfer, dataOn, formatting, moveAt, progressOn}
 use Rattle.transfer.specs.Stores.{Cell, Store, Value, bytesFrom, copyOf, eventByte, hostByte, imageByte, number, upTo}
-use Rattle.board.specs.Block.{dataByte, finish, staged, transferOf}
-use Rattle.board.specs.Events.{entry, travelTo}
-use Rattle.board.specs.Footprint.{HostRead, makes, namedDrive, verdictOf}
-use Rattle.board.specs.Visits.{Visit, blockOf, effectOf}
-use Rattle.board.proofs.Written.{effect-is, made}
+use Rattle.block.specs.Block.{dataByte, finish, staged, transferOf}
+use Rattle.block.specs.Events.{entry, travelTo}
+use Rattle.demands.specs.Footprint.{makes, namedDrive, verdictOf}
+use Rattle.independence.specs.Reads.{HostRead}
+use Rattle.demands.specs.Visits.{Visit, blockOf, effectOf}
+use Rattle.demands.proofs.Written.{effect-is, made}
 use Rattle.independence.proofs.Meets.{Sourced}
 
 -- ---- where a value comes from

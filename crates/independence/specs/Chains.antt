@@ -5,15 +5,21 @@ use mathlib.Core.Path.{_≡_}
 use lib.ListN.{getD, length}
 use Rattle.answers.specs.declared.RunAnswer.{RunAnswer}
 use Rattle.request.specs.declared.UnitNumber.{UnitNumber}
+use Rattle.block.specs.World.{Drive, World, driveOf}
 use Rattle.board.specs.Chain.{Ending, Tally, ran}
-use Rattle.board.specs.Footprint.{RunNames, RunReads, RunWrites}
-use Rattle.board.specs.World.{Drive, World, driveOf}
-use Rattle.independence.specs.Local.{EitherOrder, Kind, Step}
+use Rattle.demands.specs.Footprint.{RunNames, RunWrites}
+use Rattle.independence.specs.Local.{Kind, Step}
+use Rattle.independence.specs.Reads.{RunReads}
 
--- Which of the two chains, by name and not by order.
-pub data Turn : Type 0 where
-  First : Turn
-  Second : Turn
+-- A chain as it is asked for: "the address of a first IOPB (a "block") and an allowance".
+pub record Chain : Type 0 where
+  pub first : ℕ
+  pub allowance : ℕ
+
+-- Which of two chains, by name and not by order.
+pub data Which : Type 0 where
+  First : Which
+  Second : Which
 
 pub record Both : Type 0 where
   pub host : List ℕ
@@ -22,32 +28,32 @@ pub record Both : Type 0 where
   pub events1 : List ℕ
   pub events2 : List ℕ
 
-abbrev pub eventsOf : Both → Turn → List ℕ
+abbrev pub eventsOf : Both → Which → List ℕ
 eventsOf s First = s .events1
 eventsOf s Second = s .events2
 
 -- The world that a chain finds, and what is there when it has left its world.
-abbrev pub worldFor : Turn → Both → World
+abbrev pub worldFor : Which → Both → World
 worldFor t s = record { host = s .host; drive0 = s .drive0; drive1 = s .drive1; events = eventsOf s t }
 
-abbrev pub leaving : Turn → Both → World → Both
+abbrev pub leaving : Which → Both → World → Both
 leaving First s w =
     record { host = w .host; drive0 = w .drive0; drive1 = w .drive1; events1 = w .events; events2 = s .events2 }
 leaving Second s w =
     record { host = w .host; drive0 = w .drive0; drive1 = w .drive1; events1 = s .events1; events2 = w .events }
 
 -- The cells: each byte of host memory, each unit's drive, record and image together, and each event buffer. Host memory keeps its length.
-pub data Place : Type 0 where
-  hostByte : ℕ → Place
-  drive : UnitNumber → Place
-  eventBuffer : Turn → Place
+pub data Cell : Type 0 where
+  hostByte : ℕ → Cell
+  drive : UnitNumber → Cell
+  eventBuffer : Which → Cell
 
-abbrev pub Holds : Place → Type 0
+abbrev pub Holds : Cell → Type 0
 Holds (hostByte x) = ℕ
 Holds (drive n) = Drive
 Holds (eventBuffer t) = List ℕ
 
-abbrev pub holds : Both → (c : Place) → Holds c
+abbrev pub holds : Both → (c : Cell) → Holds c
 holds s (hostByte x) = getD (s .host) x 0
 holds s (drive n) = driveOf (worldFor First s) n
 holds s (eventBuffer t) = eventsOf s t
@@ -58,7 +64,7 @@ both =
       State = Both;
       Shape = ℕ;
       shape = λ s. length (s .host);
-      Cell = Place;
+      Cell = Cell;
       Value = Holds;
       get = holds;
     }
@@ -75,35 +81,28 @@ told e = record { answer = e .answer; failed = e .failed; tally = e .tally }
 
 -- The cells that something on the world of one of the two touches: some bytes of host memory, the drives of some units, and its own
 -- event buffer. Drives and event buffers are taken whole, as read and written: more than a chain touches, and all that demand 3 asks.
-abbrev pub Touches : Turn → (World → ℕ → Type 0) → (World → UnitNumber → Type 0) → Both → Place → Type 0
+abbrev pub Touches : Which → (World → ℕ → Type 0) → (World → UnitNumber → Type 0) → Both → Cell → Type 0
 Touches t bytes units s (hostByte x) = bytes (worldFor t s) x
 Touches t bytes units s (drive n) = units (worldFor t s) n
 Touches t bytes units s (eventBuffer u) = t ≡ u
 
--- The run of a chain as a step. Its footprint is that of the chain followed alone: the host bytes that it reads and writes, and the drives of
--- the units that its blocks name.
-abbrev pub runOf : Turn → ℕ → ℕ → Step both Told
-runOf t first allowance =
+-- What a chain followed alone names, reads and writes: its units and its bytes of host memory.
+module _ (c : Chain) (w : World) where
+  abbrev pub Names : UnitNumber → Type 0
+  Names = RunNames (c .first) (c .allowance) w
+
+  abbrev pub HostReads : ℕ → Type 0
+  HostReads = RunReads (c .first) (c .allowance) w
+
+  abbrev pub HostWrites : ℕ → Type 0
+  HostWrites = RunWrites (c .first) (c .allowance) w
+
+-- The run of a chain as a step. Its footprint is that of the chain followed alone.
+abbrev pub runOf : Which → Chain → Step both Told
+runOf t c =
     record {
-      out = λ s. told (ran first allowance (worldFor t s));
-      left = λ s. leaving t s (ran first allowance (worldFor t s) .world);
-      Reads = Touches t (RunReads first allowance) (RunNames first allowance);
-      Writes = Touches t (RunWrites first allowance) (RunNames first allowance);
+      out = λ s. told (ran (c .first) (c .allowance) (worldFor t s));
+      left = λ s. leaving t s (ran (c .first) (c .allowance) (worldFor t s) .world);
+      Reads = Touches t (HostReads c) (Names c);
+      Writes = Touches t (HostWrites c) (Names c);
     }
-
--- "If the blocks they fetch name no unit in common .. and no host byte that one writes is read or written by the other": of each chain
--- followed alone from the same start. That "their event buffers are separate" is in `Both`, which has two.
-pub record Independent (first1 allowance1 first2 allowance2 : ℕ) (s : Both) : Type 0 where
-  pub units :
-      (n : UnitNumber) → RunNames first1 allowance1 (worldFor First s) n → RunNames first2 allowance2 (worldFor Second s) n → ⊥
-  pub written :
-      (x : ℕ) → RunWrites first1 allowance1 (worldFor First s) x → RunWrites first2 allowance2 (worldFor Second s) x → ⊥
-  pub read-by-second :
-      (x : ℕ) → RunWrites first1 allowance1 (worldFor First s) x → RunReads first2 allowance2 (worldFor Second s) x → ⊥
-  pub read-by-first :
-      (x : ℕ) → RunWrites first2 allowance2 (worldFor Second s) x → RunReads first1 allowance1 (worldFor First s) x → ⊥
-
--- Both orders: the same memory, drives and event buffers are left; what each chain comes to, and what it stores, events included, is
--- what it comes to and stores alone.
-abbrev pub EitherWay : (first1 allowance1 first2 allowance2 : ℕ) → Both → Type 0
-EitherWay first1 allowance1 first2 allowance2 s = EitherOrder both (runOf First first1 allowance1) (runOf Second first2 allowance2) s

@@ -1,3 +1,4 @@
 pub mod Chains
+pub mod Demand3
 pub mod Local
-pub mod Orders
+pub mod Reads

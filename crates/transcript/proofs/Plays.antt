@@ -12,9 +12,11 @@ use lib.Seq.{getD-drop, getD-take, length-take-le, sets-eq}
 use Rattle.answers.specs.Numbers.{runNumber}
 use Rattle.board.specs.declared.chain.Outcome.{Outcome}
 use Rattle.board.specs.Chain.{Ending, ends, ran}
-use Rattle.board.specs.Steps.{CameTo, written}
-use Rattle.board.specs.World.{World, worldOf}
-use Rattle.board.proofs.RunAnswers.{blocks-within-the-allowance}
+use Rattle.board.specs.Steps.{CameTo}
+use Rattle.block.specs.Steps.{written}
+use Rattle.block.specs.World.{World}
+use Rattle.board.specs.Lent.{worldOf}
+use Rattle.demands.proofs.RunAnswers.{blocks-within-the-allowance}
 use Rattle.board.proofs.Runs.{ran-allowance-bad}
 use Rattle.wire.specs.Copy.{copied}
 use Rattle.wire.specs.Words.{be32}

@@ -11,8 +11,8 @@ use lib.ListN.{drop, getD, length, take, length-append, length-drop, length-take
 use lib.Seq.{take-append-seam}
 use Rattle.request.specs.declared.UnitNumber.the-variants.{Zero, One}
 use Rattle.board.specs.Chain.{ran}
-use Rattle.board.specs.World.{World}
-use Rattle.board.proofs.Keeps.{run-keeps-lengths}
+use Rattle.block.specs.World.{World}
+use Rattle.demands.proofs.Keeps.{run-keeps-lengths}
 use Rattle.wire.specs.Words.{be32}
 use Rattle.transcript.specs.declared.State.{State}
 use Rattle.transcript.specs.Rows.{inARow, onward, readFor}

@@ -10,7 +10,7 @@ use native.Mathlib.Numerals.{add-one}
 use native.Mathlib.Omega.{arith}
 use lib.ListN.{length, set, length-append}
 use lib.Seq.{sets, length-sets}
-use Rattle.board.specs.Steps.{written}
+use Rattle.block.specs.Steps.{written}
 use Rattle.wire.specs.Words.{be32}
 use Rattle.transcript.specs.Steps.{Appended}
 use Rattle.transcript.specs.Text.{blockLine, blockLines, decimal, digit, digitsWithin, letters, lettersFrom, refusalLine, runLine, signed}

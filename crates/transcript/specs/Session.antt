@@ -13,7 +13,7 @@ use Rattle.unit.specs.Standing.{recordOf}
 use Rattle.answers.specs.Numbers.{runNumber}
 use Rattle.board.specs.declared.Units.{Units}
 use Rattle.board.specs.Chain.{Ending, ran}
-use Rattle.board.specs.World.{worldOf}
+use Rattle.board.specs.Lent.{worldOf}
 use Rattle.transcript.specs.Text.{blockLines, refusalLine, runLine}
 
 -- "What a run leaves in memory, images and unit records is there for the next."

@@ -7,7 +7,7 @@ use mathlib.Core.Path.{_≡_}
 use native.Mathlib.Decide.{decLe, decLt, map-dec}
 use lib.ListN.{drop, length, take}
 use Rattle.board.specs.declared.Units.{Units}
-use Rattle.board.specs.Steps.{written}
+use Rattle.block.specs.Steps.{written}
 use Rattle.transcript.specs.declared.Next.{Next}
 use Rattle.transcript.specs.declared.Said.{Said}
 use Rattle.transcript.specs.declared.State.{State}

@@ -8,7 +8,7 @@ use Rattle.answers.specs.Numbers.{refusalNumber}
 use Rattle.wire.proofs.Promises.{denied, granted}
 use Rattle.board.specs.Chain.{fetched}
 use Rattle.board.specs.Steps.{countedOf, tallyOf}
-use Rattle.board.specs.World.{worldOf}
+use Rattle.board.specs.Lent.{worldOf}
 use Rattle.board.proofs.Chains.{came-the-same, came-to, executed-done, executed-failed, executed-on, fetched-bad, fetched-on, fetched-spent, spare-kept, spare-less}
 use Prim.Native.Nat.{ℕ, _+_, _-_, _*_, _<_}
 use borrow.Fn.Kinds.{In}

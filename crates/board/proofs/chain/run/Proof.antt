@@ -3,7 +3,7 @@ use native.Mathlib.Omega.{arith}
 use Rattle.answers.specs.declared.RunAnswer.{RunAnswer}
 use Rattle.wire.proofs.Promises.{denied, granted}
 use Rattle.board.specs.Steps.{nothingCounted}
-use Rattle.board.specs.World.{worldOf}
+use Rattle.board.specs.Lent.{worldOf}
 use Rattle.board.proofs.Chains.{came-the-same, came-to}
 use Rattle.board.proofs.Runs.{ran-allowance-bad, ran-chain, ran-events-short, ran-first-bad}
 use borrow.Author.Needs.{needs}

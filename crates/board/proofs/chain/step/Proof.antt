@@ -4,16 +4,16 @@ use mathlib.Core.Path.{_≡_, sym, ap, _∙_}
 use Rattle.iopb.specs.declared.Block.{Block}
 use Rattle.iopb.specs.Ask.{unitOf}
 use Rattle.request.specs.declared.UnitNumber.{UnitNumber}
-use Rattle.board.specs.Block.{unitAt}
-use Rattle.board.specs.Steps.{three}
-use Rattle.board.specs.World.{worldOf}
+use Rattle.block.specs.Block.{unitAt}
+use Rattle.block.specs.Steps.{three}
+use Rattle.board.specs.Lent.{worldOf}
 use Rattle.board.proofs.Chains.{step-made}
 use borrow.Author.Needs.{needs}
 use Rattle.board.proofs.chain.step.Statement.{statement}
 use Rattle.board.proofs.chain.step.Tie as tie
 use Rattle.board.proofs.chain.step.Reads as reads
 use Rattle.board.proofs.chain.step.Lts as lts
-use Rattle.board.proofs.block.run_block.Reads as run-block-reads
+use Rattle.block.proofs.run_block.Reads as run-block-reads
 use Rattle.iopb.proofs.Block.read.Reads as read-reads
 
 read-requires : tie.Need-read-requires

@@ -1,7 +1,7 @@
 -- A copy of the whole part is its bytes stored one after the other.
 use mathlib.Core.Path.{refl, _∙_}
 use native.Mathlib.Omega.{arith}
-use Rattle.board.proofs.Entries.{copy-written}
+use Rattle.block.proofs.Entries.{copy-written}
 use borrow.Author.Needs.{needs}
 use Rattle.transcript.proofs.lines.put.Statement.{statement}
 use Rattle.transcript.proofs.lines.put.Tie as tie

@@ -1,0 +1,7 @@
+pub mod Complement
+pub mod Effects
+pub mod Entries
+pub mod Gathered
+pub mod Outcomes
+pub mod Transfers
+pub mod Travel

@@ -1,0 +1,39 @@
+-- The words are copied as one run.
+use Prim.Native.Nat.{_+_}
+use mathlib.Core.Path.{_∙_}
+use native.Mathlib.Omega.{arith}
+use Rattle.iopb.specs.Identity.{identityBytes}
+use Rattle.block.proofs.Entries.{copy-written}
+use borrow.Author.Needs.{needs}
+use Rattle.block.proofs.put_identity.Statement.{statement}
+use Rattle.block.proofs.put_identity.Tie as tie
+use Rattle.block.proofs.put_identity.Reads as reads
+use Rattle.block.proofs.put_identity.Lts as lts
+use Rattle.iopb.proofs.identity.Reads as identity-reads
+use Rattle.wire.proofs.copy.Reads as copy-reads
+
+identity-requires : tie.Need-identity-requires
+identity-requires c κs = search needs
+
+slice-aggregate-copy : tie.Need-slice-aggregate-copy
+slice-aggregate-copy c = search needs
+
+add-copy : tie.Need-add-copy
+add-copy c = search needs
+
+copy-requires : tie.Need-copy-requires
+copy-requires c κs = search needs
+
+same-length : tie.Need-same-length
+same-length c = search needs
+
+returns : tie.Need-returns
+returns c =
+    let a = c .before .before .before .before .before .before .before .args in
+    rw (c .before .before .before .before .before .identity .ensures) at (c .before .before .copy .ensures)
+    ∙ copy-written identityBytes (a .host .now) (a .at + 4) (omega arith)
+
+pub put-identity-spec : {M : Type 1} → statement M
+put-identity-spec =
+    tie.close
+    (tie.spec identity-requires slice-aggregate-copy add-copy copy-requires same-length returns)

@@ -1,0 +1,4 @@
+pub mod Block
+pub mod Events
+pub mod Steps
+pub mod World

@@ -1,0 +1,33 @@
+-- What a run works on (01, What the board answers for): host memory, two disk images with their unit records, the event buffer.
+use Prim.Native.Nat.{ℕ}
+use mathlib.Core.List.{List}
+use Rattle.request.specs.declared.UnitNumber.{UnitNumber}
+use Rattle.request.specs.declared.UnitNumber.the-variants.{Zero, One}
+use Rattle.unit.specs.declared.Record.{Record}
+use Rattle.transfer.specs.Stores.{Buffers}
+
+-- A unit's drive: its record and its image.
+pub record Drive : Type 0 where
+  pub unit : Record
+  pub image : List ℕ
+
+pub record World : Type 0 where
+  pub host : List ℕ
+  pub drive0 : Drive
+  pub drive1 : Drive
+  pub events : List ℕ
+
+-- The drive of a unit.
+abbrev pub driveOf : World → UnitNumber → Drive
+driveOf w Zero = w .drive0
+driveOf w One = w .drive1
+
+-- What a block for that unit works on, and the world once it has: the other unit's drive stays.
+abbrev pub buffersOf : World → UnitNumber → Buffers
+buffersOf w n = record { host = w .host; image = driveOf w n .image; events = w .events }
+
+abbrev pub changed : World → UnitNumber → Buffers → Record → World
+changed w Zero m u =
+    record { host = m .host; drive0 = record { unit = u; image = m .image }; drive1 = w .drive1; events = m .events }
+changed w One m u =
+    record { host = m .host; drive0 = w .drive0; drive1 = record { unit = u; image = m .image }; events = m .events }

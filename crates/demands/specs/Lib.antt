@@ -1,0 +1,2 @@
+pub mod Footprint
+pub mod Visits

@@ -1,0 +1,117 @@
+-- The blocks that a chain fetches, in their order, each with the world as it stood when it was fetched. The theorems about a run
+-- speak of these: which block was the last, what all of them read and wrote.
+use Prim.Native.Nat.{ℕ, zero, suc, _+_, _≤_, _<_}
+use mathlib.Core.Bool.{Bool, true, false}
+use mathlib.Core.List.{List, [], _∷_}
+use mathlib.Core.Logic.{ite, Dec·and}
+use mathlib.Core.Path.{_≡_}
+use native.Mathlib.Decide.{decLe, map-dec}
+use lib.ListN.{length}
+use Rattle.answers.specs.declared.BlockAnswer.{BlockAnswer}
+use Rattle.answers.specs.declared.BlockAnswer.the-variants.{Ended, Failed}
+use Rattle.answers.specs.declared.Refusal.{Refusal}
+use Rattle.answers.specs.declared.RunAnswer.{RunAnswer}
+use Rattle.answers.specs.declared.RunAnswer.the-variants.{Done, EventsShort, AllowanceBad, FirstBad, BlockFailed, LinkBad, AllowanceSpent}
+use Rattle.answers.specs.Numbers.{refusalNumber}
+use Rattle.iopb.specs.declared.Block.{Block}
+use Rattle.iopb.specs.Layout.{blockAt}
+use Rattle.wire.specs.Memory.{InMemory, inMemory?}
+use Rattle.block.specs.Block.{Effect, effectAt, worldAfter}
+use Rattle.block.specs.World.{World}
+
+-- A block that was fetched: its address, how many were run before it, and the world before it.
+pub record Visit : Type 0 where
+  pub at : ℕ
+  pub index : ℕ
+  pub world : World
+
+-- Its 28 bytes by what they mean, what it does, and the world that it leaves.
+abbrev pub blockOf : Visit → Block
+blockOf v = blockAt (v .world .host) (v .at)
+
+abbrev pub effectOf : Visit → Effect
+effectOf v = effectAt (v .at) (v .index) (v .world)
+
+abbrev pub worldLeft : Visit → World
+worldLeft v = worldAfter (v .at) (v .index) (v .world)
+
+-- "running it with LK set and status 80 leads to fetching the next"; "A failed block's link isn't followed".
+abbrev pub onwards : BlockAnswer → Bool → List Visit → List Visit
+onwards (Failed r) link rest = []
+onwards Ended false rest = []
+onwards Ended true rest = rest
+
+-- The blocks fetched from an address on, with so much of the allowance left and so many run before: "Each fetch spends one of the
+-- allowance".
+unfoldable pub visits : ℕ → ℕ → ℕ → World → List Visit
+visits zero i at w = []
+visits (suc left) i at w =
+    let v : Visit = record { at = at; index = i; world = w } in
+    ite (inMemory? (w .host) at 28)
+    (v ∷ onwards (effectOf v .answer) (blockOf v .options .link) (visits left (i + 1) (blockOf v .link) (worldLeft v)))
+    []
+
+-- What checks 1, 2 and 3 ask of a run.
+pub record Passes (first allowance : ℕ) (w : World) : Type 0 where
+  pub events : 512 ≤ length (w .events)
+  pub least : 1 ≤ allowance
+  pub most : allowance ≤ 64
+  pub place : InMemory (w .host) first 28
+
+pub passes? : (first allowance : ℕ) (w : World) → Dec (Passes first allowance w)
+passes? first allowance w =
+    map-dec (λ d. record { events = d .0; least = d .1 .0; most = d .1 .1 .0; place = d .1 .1 .1 })
+    (λ p. (p .events, (p .least, (p .most, p .place))))
+    (Dec·and (decLe 512 (length (w .events)))
+    (Dec·and (decLe 1 allowance) (Dec·and (decLe allowance 64) (inMemory? (w .host) first 28))))
+
+-- The blocks that a run fetches: a refused run fetches none.
+unfoldable pub fetchedBy : ℕ → ℕ → World → List Visit
+fetchedBy first allowance w = ite (passes? first allowance w) (visits allowance 0 first w) []
+
+-- One block leads to another: it ended 80 with LK set, and the other is the one at its link, fetched from the world that it left.
+pub record LeadsTo (v x : Visit) : Type 0 where
+  pub ended : effectOf v .answer ≡ Ended
+  pub linked : blockOf v .options .link ≡ true
+  pub at : x .at ≡ blockOf v .link
+  pub index : x .index ≡ v .index + 1
+  pub world : x .world ≡ worldLeft v
+
+-- Blocks of which each leads to the next.
+abbrev pub leadsOn : Visit → List Visit → Type 0
+leadsOn v [] = Unit {0}
+leadsOn v (x ∷ xs) = LeadsTo v x
+
+abbrev pub Linked : List Visit → Type 0
+Linked [] = Unit {0}
+Linked (v ∷ vs) = leadsOn v vs × Linked vs
+
+-- The last of some blocks, of which there is at least the first.
+abbrev pub lastOf : Visit → List Visit → Visit
+lastOf v [] = v
+lastOf v (x ∷ xs) = lastOf x xs
+
+-- "the sum over the blocks of sectors copied"
+abbrev pub sectorsOf : List Visit → ℕ
+sectorsOf [] = 0
+sectorsOf (v ∷ vs) = effectOf v .sectors + sectorsOf vs
+
+-- When each answer of a chain is given (01, Answer numbers 0, 4, 5 and 6), with the failed block's number beside it: of the last
+-- block run, and of how much of the allowance was left after it.
+abbrev pub EndsWith : RunAnswer → ℕ → ℕ → Visit → Type 0
+-- "last block had no link and ended 80"
+EndsWith Done failed left v = (failed ≡ 0) × ((effectOf v .answer ≡ Ended) × (blockOf v .options .link ≡ false))
+-- "a block ended 82"
+EndsWith BlockFailed failed left v = (r : Refusal) × ((failed ≡ refusalNumber r) × (effectOf v .answer ≡ Failed r))
+-- "linked address bad as in 3", with some of the allowance left: "6 before 5"
+EndsWith LinkBad failed left v =
+    (failed ≡ 0) ×
+    ((effectOf v .answer ≡ Ended) ×
+    ((blockOf v .options .link ≡ true) × ((0 < left) × (InMemory (worldLeft v .host) (blockOf v .link) 28 → ⊥))))
+-- "allowance spent, last block 80 with LK set"
+EndsWith AllowanceSpent failed left v =
+    (failed ≡ 0) × ((effectOf v .answer ≡ Ended) × ((blockOf v .options .link ≡ true) × (left ≡ 0)))
+-- 1, 2 and 3 are no chain's.
+EndsWith EventsShort failed left v = ⊥
+EndsWith AllowanceBad failed left v = ⊥
+EndsWith FirstBad failed left v = ⊥
