@@ -20,10 +20,15 @@ pub fn differences(case: &Case, library: &Left, model: &Left) -> Vec<String> {
             ));
         }
     }
-    bytes("host memory", &library.host, &model.host, &mut lines);
-    bytes("image 0", &library.images[0], &model.images[0], &mut lines);
-    bytes("image 1", &library.images[1], &model.images[1], &mut lines);
-    bytes("events", &library.events, &model.events, &mut lines);
+    let buffers = [
+        ("host memory", &library.host, &model.host),
+        ("image 0", &library.images[0], &model.images[0]),
+        ("image 1", &library.images[1], &model.images[1]),
+        ("events", &library.events, &model.events),
+    ];
+    for (what, library, model) in buffers {
+        bytes(what, ["library", "model"], library, model, &mut lines);
+    }
     for (k, asked) in case.inspections.iter().enumerate() {
         if library.parts[k] != model.parts[k] {
             lines.push(format!(
@@ -38,12 +43,13 @@ pub fn differences(case: &Case, library: &Left, model: &Left) -> Vec<String> {
     lines
 }
 
-fn bytes(what: &str, library: &[u8], model: &[u8], lines: &mut Vec<String>) {
-    if library == model {
+/// Adds a line where two buffers differ; the sides are named in it.
+pub fn bytes(what: &str, sides: [&str; 2], one: &[u8], other: &[u8], lines: &mut Vec<String>) {
+    if one == other {
         return;
     }
-    let differ = |k: &usize| library.get(*k) != model.get(*k);
-    let longer = library.len().max(model.len());
+    let differ = |k: &usize| one.get(*k) != other.get(*k);
+    let longer = one.len().max(other.len());
     let count = (0..longer).filter(differ).count();
     let first = (0..longer).find(differ).unwrap_or(0);
     let some = |bytes: &[u8]| {
@@ -52,11 +58,13 @@ fn bytes(what: &str, library: &[u8], model: &[u8], lines: &mut Vec<String>) {
         format!("{:02x?}", &bytes[from..to])
     };
     lines.push(format!(
-        "{}: {} bytes differ, from {:#x} on: library {}, model {}",
+        "{}: {} bytes differ, from {:#x} on: {} {}, {} {}",
         what,
         count,
         first,
-        some(library),
-        some(model)
+        sides[0],
+        some(one),
+        sides[1],
+        some(other)
     ));
 }

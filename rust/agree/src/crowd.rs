@@ -20,6 +20,9 @@ pub struct Crowd {
     pub threads: usize,
 }
 
+/// Whether a fault is caught in what has an index.
+pub type Catches = fn(&Crowd, Fault, u64) -> bool;
+
 /// The first world in which the two sides differ.
 pub struct Disagreement {
     pub index: u64,
@@ -89,22 +92,22 @@ impl Crowd {
         }
     }
 
-    /// For each fault the number of worlds until it is caught.
-    pub fn faults(&self) -> Vec<(Fault, Option<u64>)> {
+    /// For each of some faults the number of worlds, or of pairs, until one of them catches it.
+    pub fn faults(&self, faults: &[Fault], catches: Catches) -> Vec<(Fault, Option<u64>)> {
         let next = AtomicUsize::new(0);
         let caught = Mutex::new(Vec::new());
         std::thread::scope(|scope| {
             for _ in 0..self.threads {
                 scope.spawn(|| loop {
                     let k = next.fetch_add(1, Ordering::Relaxed);
-                    let Some(fault) = Fault::ALL.get(k) else {
+                    let Some(fault) = faults.get(k) else {
                         return;
                     };
-                    let worlds = self.until_caught(*fault);
+                    let worlds = (0..self.worlds).find(|index| catches(self, *fault, *index));
                     caught
                         .lock()
                         .expect("no thread panics with it")
-                        .push((k, worlds));
+                        .push((k, worlds.map(|index| index + 1)));
                 });
             }
         });
@@ -112,19 +115,13 @@ impl Crowd {
         caught.sort_unstable();
         caught
             .into_iter()
-            .map(|(k, worlds)| (Fault::ALL[k], worlds))
+            .map(|(k, worlds)| (faults[k], worlds))
             .collect()
-    }
-
-    fn until_caught(&self, fault: Fault) -> Option<u64> {
-        (0..self.worlds)
-            .find(|index| self.catches(fault, *index))
-            .map(|index| index + 1)
     }
 
     /// Whether the model with a fault differs in a world, or cannot go on in it. The world is made
     /// and the other side is run without the fault.
-    fn catches(&self, fault: Fault, index: u64) -> bool {
+    pub fn catches(&self, fault: Fault, index: u64) -> bool {
         let case = world(self.seed, index);
         let library = self.opponent.run(&case);
         let faulty = catch_unwind(AssertUnwindSafe(|| with_fault(fault, || model_side(&case))));

@@ -2,6 +2,8 @@
 //!
 //! The library is proved to do what its definitions say; the model was written from the paper
 //! alone. Where they leave different bytes of the same world, one of them has misread the paper.
+//! Pairs of chains are for demand 3: the model says which may be run in either order, and the library
+//! runs them in both.
 
 mod case;
 mod compare;
@@ -12,12 +14,14 @@ mod dump;
 mod exact;
 #[cfg(feature = "library")]
 mod giants;
+mod pairs;
 mod sessions;
 mod sides;
 mod worlds;
 
 use coverage::Coverage;
-use crowd::{one_world, Crowd};
+use crowd::{one_world, Catches, Crowd};
+use model::Fault;
 use sides::Opponent;
 use std::process::ExitCode;
 use std::time::Instant;
@@ -28,6 +32,8 @@ agree --world I [--seed S] [--itself]                    one of these worlds, an
 agree --faults [--worlds N] [--seed S] [--itself]        faults seeded in the model: is each caught?
 agree --exact [--itself]                                 the paper's worked examples and the limits
 agree --sessions N PROGRAM WORD..                        the session program on generated sessions
+agree --pairs N [--seed S] [--itself]                    N pairs of chains that demand 3 lets run in either order
+agree --pair I [--seed S] [--itself]                     one of these pairs, and show it
 --itself puts the model in the library's place.";
 
 /// Coverage is asked from so many worlds on.
@@ -39,6 +45,8 @@ struct Asked {
     faults: bool,
     exact: bool,
     sessions: Option<(u64, Vec<String>)>,
+    pairs: Option<u64>,
+    pair: Option<u64>,
 }
 
 fn asked() -> Option<Asked> {
@@ -54,6 +62,8 @@ fn asked() -> Option<Asked> {
         faults: false,
         exact: false,
         sessions: None,
+        pairs: None,
+        pair: None,
     };
     let mut words = std::env::args().skip(1);
     while let Some(word) = words.next() {
@@ -66,6 +76,8 @@ fn asked() -> Option<Asked> {
             "--itself" => asked.crowd.opponent = Opponent::Itself,
             "--faults" => asked.faults = true,
             "--exact" => asked.exact = true,
+            "--pairs" => asked.pairs = Some(number()?),
+            "--pair" => asked.pair = Some(number()?),
             "--sessions" => {
                 let count = number()?;
                 asked.sessions = Some((count, words.by_ref().collect()));
@@ -94,6 +106,10 @@ fn main() -> ExitCode {
         let exact = !asked.exact || exact(asked.crowd.opponent);
         let faults = !asked.faults || faults(&asked.crowd);
         exact && faults
+    } else if let Some(index) = asked.pair {
+        show_pair(&asked.crowd, index)
+    } else if let Some(count) = asked.pairs {
+        pairs(&asked.crowd, count)
     } else {
         worlds(&asked.crowd)
     };
@@ -185,6 +201,53 @@ fn worlds(crowd: &Crowd) -> bool {
     !asked || missing.is_empty()
 }
 
+fn pairs(crowd: &Crowd, count: u64) -> bool {
+    let start = Instant::now();
+    let tally = match pairs::run(crowd.opponent, crowd.seed, count) {
+        Ok(tally) => tally,
+        Err(found) => {
+            print!("{}", pairs::dump(crowd.seed, found.index));
+            for line in &found.lines {
+                println!("differs: {}", line);
+            }
+            println!(
+                "agree: the orders differ though the condition is met; again with --seed {} --pair {}",
+                crowd.seed, found.index
+            );
+            return false;
+        }
+    };
+    let missing = tally.missing();
+    for line in &missing {
+        println!("not covered: {}", line);
+    }
+    let [met, broken] = tally.lines();
+    println!("agree: {}", met);
+    println!("agree: {}, {:.1} s", broken, start.elapsed().as_secs_f64());
+    missing.is_empty()
+}
+
+/// One pair, shown whether or not its orders differ.
+fn show_pair(crowd: &Crowd, index: u64) -> bool {
+    let (meets, lines) = pairs::one_pair(crowd.opponent, crowd.seed, index);
+    print!("{}", pairs::dump(crowd.seed, index));
+    for line in &lines {
+        println!("differs: {}", line);
+    }
+    println!(
+        "agree: seed {} pair {}: {} the condition, {}",
+        crowd.seed,
+        index,
+        if meets { "meets" } else { "does not meet" },
+        if lines.is_empty() {
+            "no difference"
+        } else {
+            "different"
+        }
+    );
+    lines.is_empty() || !meets
+}
+
 fn exact(opponent: Opponent) -> bool {
     let start = Instant::now();
     let sheet = exact::run(opponent);
@@ -222,14 +285,21 @@ fn giants(_: Opponent) -> (u32, Vec<String>) {
 }
 
 fn faults(crowd: &Crowd) -> bool {
-    let start = Instant::now();
     // A model that is wrong may panic; that is a catch, and no news.
     std::panic::set_hook(Box::new(|_| {}));
-    let faults = crowd.faults();
+    let rules = faults_in(crowd, "worlds", &Fault::IN_RULES, Crowd::catches);
+    let footprints = faults_in(crowd, "pairs", &Fault::IN_FOOTPRINTS, pairs::sees);
+    rules && footprints
+}
+
+/// Each of some faults, with the number of worlds or pairs that it took.
+fn faults_in(crowd: &Crowd, what: &str, faults: &[Fault], catches: Catches) -> bool {
+    let start = Instant::now();
+    let faults = crowd.faults(faults, catches);
     let mut missed = 0;
     for (fault, caught) in &faults {
         match caught {
-            Some(worlds) => println!("{:<56}{:>8}", fault.says(), worlds),
+            Some(number) => println!("{:<56}{:>8}", fault.says(), number),
             None => {
                 missed += 1;
                 println!("{:<56}  missed", fault.says());
@@ -237,9 +307,10 @@ fn faults(crowd: &Crowd) -> bool {
         }
     }
     println!(
-        "agree: {} of {} seeded faults caught, the number of worlds it took beside each, {:.1} s",
+        "agree: {} of {} seeded faults caught, the number of {} it took beside each, {:.1} s",
         faults.len() - missed,
         faults.len(),
+        what,
         start.elapsed().as_secs_f64()
     );
     missed == 0

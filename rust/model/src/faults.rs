@@ -40,10 +40,29 @@ pub enum Fault {
     NormalVectorAlways,
     LevelWithoutInterrupt,
     InspectedOnePlaceMore,
+    BlockNotRead,
+    UibNotRead,
+    RefusedUibNotRead,
+    ListNotRead,
+    RefusedListNotRead,
+    DataNotRead,
+    FormatDataNotRead,
+    Word1NotWritten,
+    IdentityNotWritten,
+    DataNotWritten,
+    StoppedDataNotWritten,
+    LastWordForgotten,
+    RefusedUnitForgotten,
+    ByteAfterData,
+    RefusedDataRead,
+    UnmovedRestWritten,
+    UnreadListRead,
+    MisplacedUibRead,
 }
 
 impl Fault {
-    pub const ALL: [Fault; 33] = [
+    /// In the rules: a run or an inspection comes out wrong.
+    pub const IN_RULES: [Fault; 33] = [
         Fault::EventsOneByteLess,
         Fault::AllowanceOneMore,
         Fault::FiveBeforeSix,
@@ -77,6 +96,28 @@ impl Fault {
         Fault::NormalVectorAlways,
         Fault::LevelWithoutInterrupt,
         Fault::InspectedOnePlaceMore,
+    ];
+
+    /// In footprints, which have too little or too much; every run is right.
+    pub const IN_FOOTPRINTS: [Fault; 18] = [
+        Fault::BlockNotRead,
+        Fault::UibNotRead,
+        Fault::RefusedUibNotRead,
+        Fault::ListNotRead,
+        Fault::RefusedListNotRead,
+        Fault::DataNotRead,
+        Fault::FormatDataNotRead,
+        Fault::Word1NotWritten,
+        Fault::IdentityNotWritten,
+        Fault::DataNotWritten,
+        Fault::StoppedDataNotWritten,
+        Fault::LastWordForgotten,
+        Fault::RefusedUnitForgotten,
+        Fault::ByteAfterData,
+        Fault::RefusedDataRead,
+        Fault::UnmovedRestWritten,
+        Fault::UnreadListRead,
+        Fault::MisplacedUibRead,
     ];
 
     /// The fault in words.
@@ -115,6 +156,24 @@ impl Fault {
             Fault::NormalVectorAlways => "normal vector at status 82",
             Fault::LevelWithoutInterrupt => "level without IE",
             Fault::InspectedOnePlaceMore => "inspection of one place more than there are",
+            Fault::BlockNotRead => "footprint without the 28 bytes of a block",
+            Fault::UibNotRead => "footprint without a UIB",
+            Fault::RefusedUibNotRead => "footprint without a UIB refused by 13",
+            Fault::ListNotRead => "footprint without a list",
+            Fault::RefusedListNotRead => "footprint without a list refused by 18 or 19",
+            Fault::DataNotRead => "footprint without the data of 82 and A2",
+            Fault::FormatDataNotRead => "footprint without the data of 8C",
+            Fault::Word1NotWritten => "footprint without word 1",
+            Fault::IdentityNotWritten => "footprint without words 2 to 7 of 86",
+            Fault::DataNotWritten => "footprint without the data that 81 and A1 moved",
+            Fault::StoppedDataNotWritten => "footprint without the data that a stopped read moved",
+            Fault::LastWordForgotten => "footprint without the last word of data",
+            Fault::RefusedUnitForgotten => "footprint without the unit of a refused block",
+            Fault::ByteAfterData => "footprint with the byte after data",
+            Fault::RefusedDataRead => "footprint with the data of a refused block",
+            Fault::UnmovedRestWritten => "footprint with the unmoved rest of a stopped read",
+            Fault::UnreadListRead => "footprint with a list that 18 leaves unread",
+            Fault::MisplacedUibRead => "footprint with a UIB refused by 12",
         }
     }
 }

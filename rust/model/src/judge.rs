@@ -137,7 +137,7 @@ fn read_uib(host: &[u8], address: u32) -> Option<[u8; UIB_BYTES]> {
 
 /// How many bytes of host memory a transfer has to do with: count × B, and B for 8C, which
 /// ignores the count.
-fn data_bytes(geometry: &Geometry, block: &Block) -> u64 {
+pub(crate) fn data_bytes(geometry: &Geometry, block: &Block) -> u64 {
     let b = geometry.bytes_a_sector as u64;
     if block.command == 0x8c {
         b

@@ -9,6 +9,7 @@
 mod block;
 mod errors;
 mod faults;
+mod footprint;
 mod geometry;
 mod inspect;
 mod judge;
@@ -19,6 +20,7 @@ mod trace;
 pub use block::{Block, Element, BLOCK_BYTES, ELEMENT_BYTES};
 pub use errors::{error_byte, ERROR_BYTES};
 pub use faults::{with_fault, Fault};
+pub use footprint::{Common, Footprint};
 pub use geometry::{Address, Geometry, Record, Volume, UIB_BYTES};
 pub use inspect::{inspect, Part};
 pub use judge::COMMANDS;

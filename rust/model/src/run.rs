@@ -3,6 +3,7 @@
 use crate::block::Block;
 use crate::errors::error_byte;
 use crate::faults::{seeded, Fault};
+use crate::footprint::Fetched;
 use crate::geometry::{Address, Geometry, Record};
 use crate::judge::{judge, Accepted, Piece};
 use crate::trace::{visit_after, visit_before, Past, Trace, Visit};
@@ -86,7 +87,7 @@ fn refused(answer: u8) -> (Outcome, Trace) {
         blocks: 0,
         sectors: 0,
     };
-    (outcome, Trace { blocks: Vec::new() })
+    (outcome, Trace::default())
 }
 
 fn run_chain(
@@ -99,7 +100,7 @@ fn run_chain(
         past: Past::new(&world.host),
         world,
     };
-    let mut trace = Trace { blocks: Vec::new() };
+    let mut trace = Trace::default();
     let mut outcome = Outcome {
         answer: 0,
         failed: 0,
@@ -118,8 +119,9 @@ fn run_chain(
         // "Each fetch spends one of the allowance; a block fetched is a block run, refused or not."
         left -= 1;
         outcome.blocks += 1;
-        let visit = chain.run_block(outcome.blocks, at, &block);
+        let (visit, fetched) = chain.run_block(outcome.blocks, at, &block);
         trace.blocks.push(visit);
+        trace.fetched.push(fetched);
         outcome.sectors += visit.sectors as u32;
         if visit.answer != 0 {
             // "A failed block's link isn't followed."
@@ -173,7 +175,7 @@ struct Chain<'a> {
 
 impl Chain<'_> {
     /// The k-th block of the run, k from 1, its 28 bytes already copied out.
-    fn run_block(&mut self, k: u32, at: u32, block: &Block) -> Visit {
+    fn run_block(&mut self, k: u32, at: u32, block: &Block) -> (Visit, Fetched) {
         if seeded(Fault::StatusBeforeList) {
             // a list or UIB under word 1 is not what it was
             self.store_word_1(at, 0x81, 0x00);
@@ -203,7 +205,8 @@ impl Chain<'_> {
         let error = error_byte(done.answer);
         self.store_word_1(at, status, error);
         self.store_event(k, status, error, block, done.travel);
-        visit
+        let fetched = Fetched::new(self.world, at, block, &judged, &done);
+        (visit, fetched)
     }
 
     fn perform(&mut self, at: u32, block: &Block, accepted: &Accepted) -> Done {

@@ -2,13 +2,23 @@
 //! worlds has walked into. Nothing here has a part in what a run does.
 
 use crate::block::{Block, BLOCK_BYTES};
+use crate::footprint::{Fetched, Footprint};
 use crate::judge::{list_bytes, list_was_read, Accepted, Piece};
 use crate::run::{Done, World};
 
 /// The blocks in the order they were run.
-#[derive(Clone, Debug, PartialEq, Eq)]
+#[derive(Clone, Debug, Default, PartialEq, Eq)]
 pub struct Trace {
     pub blocks: Vec<Visit>,
+    /// The same blocks, with what a footprint wants to know of each.
+    pub(crate) fetched: Vec<Fetched>,
+}
+
+impl Trace {
+    /// The chain's footprint in host memory, of which only the length counts.
+    pub fn footprint(&self, host: &[u8]) -> Footprint {
+        Footprint::of(&self.fetched, host)
+    }
 }
 
 /// One block run.
@@ -90,7 +100,7 @@ fn share(one: u64, one_bytes: u64, other: u64, other_bytes: u64) -> bool {
 }
 
 /// As much of the pieces, joined in order, as the first bytes fill.
-fn filled(pieces: &[Piece], bytes: u64) -> Vec<Piece> {
+pub(crate) fn filled(pieces: &[Piece], bytes: u64) -> Vec<Piece> {
     let mut parts = Vec::new();
     let mut left = bytes;
     for piece in pieces {

@@ -188,6 +188,30 @@ fn holds(before: &World, after: &World, outcome: &Outcome, trace: &Trace, allowa
     }
 }
 
+/// A run's footprint says enough: no byte outside what is written is stored, and no byte outside
+/// what is read counts. So with all of those turned over the run does the same.
+fn local(before: &World, after: &World, outcome: &Outcome, trace: &Trace, first: u32, most: u32) {
+    let footprint = trace.footprint(&before.host);
+    let mut turned = before.clone();
+    for (byte, read) in turned.host.iter_mut().zip(&footprint.read) {
+        *byte ^= if *read { 0x00 } else { 0xff };
+    }
+    let mut left = turned.clone();
+    let (again, trace) = run_traced(&mut left, first, most);
+    assert_eq!(again, *outcome);
+    assert_eq!(trace.footprint(&before.host), footprint);
+    for (at, written) in footprint.written.iter().enumerate() {
+        if *written {
+            assert_eq!(left.host[at], after.host[at]);
+        } else {
+            assert_eq!(left.host[at], turned.host[at]);
+            assert_eq!(after.host[at], before.host[at]);
+        }
+    }
+    left.host = after.host.clone();
+    assert_eq!(left, *after);
+}
+
 fn traps(visit: &Visit) -> [bool; 5] {
     [
         visit.crossed_cylinder,
@@ -219,6 +243,7 @@ fn any_world_at_all() {
         let before = w.clone();
         let (outcome, trace) = run_traced(&mut w, first, allowance);
         holds(&before, &w, &outcome, &trace, allowance);
+        local(&before, &w, &outcome, &trace, first, allowance);
         for visit in &trace.blocks {
             for (k, trap) in traps(visit).iter().enumerate() {
                 met[k] += *trap as u32;

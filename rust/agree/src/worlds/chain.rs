@@ -10,9 +10,10 @@ pub const UN: u8 = 0x80;
 pub const VO: u8 = 0x40;
 pub const LK: u8 = 0x20;
 pub const XL: u8 = 0x10;
+pub const DE: u8 = 0x04;
 
 pub const BLOCK: u64 = 28;
-const UIB: usize = 18;
+pub const UIB: usize = 18;
 
 /// What the maker knows of a unit.
 pub struct Unit {
@@ -45,6 +46,20 @@ pub struct Aim {
     pub count: u64,
 }
 
+impl Aim {
+    /// The place on the drive of the k-th sector, k from 0.
+    pub fn place(&self, g: &Geometry, k: u64) -> Option<u64> {
+        let address = g.address(self.volume, self.first + k)?;
+        g.place(self.volume, address)
+    }
+
+    /// Where the k-th byte of the transfer stands in the image, k from 0.
+    pub fn image_byte(&self, g: &Geometry, k: u64) -> Option<usize> {
+        let b = g.bytes_a_sector as u64;
+        Some((self.place(g, k / b)? * b + k % b) as usize)
+    }
+}
+
 pub struct Maker {
     pub draw: Draw,
     /// How often in a thousand times a choice goes wrong.
@@ -66,6 +81,10 @@ impl Unit {
             geometry(draw)
         };
         let is_ready = draw.percent(65);
+        Unit::with(draw, meant, wide, is_ready)
+    }
+
+    pub fn with(draw: &mut Draw, meant: Geometry, wide: bool, is_ready: bool) -> Unit {
         let record = if is_ready {
             record_bytes(&ready(draw, meant))
         } else {
@@ -139,7 +158,7 @@ impl Maker {
     }
 
     /// A block with any bytes, so that what a command ignores is never the same.
-    fn noise(&mut self, unit: usize) -> Block {
+    pub fn noise(&mut self, unit: usize) -> Block {
         let bytes = self.draw.bytes(BLOCK as usize);
         let mut block = Block::read(&bytes, 0).expect("28 bytes at 0");
         block.options = block.options & !(UN | LK | 0x06) | if unit == 1 { UN } else { 0 };
@@ -225,7 +244,7 @@ impl Maker {
         }
     }
 
-    fn unlisted(&mut self) -> u8 {
+    pub fn unlisted(&mut self) -> u8 {
         let near = [
             0x80, 0x83, 0x84, 0x85, 0x88, 0x8b, 0x8d, 0x8e, 0xa0, 0xa3, 0x01, 0x21, 0x31, 0x00,
             0xff,
@@ -422,6 +441,12 @@ impl Maker {
     }
 
     fn format(&mut self, k: usize, unit: usize, block: &mut Block) {
+        let b = self.track(unit, block);
+        block.buffer_address = self.data_address(k, b);
+    }
+
+    /// Lets the block aim at a track; B, which is what an 8C takes.
+    pub fn track(&mut self, unit: usize, block: &mut Block) -> u64 {
         let g = self.units[unit].meant;
         block.cylinder = self.draw.below(g.cylinders as u64) as u16;
         block.head = self.draw.below(g.drive_heads()) as u8;
@@ -431,7 +456,7 @@ impl Maker {
         if self.slip() {
             block.head = g.drive_heads().saturating_add(self.draw.below(2)).min(255) as u8;
         }
-        block.buffer_address = self.data_address(k, g.bytes_a_sector as u64);
+        g.bytes_a_sector as u64
     }
 
     fn initialize(&mut self, k: usize, unit: usize, block: &mut Block) {
@@ -462,7 +487,7 @@ impl Maker {
     }
 
     /// The UIB of a geometry; what is not kept or judged may be anything.
-    fn uib(&mut self, g: &Geometry) -> [u8; UIB] {
+    pub fn uib(&mut self, g: &Geometry) -> [u8; UIB] {
         let mut uib = [0; UIB];
         self.draw.fill(&mut uib);
         for (k, volume) in g.volumes.iter().enumerate() {
@@ -475,7 +500,7 @@ impl Maker {
         uib
     }
 
-    fn spoiled_uib(&mut self, g: &Geometry) -> [u8; UIB] {
+    pub fn spoiled_uib(&mut self, g: &Geometry) -> [u8; UIB] {
         let mut record = ready(&mut self.draw, *g);
         // S has one byte there, and the heads are at cylinder 0 in any case.
         let way = match self.draw.pick(&Way::ALL) {

@@ -271,12 +271,18 @@ pub fn image(draw: &mut Draw, len: usize, shapes: &[Geometry]) -> Vec<u8> {
     image
 }
 
-fn marks(draw: &mut Draw, image: &mut [u8], g: &Geometry) {
-    let sectors = g.drive_sectors();
+/// As many of a geometry's marks as the image has, all good.
+pub fn good_marks<'a>(image: &'a mut [u8], g: &Geometry) -> &'a mut [u8] {
     let from = (g.marks_at() as usize).min(image.len());
     let to = (g.need() as usize).min(image.len());
     let marks = &mut image[from..to];
     marks.fill(0);
+    marks
+}
+
+fn marks(draw: &mut Draw, image: &mut [u8], g: &Geometry) {
+    let sectors = g.drive_sectors();
+    let marks = good_marks(image, g);
     if marks.is_empty() {
         return;
     }

@@ -3,7 +3,7 @@
 use super::chain::{Aim, Maker, Plant, BLOCK, XL};
 use model::Block;
 
-const ELEMENT: u64 = 8;
+pub const ELEMENT: u64 = 8;
 
 /// Byte count and address of each element.
 type Elements = Vec<(u64, u32)>;
@@ -38,7 +38,7 @@ impl Maker {
     }
 
     /// The bytes in even parts, none of them 0.
-    fn parts(&mut self, bytes: u64, b: u64) -> Vec<u64> {
+    pub fn parts(&mut self, bytes: u64, b: u64) -> Vec<u64> {
         let most = bytes / 2;
         let wanted = match self.draw.below(20) {
             0..=2 => 1,
@@ -100,7 +100,7 @@ impl Maker {
         elements
     }
 
-    fn put_list(&mut self, list: u32, elements: &[(u64, u32)]) {
+    pub fn put_list(&mut self, list: u32, elements: &[(u64, u32)]) {
         for (k, (bytes, address)) in elements.iter().enumerate() {
             let at = list as u64 + k as u64 * ELEMENT;
             let mut element = [0; ELEMENT as usize];

@@ -5,6 +5,7 @@ mod chain;
 mod drives;
 mod lists;
 mod memory;
+mod pair;
 
 use crate::case::{Case, Inspection};
 use crate::draw::Draw;
@@ -12,6 +13,7 @@ use chain::{Maker, Plant, Unit, BLOCK, LK};
 pub use drives::Way;
 use memory::Memory;
 use model::Block;
+pub use pair::pair;
 
 /// The world with an index; it depends on the seed and the index alone.
 pub fn world(seed: u64, index: u64) -> Case {
@@ -104,7 +106,6 @@ fn grow(maker: &mut Maker, images: &mut [Vec<u8>; 2], plant: &Plant) {
         return;
     };
     let new = changed(maker, old).bytes();
-    let b = plant.geometry.bytes_a_sector as u64;
     let image = &mut images[plant.unit];
     let mut moved = 0;
     for (address, bytes) in &plant.pieces {
@@ -114,12 +115,7 @@ fn grow(maker: &mut Maker, images: &mut [Vec<u8>; 2], plant: &Plant) {
                 continue;
             };
             let inside = place.checked_sub(at).and_then(|inside| new.get(inside));
-            let sector = plant.aim.first + moved / b;
-            let to = plant
-                .geometry
-                .address(plant.aim.volume, sector)
-                .and_then(|address| plant.geometry.place(plant.aim.volume, address))
-                .map(|place| (place * b + moved % b) as usize);
+            let to = plant.aim.image_byte(&plant.geometry, moved);
             if let Some(byte) = to.and_then(|to| image.get_mut(to)) {
                 *byte = *inside.unwrap_or(stands);
             }
