@@ -166,12 +166,12 @@ module _ (first second : Chain) (s : Both) where
       written-once (eventBuffer r) w v = no-turn (ap turn-number (w ∙ sym v))
 
       by-second : (c : Cell) → one .Writes s c → two .Reads s c → ⊥
-      by-second (hostByte x) w v = i .read-by-second x w v
+      by-second (hostByte x) w v = i .read x .0 w v
       by-second (drive n) w v = i .units n w v
       by-second (eventBuffer r) w v = no-turn (ap turn-number (w ∙ sym v))
 
       by-first : (c : Cell) → two .Writes s c → one .Reads s c → ⊥
-      by-first (hostByte x) w v = i .read-by-first x w v
+      by-first (hostByte x) w v = i .read x .1 w v
       by-first (drive n) w v = i .units n v w
       by-first (eventBuffer r) w v = no-turn (ap turn-number (v ∙ sym w))
 

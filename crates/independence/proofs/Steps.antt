@@ -65,7 +65,7 @@ module _ (K : Kind) (laws : Lawful K) where
       }
 
   -- A step that writes nothing that another reads is not noticed by it.
-  unnoticed :
+  pub unnoticed :
       {A B : Type 0} (S : Step K A) (T : Step K B) → Local K S → Local K T → (s : K .State) →
       ((c : K .Cell) → T .Writes s c → S .Reads s c → ⊥) → LeadsAlike K S s (T .left s)
   unnoticed S T one two s unread =

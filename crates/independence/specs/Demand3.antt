@@ -9,17 +9,31 @@ use Rattle.request.specs.declared.UnitNumber.{UnitNumber}
 use Rattle.independence.specs.Chains.{Both, Chain, First, HostReads, HostWrites, Names, Second, both, runOf, worldFor}
 use Rattle.independence.specs.Local.{EitherOrder}
 
--- "If the blocks they fetch name no unit in common .. and no host byte that one writes is read or written by the other". That "their event
--- buffers are separate" is in `Both`, which has two.
-pub record Independent (one two : Chain) (s : Both) : Type 0 where
-  pub units : (n : UnitNumber) → Names one (worldFor First s) n → Names two (worldFor Second s) n → ⊥
-  pub written : (x : ℕ) → HostWrites one (worldFor First s) x → HostWrites two (worldFor Second s) x → ⊥
-  pub read-by-second : (x : ℕ) → HostWrites one (worldFor First s) x → HostReads two (worldFor Second s) x → ⊥
-  pub read-by-first : (x : ℕ) → HostWrites two (worldFor Second s) x → HostReads one (worldFor First s) x → ⊥
+module _ (one two : Chain) (s : Both) where
+  -- "the blocks they fetch name no unit in common"
+  abbrev pub NoUnitInCommon : Type 0
+  NoUnitInCommon = (n : UnitNumber) → Names one (worldFor First s) n → Names two (worldFor Second s) n → ⊥
 
--- "running them in either order gives the same"
-abbrev pub EitherWay : (one two : Chain) → Both → Type 0
-EitherWay one two s = EitherOrder both (runOf First one) (runOf Second two) s
+  -- "no host byte that one writes is .. written by the other"
+  abbrev pub NoneWrittenTwice : Type 0
+  NoneWrittenTwice = (x : ℕ) → HostWrites one (worldFor First s) x → HostWrites two (worldFor Second s) x → ⊥
+
+  -- "no host byte that one writes is read .. by the other"
+  abbrev pub NoneReadThere : Type 0
+  NoneReadThere =
+      (x : ℕ) →
+      (HostWrites one (worldFor First s) x → HostReads two (worldFor Second s) x → ⊥) ×
+      (HostWrites two (worldFor Second s) x → HostReads one (worldFor First s) x → ⊥)
+
+  -- The condition. That "their event buffers are separate" is in `Both`, which has two.
+  pub record Independent : Type 0 where
+    pub units : NoUnitInCommon
+    pub written : NoneWrittenTwice
+    pub read : NoneReadThere
+
+  -- "running them in either order gives the same"
+  abbrev pub EitherWay : Type 0
+  EitherWay = EitherOrder both (runOf First one) (runOf Second two) s
 
 abbrev pub Demand3 : Type 0
 Demand3 = (one two : Chain) (s : Both) → Independent one two s → EitherWay one two s

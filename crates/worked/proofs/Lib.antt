@@ -1,3 +1,7 @@
+pub mod Carried
 pub mod Drive
 pub mod Memory
+pub mod OneBlock
 pub mod Starred
+pub mod Tiny
+pub mod TwoChains

@@ -1,1 +1,2 @@
 pub mod SmallDrive
+pub mod TwoChains

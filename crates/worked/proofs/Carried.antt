@@ -1,0 +1,173 @@
+-- What a chain of a pair names, reads and writes, as ranges of bytes; and what its transfers come to.
+-- All of it is told by the verdict on its one block, and whether two chains are apart is arithmetic on their ranges.
+use Prim.Native.Nat.{ℕ, _+_, _*_, _%_, _≤_, _<_}
+use mathlib.Core.Bool.{Bool, true, false, cond, not}
+use mathlib.Core.List.{List, [], _∷_}
+use mathlib.Core.Logic.{_⊎_, inl, inr}
+use mathlib.Core.Path.{_≡_, refl, sym, ap, _∙_}
+use native.Mathlib.Omega.{arith}
+use lib.ListN.{length}
+use Rattle.wire.specs.Memory.{Among, InMemory}
+use Rattle.answers.specs.declared.BlockAnswer.{BlockAnswer}
+use Rattle.iopb.specs.Ask.{taskOf}
+use Rattle.judge.specs.declared.Plan.{Plan}
+use Rattle.judge.specs.declared.Verdict.{Verdict}
+use Rattle.judge.specs.Reads.{ReadFor}
+use Rattle.judge.specs.Verdict.{jobOf}
+use Rattle.judge.proofs.Tasks.{handshake}
+use Rattle.block.specs.Block.{reported}
+use Rattle.iopb.specs.declared.Block.{Block}
+use Rattle.request.specs.declared.Move.{Move}
+use Rattle.request.specs.declared.Task.{Task}
+use Rattle.demands.specs.Footprint.{HostWritten, RunNames, RunWrites, namedDrive, names, verdictOf}
+use Rattle.demands.specs.Visits.{Passes, Visit, blockOf, effectOf}
+use Rattle.demands.proofs.Written.{effect-is}
+use Rattle.independence.specs.Chains.{Both, First, Second, Which, eventsOf, told, worldFor}
+use Rattle.independence.specs.Demand3.{Independent, NoUnitInCommon, NoneReadThere, NoneWrittenTwice}
+use Rattle.independence.specs.Reads.{HostRead, RunReads}
+use Rattle.request.specs.declared.UnitNumber.{UnitNumber}
+use Rattle.request.specs.declared.UnitNumber.the-variants.{Zero, One}
+use Rattle.worked.specs.TwoChains.{come, driveWith, one, two}
+use Rattle.worked.proofs.OneBlock.{Apart, DataBy, In, none-in-both, of-block, reads-in, writes-in}
+use Rattle.worked.proofs.Tiny.{carriedOn, move-passes, moveOf}
+
+pub passes-at :
+    (t : Which) (s : Both) (at : ℕ) → length (eventsOf s t) ≡ 512 → at % 2 ≡ 0 → at + 28 ≤ length (s .host) → Passes at 1 (worldFor t s)
+passes-at t s at events even inside =
+    record { events = omega (arith, events); least = omega arith; most = omega arith; place = record { even = even; inside = inside } }
+
+-- ---- a chain of one block in a pair
+
+-- What it names, and the ranges that its reads and its writes lie in.
+pub record Alone (t : Which) (at : ℕ) (s : Both) (unit : UnitNumber) (reads writes : List (ℕ × ℕ)) : Type 0 where
+  pub passes : Passes at 1 (worldFor t s)
+  pub names-it : (n : UnitNumber) → RunNames at 1 (worldFor t s) n → unit ≡ n
+  pub reads-there : (x : ℕ) → RunReads at 1 (worldFor t s) x → In reads x
+  pub writes-there : (x : ℕ) → RunWrites at 1 (worldFor t s) x → In writes x
+
+-- Two of them are apart where their units and their ranges are.
+module _ {s : Both} {m n : UnitNumber} {rs ws qs vs : List (ℕ × ℕ)} (f : Alone First 0 s m rs ws) (g : Alone Second 28 s n qs vs) where
+  pub no-unit : (m ≡ n → ⊥) → NoUnitInCommon one two s
+  no-unit differ k a b = differ (f .names-it k a ∙ sym (g .names-it k b))
+
+  pub none-twice : Apart ws vs → NoneWrittenTwice one two s
+  none-twice apart x a b = none-in-both ws vs x apart (f .writes-there x a) (g .writes-there x b)
+
+  pub none-read : Apart ws qs → Apart vs rs → NoneReadThere one two s
+  none-read forth back x = (
+    λ w r. none-in-both ws qs x forth (f .writes-there x w) (g .reads-there x r),
+    λ w r. none-in-both vs rs x back (g .writes-there x w) (f .reads-there x r),
+  )
+
+  pub met : (m ≡ n → ⊥) → Apart ws vs → Apart ws qs → Apart vs rs → Independent one two s
+  met differ twice forth back = record { units = no-unit differ; written = none-twice twice; read = none-read forth back }
+
+unit-number : UnitNumber → ℕ
+unit-number Zero = 0
+unit-number One = 1
+
+pub differ : Zero ≡ One → ⊥
+unfolding unit-number
+differ same = omega (arith, ap unit-number same)
+
+pub no-way : true ≡ false → ⊥
+no-way same = omega (arith, ap (λ b. cond {A = ℕ} b 1 0) same)
+
+module _ (t : Which) (s : Both) (at : ℕ) (passes : Passes at 1 (worldFor t s)) where
+  abbrev pub v : Visit
+  v = record { at = at; index = 0; world = worldFor t s }
+
+  module _ (verd : Verdict) (is : verdictOf v ≡ verd) (rs ws : List (ℕ × ℕ)) where
+    pub alone :
+        ((x : ℕ) → ReadFor (blockOf v) (namedDrive v .unit) (length (namedDrive v .image)) (v .world .host) x → In rs x) →
+        ((x : ℕ) → DataBy v verd false x → In rs x) →
+        ((x : ℕ) → blockOf v .command ≡ 0x86 → Among (v .at + 4) 12 x → In ws x) →
+        ((x : ℕ) → DataBy v verd true x → In ws x) →
+        Alone t at s (names v) ((at, 28) ∷ rs) ((at + 2, 2) ∷ ws)
+    alone judged from reported to =
+        record {
+          passes = passes;
+          names-it = λ n. of-block at _ passes (λ v. names v ≡ n);
+          reads-there = λ x r. reads-in v verd is rs x (judged x) (from x) (of-block at _ passes (λ v. HostRead v x) r);
+          writes-there = λ x w. writes-in v verd is ws x (reported x) (to x) (of-block at _ passes (λ v. HostWritten v x) w);
+        }
+
+-- ---- a transfer of the pairs
+
+task-number : Task → ℕ
+task-number (Task.Move m) = 0
+task-number Task.Handshake = 1
+task-number (Task.Initialize x) = 1
+task-number Task.Unknown = 2
+task-number Task.Restore = 2
+task-number (Task.Seek x) = 2
+task-number (Task.Format x) = 2
+
+-- A block that asks for a transfer is neither a handshake nor an initialize.
+no-other : (host : List ℕ) (b : Block) (m : Move) → taskOf host b ≡ Task.Move m → (b .command ≡ 0x86) ⊎ (b .command ≡ 0x87) → ⊥
+unfolding taskOf task-number
+no-other host b m task (inl is) = omega (arith, ap task-number (rw is at task))
+no-other host b m task (inr is) = omega (arith, ap task-number (rw is at task))
+
+abbrev pub carries : Bool → ℕ → ℕ → Verdict
+carries to-host count buffer = Verdict.Do (Plan.Move (jobOf (moveOf to-host 0 count buffer) 0))
+
+-- The bytes of a transfer that goes one way or the other, in the ranges of that way.
+abbrev pub going : Bool → ℕ × ℕ → List (ℕ × ℕ)
+going true r = r ∷ []
+going false r = []
+
+-- What a transfer of so many sectors from the first on comes to.
+pub record Carried (t : Which) (s : Both) (at : ℕ) (to-host : Bool) (buffer count n : ℕ) (a : BlockAnswer) : Type 0 where
+  pub verdict : verdictOf (record { at = at; index = 0; world = worldFor t s }) ≡ carries to-host count buffer
+  pub sectors : effectOf (record { at = at; index = 0; world = worldFor t s }) .sectors ≡ n
+  pub answer : effectOf (record { at = at; index = 0; world = worldFor t s }) .answer ≡ a
+  pub footprint :
+      Alone t at s (names (record { at = at; index = 0; world = worldFor t s })) ((at, 28) ∷ going (not to-host) (buffer, n * 64))
+      ((at + 2, 2) ∷ going to-host (buffer, n * 64))
+
+module _
+    (t : Which) (s : Both) (at : ℕ) (passes : Passes at 1 (worldFor t s)) (byte mark : ℕ)
+    (same : namedDrive (v t s at passes) ≡ driveWith byte mark) (to-host : Bool) (buffer count : ℕ)
+    (task : taskOf (s .host) (blockOf (v t s at passes)) ≡ Task.Move (moveOf to-host 0 count buffer))
+    (some : 0 < count) (fits : count ≤ 2) (held : InMemory (s .host) buffer (count * 64))
+  where
+    abbrev b : Visit
+    b = v t s at passes
+
+    judged-so : verdictOf b ≡ carries to-host count buffer
+    judged-so = rw (task, same) (move-passes (s .host) 0 (omega arith) to-host 0 count buffer some (omega arith) held)
+
+    judged-alone : (x : ℕ) → ReadFor (blockOf b) (namedDrive b .unit) (length (namedDrive b .image)) (s .host) x → ⊥
+    judged-alone x (inl uib) = no-other (s .host) (blockOf b) _ task (inr (uib .initialize))
+    judged-alone x (inr listed) = rw task at listed
+
+    module _ (n : ℕ) (moved : effectOf b .sectors ≡ n) where
+      there : (way : Bool) (x : ℕ) → DataBy b (carries to-host count buffer) way x → Among buffer (n * 64) x
+      there way x (to, (k, (less, here))) =
+          let k< : k < n * 64 = rw (moved, same) at less in
+          (omega arith, omega arith)
+
+      ranged : (w way : Bool) (x : ℕ) → (w ≡ way → Among buffer (n * 64) x) → w ≡ way → In (going (cond way w (not w)) (buffer, n * 64)) x
+      ranged true true x among is = inl (among is)
+      ranged false false x among is = inl (among is)
+      ranged true false x among is = absurd (no-way is)
+      ranged false true x among is = absurd (no-way (sym is))
+
+    pub carried :
+        (n : ℕ) (a : BlockAnswer) →
+        carriedOn (driveWith byte mark .image) refl buffer to-host count ≡ record { sectors = n; answer = a } →
+        Carried t s at to-host buffer count n a
+    carried n a p =
+        let e = effect-is b _ judged-so in
+        let moved : effectOf b .sectors ≡ n = ap (λ e. e .sectors) e ∙ rw same (ap (λ p. p .sectors) p) in
+        record {
+          verdict = judged-so;
+          sectors = moved;
+          answer = ap (λ e. e .answer) e ∙ rw same (ap (λ p. p .answer) p);
+          footprint =
+              alone t s at passes _ judged-so (going (not to-host) (buffer, n * 64)) (going to-host (buffer, n * 64))
+              (λ x j. absurd (judged-alone x j)) (λ x d. ranged n moved to-host false x (λ same. there n moved false x d) (d .0))
+              (λ x report among. absurd (no-other (s .host) (blockOf b) _ task (inl report)))
+              (λ x d. ranged n moved to-host true x (λ same. there n moved true x d) (d .0));
+        }

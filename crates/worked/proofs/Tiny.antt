@@ -1,0 +1,146 @@
+-- The two-sector drive of the pairs: its numbers, which of its requests pass, and what becomes of each of its sectors.
+-- The geometry's shut definitions are opened by their equations, and what is left is arithmetic on numerals.
+use Prim.Native.Nat.{ℕ, _+_, _*_, _≤_, _<_}
+use mathlib.Core.Bool.{Bool, true, false, cond}
+use mathlib.Core.List.{List}
+use mathlib.Core.Logic.{if-pos}
+use mathlib.Core.Path.{_≡_, refl, ap, _∙_}
+use native.Mathlib.Omega.{arith}
+use lib.Dec.{eqb}
+use lib.ListN.{getD, length}
+use Rattle.wire.specs.Memory.{InMemory}
+use Rattle.answers.specs.declared.BlockAnswer.{BlockAnswer}
+use Rattle.answers.specs.declared.Refusal.{Refusal}
+use Rattle.block.specs.Block.{transferOf}
+use Rattle.geometry.specs.declared.VolumeNumber.the-variants.{Zero, One}
+use Rattle.geometry.specs.Drive.{driveHeads, marksAt, need, volume, volumeSectors}
+use Rattle.geometry.specs.Drive.Inside.{driveHeads-is, driveSectors-is, marksAt-is, need-is, volumeSectors-is}
+use Rattle.geometry.specs.Limits.{Has, Present}
+use Rattle.geometry.specs.Sectors.Inside.{addressOf-is, firstByte-is, markByte-is, placeOf-is}
+use Rattle.geometry.proofs.Ends.{end-absent, end-present}
+use Rattle.judge.specs.declared.Plan.{Plan}
+use Rattle.judge.specs.declared.Standing.{Standing}
+use Rattle.judge.specs.declared.Verdict.{Verdict}
+use Rattle.judge.specs.Given.{asked}
+use Rattle.judge.specs.Verdict.{jobOf, verdict}
+use Rattle.judge.proofs.Tasks.{buffer-done, move-on, span-covers, span-on}
+use Rattle.request.specs.declared.Buffer.{Buffer}
+use Rattle.request.specs.declared.Move.{Move}
+use Rattle.request.specs.declared.Start.{Start}
+use Rattle.request.specs.declared.Target.{Target}
+use Rattle.request.specs.declared.Task.{Task}
+use Rattle.transfer.specs.Data.{progressOn}
+use Rattle.transfer.specs.Progress.{InImage, Progress, fateAt, inImage?, moves, progress, stops}
+use Rattle.unit.specs.declared.Record.{Record}
+use Rattle.unit.specs.Landing.{spotOf}
+use Rattle.unit.specs.Landing.Behind.{spotAt-is, spotOf-is}
+use Rattle.unit.specs.Standing.{CountsAsInitialized, recordOf}
+use Rattle.worked.specs.TwoChains.{tiny}
+
+-- With its heads on a cylinder.
+abbrev pub unit : ℕ → Record
+unit cylinder = recordOf true tiny cylinder
+
+pub counts : (c : ℕ) → c < 2 → CountsAsInitialized (unit c)
+unfolding Has Present
+counts c less =
+    record {
+      said = refl;
+      within =
+          record {
+            sizes = omega arith;
+            volumes =
+                record {
+                  one-head = omega arith;
+                  ends = λ v. elim v [ Zero ↦ λ p. omega arith | One ↦ λ p. omega arith ];
+                  apart = λ p. absurd (omega arith);
+                };
+          };
+      cylinder = less;
+    }
+
+pub present : Present (volume tiny Zero)
+present = counts 0 (omega arith) .within .volumes .one-head
+
+heads-1 : driveHeads tiny ≡ 1
+unfolding Present
+heads-1 =
+    omega (
+      arith,
+      driveHeads-is tiny,
+      end-present (volume tiny Zero) (omega arith),
+      end-absent (volume tiny One) refl,
+    )
+
+sectors-2 : volumeSectors tiny Zero ≡ 2
+sectors-2 = volumeSectors-is tiny Zero
+
+marks-128 : marksAt tiny ≡ 128
+marks-128 = omega (arith, marksAt-is tiny, driveSectors-is tiny, heads-1)
+
+need-130 : need tiny ≡ 130
+need-130 = omega (arith, need-is tiny, marksAt-is tiny, driveSectors-is tiny, heads-1)
+
+-- Sector n stands at place n.
+pub place-is : (c n : ℕ) → spotOf (unit c) Zero n .place ≡ n
+place-is c n = rw (spotOf-is, spotAt-is, placeOf-is, addressOf-is, heads-1) (omega arith)
+
+-- ---- what passes
+
+abbrev pub standing : ℕ → ℕ → Standing
+standing c image = record { «record» = unit c; image = image }
+
+abbrev target : ℕ → Target
+target n = record { volume = Zero; start = Start.Logical n }
+
+abbrev pub moveOf : Bool → ℕ → ℕ → ℕ → Move
+moveOf to-host n count at =
+    record { «to_host» = to-host; «past_marks» = false; target = target n; count = count; buffer = Buffer.Piece at }
+
+module _ (host : List ℕ) (c : ℕ) (heads : c < 2) where
+  pub move-passes :
+      (to-host : Bool) (n count at : ℕ) → 0 < count → n + count ≤ 2 → InMemory host at (count * 64) →
+      verdict (asked (Task.Move (moveOf to-host n count at)) (standing c 130) host) ≡
+      Verdict.Do (Plan.Move (jobOf (moveOf to-host n count at) n))
+  move-passes to-host n count at some fits held =
+      let m = moveOf to-host n count at in
+      let s = standing c 130 in
+      move-on s host m (counts c heads) present (λ none. omega arith) ∙
+      span-on s host m (span-covers s host m n refl some (omega (arith, sectors-2))) (omega (arith, need-130)) ∙
+      buffer-done s host m n refl (λ none. none) (λ out. out held)
+
+-- ---- a sector's fate
+
+module _ (image : List ℕ) (long : length image ≡ 130) (place : ℕ) (less : place < 2) where
+  in-image : InImage tiny (length image) place
+  in-image = record { bytes = omega (arith, firstByte-is tiny place); mark = omega (arith, markByte-is tiny place, marks-128) }
+
+  pub unheeded-moves : fateAt image tiny false place ≡ moves
+  unfolding fateAt
+  unheeded-moves = if-pos (inImage? tiny (length image) place) in-image _ _
+
+  pub heeded : fateAt image tiny true place ≡ cond (eqb (getD image (128 + place) 0) 0) moves (stops Refusal.Unreadable)
+  unfolding fateAt
+  heeded =
+      if-pos (inImage? tiny (length image) place) in-image _ _ ∙
+      ap (λ x. cond (eqb (getD image x 0) 0) moves (stops Refusal.Unreadable)) (markByte-is tiny place ∙ rw marks-128)
+
+-- How far the transfers of the pairs come, all of them from the first sector on. Where their bytes lie in host memory does not matter.
+module _ (image : List ℕ) (long : length image ≡ 130) (at : ℕ) where
+  abbrev pub carriedOn : Bool → ℕ → Progress
+  carriedOn to-host count = progressOn image (transferOf (unit 0) (jobOf (moveOf to-host 0 count at) 0) (λ k. k))
+
+  pub write-of-one : carriedOn false 1 ≡ record { sectors = 1; answer = BlockAnswer.Ended }
+  unfolding progress
+  write-of-one = rw (place-is 0 0, unheeded-moves image long 0 (omega arith))
+
+  module _ (good : getD image 128 0 ≡ 0) where
+    pub read-of-one : carriedOn true 1 ≡ record { sectors = 1; answer = BlockAnswer.Ended }
+    unfolding progress
+    read-of-one = rw (place-is 0 0, heeded image long 0 (omega arith), good)
+
+    pub read-stopped :
+        getD image 129 0 ≡ 1 → carriedOn true 2 ≡ record { sectors = 1; answer = BlockAnswer.Failed Refusal.Unreadable }
+    unfolding progress
+    read-stopped bad =
+        rw (place-is 0 0, place-is 0 1, heeded image long 0 (omega arith), heeded image long 1 (omega arith), good, bad)

@@ -1,0 +1,438 @@
+-- The pairs of demand 3: what each chain of a pair comes to, reads and writes is told by the verdict on its one block.
+-- Which bytes are shared is then arithmetic on their addresses.
+use Prim.Native.Nat.{ℕ, _+_, _*_, _≤_, _<_}
+use mathlib.Core.Bool.{true, false}
+use mathlib.Core.List.{[], _∷_}
+use mathlib.Core.Logic.{inl, inr, ⊎-elim}
+use mathlib.Core.Path.{_≡_, refl, sym, ap, _∙_}
+use native.Mathlib.Omega.{arith}
+use lib.ListN.{getD, length}
+use Rattle.wire.specs.Memory.{Among}
+use Rattle.wire.specs.Words.{word}
+use Rattle.answers.specs.declared.BlockAnswer.the-variants.{Ended, Failed}
+use Rattle.answers.specs.declared.Refusal.{Refusal}
+use Rattle.answers.specs.declared.RunAnswer.{RunAnswer}
+use Rattle.iopb.specs.Ask.{taskOf}
+use Rattle.iopb.specs.Layout.{blockAt, uibAt}
+use Rattle.iopb.proofs.Answers.{shapeAt-inside}
+use Rattle.geometry.specs.Limits.{Present, Within}
+use Rattle.judge.specs.declared.Plan.{Plan}
+use Rattle.judge.specs.declared.Verdict.{Verdict}
+use Rattle.judge.specs.Verdict.{jobOf}
+use Rattle.judge.proofs.Tasks.{handshake, move-11, restore-done, restore-refused, shape-given, shape-outside}
+use Rattle.unit.specs.Standing.{CountsAsInitialized}
+use Rattle.transfer.specs.Stores.{after, bytesFrom}
+use Rattle.block.specs.World.{World, buffersOf, changed}
+use Rattle.block.specs.Block.{dataByte, initialized, reported, transferOf, worldAfter}
+use Rattle.request.specs.declared.Buffer.{Buffer}
+use Rattle.geometry.specs.Drive.{B}
+use Rattle.geometry.specs.Sectors.Inside.{firstByte-is}
+use Rattle.demands.specs.Footprint.{HostWritten, Makes, RunWrites, namedDrive, names, verdictOf}
+use Rattle.demands.specs.Visits.{Passes, Visit, effectOf, worldLeft}
+use Rattle.demands.proofs.VersionTwo.{disk-byte-is-there}
+use Rattle.demands.proofs.Written.{effect-is}
+use Rattle.independence.specs.Chains.{Both, Cell, First, HostReads, HostWrites, Second, Which, both, drive, eventBuffer, hostByte, leaving, runOf, told, worldFor}
+use Rattle.independence.specs.Demand3.{EitherWay, Independent, NoUnitInCommon, NoneReadThere, NoneWrittenTwice}
+use Rattle.independence.specs.Local.{LeadsAlike}
+use Rattle.independence.specs.Reads.{HostRead}
+use Rattle.independence.proofs.Blocks.{lawful}
+use Rattle.independence.proofs.Demand3.{run-local}
+use Rattle.independence.proofs.Steps.{unnoticed}
+use Rattle.request.specs.declared.UnitNumber.the-variants.{Zero, One}
+use Rattle.worked.specs.TwoChains.{adjacent, come, driveWith, newDrive, ofFirst, ofSecond, one, readByOther, refusedData, sharedUnit, stoppedRead, tiny, two, writtenTwice, Met, Fails}
+use Rattle.worked.proofs.Carried.{Alone, Carried, alone, carried, differ, met, no-unit, no-way, none-read, none-twice, passes-at, v}
+use Rattle.worked.proofs.OneBlock.{by-block, done, failed, leaves}
+use Rattle.worked.proofs.Tiny.{counts, moveOf, read-of-one, place-is, read-stopped, unit, write-of-one}
+
+abbrev first-of : Both → Visit
+first-of s = record { at = 0; index = 0; world = worldFor First s }
+
+abbrev second-of : Both → Visit
+second-of s = record { at = 28; index = 0; world = worldFor Second s }
+
+-- 0 and 28 are good addresses in every pair.
+passes1 : (s : Both) → length (s .events1) ≡ 512 → 28 ≤ length (s .host) → Passes 0 1 (worldFor First s)
+passes1 s events inside = passes-at First s 0 events refl inside
+
+passes2 : (s : Both) → length (s .events2) ≡ 512 → 56 ≤ length (s .host) → Passes 28 1 (worldFor Second s)
+passes2 s events inside = passes-at Second s 28 events refl inside
+
+-- ---- adjacent buffers
+
+adjacent1 : Passes 0 1 (worldFor First adjacent)
+adjacent1 = passes1 adjacent refl (omega arith)
+
+adjacent2 : Passes 28 1 (worldFor Second adjacent)
+adjacent2 = passes2 adjacent refl (omega arith)
+
+adjacent-read : Carried First adjacent 0 true 56 1 1 Ended
+unfolding word taskOf
+adjacent-read =
+    carried First adjacent 0 adjacent1 7 0 refl true 56 1 refl (omega arith) (omega arith) (omega arith) 1 Ended
+    (read-of-one _ refl 56 refl)
+
+adjacent-write : Carried Second adjacent 28 false 120 1 1 Ended
+unfolding word taskOf
+adjacent-write =
+    carried Second adjacent 28 adjacent2 9 0 refl false 120 1 refl (omega arith) (omega arith) (omega arith) 1 Ended
+    (write-of-one _ refl 120)
+
+adjacent-met : Independent one two adjacent
+adjacent-met = met (adjacent-read .footprint) (adjacent-write .footprint) differ (omega arith) (omega arith) (omega arith)
+
+both-move : (ofFirst adjacent ≡ come RunAnswer.Done 0 1) × (ofSecond adjacent ≡ come RunAnswer.Done 0 1)
+both-move = (
+  ap told (done 0 _ adjacent1 refl 1 (adjacent-read .answer) (adjacent-read .sectors)),
+  ap told (done 28 _ adjacent2 refl 1 (adjacent-write .answer) (adjacent-write .sectors)),
+)
+
+-- ---- a refused block's data
+
+not-ready : CountsAsInitialized (newDrive .unit) → ⊥
+not-ready counts = no-way (sym (counts .said))
+
+refused1 : Passes 0 1 (worldFor First refusedData)
+refused1 = passes1 refusedData refl (omega arith)
+
+refused2 : Passes 28 1 (worldFor Second refusedData)
+refused2 = passes2 refusedData refl (omega arith)
+
+refused-write : verdictOf (first-of refusedData) ≡ Verdict.Refused Refusal.NotInitialized
+unfolding word taskOf
+refused-write = move-11 (record { «record» = newDrive .unit; image = 0 }) (refusedData .host) (moveOf false 0 1 28) not-ready
+
+refused-first : Alone First 0 refusedData Zero ((0, 28) ∷ []) ((2, 2) ∷ [])
+unfolding word taskOf
+refused-first =
+    alone First refusedData 0 refused1 _ refused-write [] []
+    (λ x j. ⊎-elim (λ uib. omega (arith, uib .initialize)) (λ none. none) j) (λ x d. d) (λ x report among. omega (arith, report))
+    (λ x d. d)
+
+refused-read : Carried Second refusedData 28 true 56 1 1 Ended
+unfolding word taskOf
+refused-read =
+    carried Second refusedData 28 refused2 9 0 refl true 56 1 refl (omega arith) (omega arith) (omega arith) 1 Ended
+    (read-of-one _ refl 56 refl)
+
+refused-met : Independent one two refusedData
+refused-met = met refused-first (refused-read .footprint) differ (omega arith) (omega arith) (omega arith)
+
+data-not-read :
+    (ofFirst refusedData ≡ come RunAnswer.BlockFailed 11 0) × (Among 28 64 30 × HostWrites two (worldFor Second refusedData) 30)
+data-not-read =
+    let e = effect-is (first-of refusedData) _ refused-write in (
+      ap told (failed 0 _ refused1 Refusal.NotInitialized 0 (ap (λ e. e .answer) e) (ap (λ e. e .sectors) e)),
+      (omega arith, by-block 28 _ refused2 (λ v. HostWritten v 30) (inl (omega arith))),
+    )
+
+-- ---- the rest of a stopped read
+
+stopped1 : Passes 0 1 (worldFor First stoppedRead)
+stopped1 = passes1 stoppedRead refl (omega arith)
+
+stopped2 : Passes 28 1 (worldFor Second stoppedRead)
+stopped2 = passes2 stoppedRead refl (omega arith)
+
+stopped-read : Carried First stoppedRead 0 true 56 2 1 (Failed Refusal.Unreadable)
+unfolding word taskOf
+stopped-read =
+    carried First stoppedRead 0 stopped1 7 1 refl true 56 2 refl (omega arith) (omega arith) (omega arith) 1 _
+    (read-stopped _ refl 56 refl refl)
+
+stopped-write : Carried Second stoppedRead 28 false 120 1 1 Ended
+unfolding word taskOf
+stopped-write =
+    carried Second stoppedRead 28 stopped2 9 0 refl false 120 1 refl (omega arith) (omega arith) (omega arith) 1 Ended
+    (write-of-one _ refl 120)
+
+stopped-met : Independent one two stoppedRead
+stopped-met = met (stopped-read .footprint) (stopped-write .footprint) differ (omega arith) (omega arith) (omega arith)
+
+rest-not-written :
+    (ofFirst stoppedRead ≡ come RunAnswer.BlockFailed 20 1) × (Among 56 128 120 × HostReads two (worldFor Second stoppedRead) 120)
+rest-not-written = (
+  ap told (failed 0 _ stopped1 Refusal.Unreadable 1 (stopped-read .answer) (stopped-read .sectors)),
+  (
+    omega arith,
+    by-block 28 _ stopped2 (λ v. HostRead v 120)
+        (inr (inr (_, ((_, (stopped-write .verdict, refl)), (refl, (0, (omega (arith, stopped-write .sectors), refl))))))),
+  ),
+)
+
+pub met-pairs : Met
+met-pairs =
+    record {
+      adjacent-buffers = adjacent-met;
+      both-move = both-move;
+      refused-block = refused-met;
+      data-not-read = data-not-read;
+      stopped-read = stopped-met;
+      rest-not-written = rest-not-written;
+    }
+
+-- ---- a byte that both write
+
+twice1 : Passes 0 1 (worldFor First writtenTwice)
+twice1 = passes1 writtenTwice refl (omega arith)
+
+twice2 : Passes 28 1 (worldFor Second writtenTwice)
+twice2 = passes2 writtenTwice refl (omega arith)
+
+twice-first : Carried First writtenTwice 0 true 56 1 1 Ended
+unfolding word taskOf
+twice-first =
+    carried First writtenTwice 0 twice1 7 0 refl true 56 1 refl (omega arith) (omega arith) (omega arith) 1 Ended
+    (read-of-one _ refl 56 refl)
+
+twice-second : Carried Second writtenTwice 28 true 56 1 1 Ended
+unfolding word taskOf
+twice-second =
+    carried Second writtenTwice 28 twice2 9 0 refl true 56 1 refl (omega arith) (omega arith) (omega arith) 1 Ended
+    (read-of-one _ refl 56 refl)
+
+-- Byte 56 gets the byte of the disk that was read.
+module _
+    (t : Which) (s : Both) (at : ℕ) (passes : Passes at 1 (worldFor t s)) (byte mark : ℕ)
+    (same : namedDrive (v t s at passes) ≡ driveWith byte mark) (c : Carried t s at true 56 1 1 Ended)
+  where
+    abbrev u : Visit
+    u = v t s at passes
+
+    makes-it : Makes u (transferOf (namedDrive u .unit) (jobOf (moveOf true 0 1 56) 0) (dataByte (s .host) (Buffer.Piece 56)))
+    makes-it = (_, (c .verdict, refl))
+
+    some : 0 < effectOf u .sectors * B (namedDrive u .unit .geometry)
+    some = rw (c .sectors, same) (omega arith)
+
+    wrote-56 : RunWrites at 1 (worldFor t s) 56
+    wrote-56 = by-block at _ passes (λ v. HostWritten v 56) (inr (inr (_, (makes-it, (refl, (0, (some, refl)))))))
+
+    left-56 : (Among (at + 2) 2 56 → ⊥) → 56 < length (s .host) → getD (worldLeft u .host) 56 0 ≡ byte
+    left-56 clear room =
+        disk-byte-is-there u _ makes-it refl 0 some room (λ i later less again. omega arith) clear ∙
+        rw (same, place-is 0 0, firstByte-is tiny 0)
+
+which-number : Which → ℕ
+which-number First = 0
+which-number Second = 1
+
+-- A second chain that names another unit and reads no byte that the first writes goes after the first as it goes alone.
+module _ (s : Both) (units : NoUnitInCommon one two s) (read : NoneReadThere one two s) where
+  unread : (c : Cell) → runOf First one .Writes s c → runOf Second two .Reads s c → ⊥
+  unfolding which-number
+  unread (hostByte x) w r = read x .0 w r
+  unread (drive n) w r = units n w r
+  unread (eventBuffer k) w r = omega (arith, ap which-number (w ∙ sym r))
+
+  as-alone : LeadsAlike both (runOf Second two) s (runOf First one .left s)
+  as-alone = unnoticed both lawful (runOf Second two) (runOf First one) (run-local Second two) (run-local First one) s unread
+
+wrote-first : HostWrites one (worldFor First writtenTwice) 56
+wrote-first = wrote-56 First writtenTwice 0 twice1 7 0 refl twice-first
+
+wrote-second : HostWrites two (worldFor Second writtenTwice) 56
+wrote-second = wrote-56 Second writtenTwice 28 twice2 9 0 refl twice-second
+
+units-apart : NoUnitInCommon one two writtenTwice
+units-apart = no-unit (twice-first .footprint) (twice-second .footprint) differ
+
+reads-apart : NoneReadThere one two writtenTwice
+reads-apart = none-read (twice-first .footprint) (twice-second .footprint) (omega arith) (omega arith)
+
+twice-differs : EitherWay one two writtenTwice → ⊥
+twice-differs e =
+    let s = writtenTwice in
+    let by-one : getD (runOf First one .left s .host) 56 0 ≡ 7 =
+    ap (λ w. getD (w .host) 56 0) (leaves 0 (worldFor First s) twice1 refl) ∙
+    left-56 First s 0 twice1 7 0 refl twice-first (λ among. omega arith) (omega arith) in
+    let by-two : getD (runOf Second two .left s .host) 56 0 ≡ 9 =
+    ap (λ w. getD (w .host) 56 0) (leaves 28 (worldFor Second s) twice2 refl) ∙
+    left-56 Second s 28 twice2 9 0 refl twice-second (λ among. omega arith) (omega arith) in
+    omega (
+      arith,
+      by-one,
+      by-two,
+      as-alone s units-apart reads-apart .stored (hostByte 56) wrote-second,
+      e .by-first (hostByte 56) wrote-first,
+    )
+
+-- ---- a unit in common
+
+within-tiny : Within tiny
+within-tiny = counts 0 (omega arith) .within
+
+shared1 : Passes 0 1 (worldFor First sharedUnit)
+shared1 = passes1 sharedUnit refl (omega arith)
+
+shared2 : Passes 28 1 (worldFor Second sharedUnit)
+shared2 = passes2 sharedUnit refl (omega arith)
+
+shared-initialize : verdictOf (first-of sharedUnit) ≡ Verdict.Do (Plan.Initialize tiny)
+unfolding word taskOf
+shared-initialize =
+    rw (shapeAt-inside (sharedUnit .host) 32 (omega arith))
+    (shape-given (record { «record» = newDrive .unit; image = 0 }) (sharedUnit .host) tiny within-tiny)
+
+shared-restore : verdictOf (second-of sharedUnit) ≡ Verdict.Refused Refusal.NotInitialized
+unfolding word taskOf
+shared-restore = restore-refused (record { «record» = newDrive .unit; image = 0 }) (sharedUnit .host) not-ready
+
+shared-first : Alone First 0 sharedUnit Zero ((0, 28) ∷ (32, 18) ∷ []) ((2, 2) ∷ [])
+unfolding word taskOf
+shared-first =
+    alone First sharedUnit 0 shared1 _ shared-initialize ((32, 18) ∷ []) []
+    (λ x j. ⊎-elim (λ uib. inl (uib .among)) (λ none. absurd none) j) (λ x d. absurd d)
+    (λ x report among. absurd (omega (arith, report))) (λ x d. d)
+
+shared-second : Alone Second 28 sharedUnit Zero ((28, 28) ∷ []) ((30, 2) ∷ [])
+unfolding word taskOf
+shared-second =
+    alone Second sharedUnit 28 shared2 _ shared-restore [] []
+    (λ x j. ⊎-elim (λ uib. absurd (omega (arith, uib .initialize))) (λ none. none) j) (λ x d. d)
+    (λ x report among. absurd (omega (arith, report))) (λ x d. d)
+
+-- What the initialize leaves, and the restore after it.
+abbrev initialized-world : World
+initialized-world =
+    let w = worldFor First sharedUnit in
+    let e = initialized (blockAt (w .host) 0) 0 0 tiny in
+    changed w Zero (after (e .stores) (buffersOf w Zero)) (e .unit)
+
+initialize-leaves : runOf First one .left sharedUnit ≡ leaving First sharedUnit initialized-world
+unfolding worldAfter
+initialize-leaves =
+    ap (leaving First sharedUnit)
+    (leaves 0 (worldFor First sharedUnit) shared1 refl ∙ rw (effect-is (first-of sharedUnit) _ shared-initialize))
+
+abbrev then-shared : Both
+then-shared = leaving First sharedUnit initialized-world
+
+then-passes : Passes 28 1 (worldFor Second then-shared)
+unfolding after bytesFrom
+then-passes = passes2 then-shared refl (omega arith)
+
+then-restore : verdictOf (second-of then-shared) ≡ Verdict.Do (Plan.Heads 0)
+unfolding word taskOf after bytesFrom
+then-restore = restore-done (record { «record» = unit 0; image = 0 }) (then-shared .host) (counts 0 (omega arith))
+
+then-comes : ofSecond then-shared ≡ come RunAnswer.Done 0 0
+unfolding after bytesFrom
+then-comes =
+    let e = effect-is (second-of then-shared) _ then-restore in
+    ap told (done 28 _ then-passes refl 0 (ap (λ e. e .answer) e) (ap (λ e. e .sectors) e))
+
+alone-comes : ofSecond sharedUnit ≡ come RunAnswer.BlockFailed 11 0
+alone-comes =
+    let e = effect-is (second-of sharedUnit) _ shared-restore in
+    ap told (failed 28 _ shared2 Refusal.NotInitialized 0 (ap (λ e. e .answer) e) (ap (λ e. e .sectors) e))
+
+shared-differs : EitherWay one two sharedUnit → ⊥
+shared-differs e =
+    let same = sym then-comes ∙ ap ofSecond (sym initialize-leaves) ∙ e .second ∙ alone-comes in
+    omega (arith, ap (λ t. t .failed) same)
+
+shared-unit :
+    (NoUnitInCommon one two sharedUnit → ⊥) ×
+    (NoneWrittenTwice one two sharedUnit × (NoneReadThere one two sharedUnit × (EitherWay one two sharedUnit → ⊥)))
+shared-unit = (
+  λ none. none Zero (by-block 0 _ shared1 (λ v. names v ≡ Zero) refl) (by-block 28 _ shared2 (λ v. names v ≡ Zero) refl),
+  (
+    none-twice shared-first shared-second (omega arith),
+    (none-read shared-first shared-second (omega arith) (omega arith), shared-differs),
+  ),
+)
+
+-- ---- a written byte that the other reads
+
+read1 : Passes 0 1 (worldFor First readByOther)
+read1 = passes1 readByOther refl (omega arith)
+
+read2 : Passes 28 1 (worldFor Second readByOther)
+read2 = passes2 readByOther refl (omega arith)
+
+read-report : verdictOf (first-of readByOther) ≡ Verdict.Do Plan.Report
+unfolding word taskOf
+read-report = handshake (record { «record» = unit 0; image = 130 }) (readByOther .host)
+
+read-initialize : verdictOf (second-of readByOther) ≡ Verdict.Do (Plan.Initialize tiny)
+unfolding word taskOf
+read-initialize =
+    rw (shapeAt-inside (readByOther .host) 4 (omega arith))
+    (shape-given (record { «record» = newDrive .unit; image = 0 }) (readByOther .host) tiny within-tiny)
+
+read-first : Alone First 0 readByOther Zero ((0, 28) ∷ []) ((2, 2) ∷ (4, 12) ∷ [])
+unfolding word taskOf
+read-first =
+    alone First readByOther 0 read1 _ read-report [] ((4, 12) ∷ [])
+    (λ x j. ⊎-elim (λ uib. absurd (omega (arith, uib .initialize))) (λ none. none) j) (λ x d. d) (λ x report among. inl among)
+    (λ x d. absurd d)
+
+read-second : Alone Second 28 readByOther One ((28, 28) ∷ (4, 18) ∷ []) ((30, 2) ∷ [])
+unfolding word taskOf
+read-second =
+    alone Second readByOther 28 read2 _ read-initialize ((4, 18) ∷ []) []
+    (λ x j. ⊎-elim (λ uib. inl (uib .among)) (λ none. absurd none) j) (λ x d. absurd d)
+    (λ x report among. absurd (omega (arith, report))) (λ x d. d)
+
+abbrev reported-world : World
+reported-world =
+    let w = worldFor First readByOther in
+    let e = reported (blockAt (w .host) 0) 0 0 (unit 0) in
+    changed w Zero (after (e .stores) (buffersOf w Zero)) (e .unit)
+
+report-leaves : runOf First one .left readByOther ≡ leaving First readByOther reported-world
+unfolding worldAfter
+report-leaves =
+    ap (leaving First readByOther)
+    (leaves 0 (worldFor First readByOther) read1 refl ∙ rw (effect-is (first-of readByOther) _ read-report))
+
+abbrev then-read : Both
+then-read = leaving First readByOther reported-world
+
+then-read-passes : Passes 28 1 (worldFor Second then-read)
+unfolding after bytesFrom
+then-read-passes = passes2 then-read refl (omega arith)
+
+-- The UIB now says that volume 0 has no heads.
+then-outside : verdictOf (second-of then-read) ≡ Verdict.Refused Refusal.UibOutsideLimits
+unfolding word taskOf after bytesFrom Present
+then-outside =
+    rw (shapeAt-inside (then-read .host) 4 (omega arith))
+    (shape-outside (record { «record» = newDrive .unit; image = 0 }) (then-read .host) (uibAt (then-read .host) 4)
+    (λ within. let one-head : 0 < 0 = within .volumes .one-head in omega arith))
+
+then-read-comes : ofSecond then-read ≡ come RunAnswer.BlockFailed 13 0
+then-read-comes =
+    let e = effect-is (second-of then-read) _ then-outside in
+    ap told (failed 28 _ then-read-passes Refusal.UibOutsideLimits 0 (ap (λ e. e .answer) e) (ap (λ e. e .sectors) e))
+
+read-alone-comes : ofSecond readByOther ≡ come RunAnswer.Done 0 0
+read-alone-comes =
+    let e = effect-is (second-of readByOther) _ read-initialize in
+    ap told (done 28 _ read2 refl 0 (ap (λ e. e .answer) e) (ap (λ e. e .sectors) e))
+
+read-differs : EitherWay one two readByOther → ⊥
+read-differs e =
+    let same = sym then-read-comes ∙ ap ofSecond (sym report-leaves) ∙ e .second ∙ read-alone-comes in
+    omega (arith, ap (λ t. t .failed) same)
+
+read-by-other :
+    (NoneReadThere one two readByOther → ⊥) ×
+    (NoUnitInCommon one two readByOther × (NoneWrittenTwice one two readByOther × (EitherWay one two readByOther → ⊥)))
+unfolding word
+read-by-other = (
+  λ none.
+      none 4 .0 (by-block 0 _ read1 (λ v. HostWritten v 4) (inr (inl (refl, omega arith))))
+      (by-block 28 _ read2 (λ v. HostRead v 4)
+      (inr (inl (inl (record { initialize = refl; place = omega arith; among = omega arith }))))),
+  (no-unit read-first read-second differ, (none-twice read-first read-second (omega arith), read-differs)),
+)
+
+pub failing-pairs : Fails
+failing-pairs =
+    record {
+      shared-unit = shared-unit;
+      read-by-other = read-by-other;
+      written-twice =
+          (λ none. none 56 wrote-first wrote-second, (units-apart, (reads-apart, twice-differs)));
+    }

@@ -1,0 +1,117 @@
+-- Pairs of chains for demand 3 (00): what its condition lets through, and what goes wrong where one part of it fails. In every pair the
+-- first chain is the block at 0 and the second the block at 28, each with an allowance of 1.
+use Prim.Native.Nat.{ℕ}
+use mathlib.Core.Bool.{true, false}
+use mathlib.Core.List.{List, [], _∷_, _++_}
+use mathlib.Core.Path.{_≡_}
+use lib.ListN.{replicate}
+use Rattle.wire.specs.Memory.{Among}
+use Rattle.answers.specs.declared.RunAnswer.{RunAnswer}
+use Rattle.block.specs.World.{Drive}
+use Rattle.geometry.specs.declared.Geometry.{Geometry}
+use Rattle.geometry.specs.Drive.{geometryOf, volumeOf}
+use Rattle.unit.specs.Standing.{recordOf}
+use Rattle.independence.specs.Chains.{Both, Chain, First, HostReads, HostWrites, Second, Told, runOf, worldFor}
+use Rattle.independence.specs.Demand3.{EitherWay, Independent, NoUnitInCommon, NoneReadThere, NoneWrittenTwice}
+
+-- Two cylinders with one sector of 64 bytes each; an image has 130 bytes, of which the last two are the marks.
+abbrev pub tiny : Geometry
+tiny = geometryOf 2 1 64 (volumeOf 0 1) (volumeOf 0 0)
+
+-- A drive with the heads on cylinder 0, whose data bytes are all alike, with the mark of its second sector.
+abbrev pub driveWith : ℕ → ℕ → Drive
+driveWith byte mark = record { unit = recordOf true tiny 0; image = replicate 128 byte ++ (0 ∷ mark ∷ []) }
+
+-- One that is not initialized.
+abbrev pub newDrive : Drive
+newDrive = record { unit = recordOf false tiny 0; image = [] }
+
+-- A block without link or interrupt: its command and options, the logical number of its first sector, its count, and the address of its
+-- buffer or its UIB. Options 10 are XL, and 80 is UN.
+abbrev pub block : (command options number count address : ℕ) → List ℕ
+block command options number count address =
+    command ∷ options ∷ 0 ∷ 0 ∷ 0 ∷ 0 ∷ 0 ∷ number ∷ 0 ∷ count ∷ 0 ∷ 0 ∷ 0 ∷ address ∷ replicate 14 0
+
+-- A block of which the words from 2 on are a UIB that says `tiny`, as long as nobody has written them: 1 head from head 0 on, no second
+-- volume, 1 sector, 64 bytes, 2 cylinders.
+abbrev pub overUib : (command options : ℕ) → List ℕ
+overUib command options =
+    command ∷ options ∷ 0 ∷ 0 ∷ 0 ∷ 1 ∷ 0 ∷ 0 ∷ 1 ∷ 0 ∷ 0 ∷ 64 ∷ 0 ∷ 0 ∷ 0 ∷ 0 ∷ 0 ∷ 2 ∷ replicate 10 0
+
+-- Two blocks at 0 and 28, and 128 bytes from 56 on.
+abbrev pub starting : List ℕ → List ℕ → Drive → Drive → Both
+starting one two drive0 drive1 =
+    record {
+      host = one ++ two ++ replicate 128 0;
+      drive0 = drive0;
+      drive1 = drive1;
+      events1 = replicate 512 0;
+      events2 = replicate 512 0;
+    }
+
+abbrev pub one : Chain
+one = record { first = 0; allowance = 1 }
+
+abbrev pub two : Chain
+two = record { first = 28; allowance = 1 }
+
+-- What a chain of a pair comes to, alone.
+abbrev pub ofFirst : Both → Told
+ofFirst s = runOf First one .out s
+
+abbrev pub ofSecond : Both → Told
+ofSecond s = runOf Second two .out s
+
+abbrev pub come : RunAnswer → ℕ → ℕ → Told
+come answer failed sectors = record { answer = answer; failed = failed; tally = record { blocks = 1; sectors = sectors } }
+
+-- ---- the condition is met
+
+-- A read from unit 0 to bytes 56 to 119, and a write to unit 1 of the bytes from 120 on, which is the very next: data moves on both drives.
+abbrev pub adjacent : Both
+adjacent = starting (block 0x81 0x10 0 1 56) (block 0x82 0x90 0 1 120) (driveWith 7 0) (driveWith 9 0)
+
+-- A write whose data lie over the second's block, and a read from unit 1. Unit 0 is not initialized, so the write is refused, and what it
+-- asked for is not read.
+abbrev pub refusedData : Both
+refusedData = starting (block 0x82 0x10 0 1 28) (block 0x81 0x90 0 1 56) newDrive (driveWith 9 0)
+
+-- A read of two sectors to bytes 56 to 183, stopped at the second, which is unreadable; and a write of the bytes from 120 on, where the
+-- rest would have come.
+abbrev pub stoppedRead : Both
+stoppedRead = starting (block 0x81 0x10 0 2 56) (block 0x82 0x90 0 1 120) (driveWith 7 1) (driveWith 9 0)
+
+pub record Met : Type 0 where
+  pub adjacent-buffers : Independent one two adjacent
+  pub both-move : (ofFirst adjacent ≡ come RunAnswer.Done 0 1) × (ofSecond adjacent ≡ come RunAnswer.Done 0 1)
+  pub refused-block : Independent one two refusedData
+  -- its data would have been byte 30, which the second writes
+  pub data-not-read : (ofFirst refusedData ≡ come RunAnswer.BlockFailed 11 0) × (Among 28 64 30 × HostWrites two (worldFor Second refusedData) 30)
+  pub stopped-read : Independent one two stoppedRead
+  -- its buffer has byte 120, which the second reads
+  pub rest-not-written : (ofFirst stoppedRead ≡ come RunAnswer.BlockFailed 20 1) × (Among 56 128 120 × HostReads two (worldFor Second stoppedRead) 120)
+
+-- ---- one part of it fails, and the orders differ
+
+-- An initialize and a restore, both of unit 0; the UIB stands in the second's block, where nobody writes.
+abbrev pub sharedUnit : Both
+sharedUnit = starting (block 0x87 0x00 0 0 32) (overUib 0x89 0x00) newDrive (driveWith 9 0)
+
+-- A handshake of unit 0, whose words are the UIB of the second's initialize.
+abbrev pub readByOther : Both
+readByOther = starting (overUib 0x86 0x00) (block 0x87 0x80 0 0 4) (driveWith 7 0) newDrive
+
+-- Reads from both units to bytes 56 to 119.
+abbrev pub writtenTwice : Both
+writtenTwice = starting (block 0x81 0x10 0 1 56) (block 0x81 0x90 0 1 56) (driveWith 7 0) (driveWith 9 0)
+
+pub record Fails : Type 0 where
+  pub shared-unit :
+      (NoUnitInCommon one two sharedUnit → ⊥) ×
+      (NoneWrittenTwice one two sharedUnit × (NoneReadThere one two sharedUnit × (EitherWay one two sharedUnit → ⊥)))
+  pub read-by-other :
+      (NoneReadThere one two readByOther → ⊥) ×
+      (NoUnitInCommon one two readByOther × (NoneWrittenTwice one two readByOther × (EitherWay one two readByOther → ⊥)))
+  pub written-twice :
+      (NoneWrittenTwice one two writtenTwice → ⊥) ×
+      (NoUnitInCommon one two writtenTwice × (NoneReadThere one two writtenTwice × (EitherWay one two writtenTwice → ⊥)))
