@@ -9,10 +9,9 @@ use native.Mathlib.Omega.{arith}
 use borrow.Author.Tests.{le-ltb, lt-ltb}
 use lib.Dec.{le→leb, leb→le}
 use lib.IntN.{ℤ, pos, negsuc, natAbs}
-use lib.Signed.{_≤ℤ_}
 use mir.Syntax.{w32}
 use mir.Val.{SFits}
-use Rattle.block.specs.Events.{travelTo, twosComplement}
+use Rattle.block.specs.Events.{InRange, travelTo, twosComplement}
 use Rattle.block.proofs.Complement.{complements-differ}
 
 upwards : (old new : ℕ) → old ≤ new → travelTo old new ≡ pos (new - old)
@@ -28,10 +27,6 @@ pub apart : (limit old new : ℕ) → old < limit → new < limit → natAbs (tr
 apart limit old new o n =
     by-cases (decLt new old) (λ down. rw (downwards old new down) (omega arith))
     (λ up. rw (upwards old new (omega arith)) (omega arith))
-
--- "i32 difference from −4,095 to 4,095" (01, Which places take which form)
-abbrev pub InRange : ℤ → Type 0
-InRange travel = (negsuc 4094 ≤ℤ travel) × (travel ≤ℤ pos 4095)
 
 in-range : (z : ℤ) → natAbs z < 4096 → InRange z
 in-range (pos n) h = (record { le = tt }, record { le = le→leb n 4095 (omega arith) })

@@ -1,7 +1,8 @@
--- What is asked of a block, in the reader's words: what a refusal leaves, that no mark changes, and what a stopped read leaves.
--- Each is the exact footprint, or the transfer's own law met between the 81 00 and the finish.
+-- What is asked of a block, in the reader's words: what a refusal leaves, that no mark changes, and when each answer is given.
+-- The first two are the exact footprint; a block fails only as the judgement or its transfer does, and each has its own law.
 use Prim.Native.Nat.{ℕ, _+_, _*_, _≤_, _<_}
-use mathlib.Core.Logic.{_↔_, inl, inr}
+use mathlib.Core.List.{List, _∷_, _++_}
+use mathlib.Core.Logic.{_↔_, inl, inr, ⊎-elim}
 use mathlib.Core.Path.{_≡_, refl, sym, ap, _∙_}
 use native.Mathlib.Omega.{arith}
 use lib.ListN.{getD, length}
@@ -16,17 +17,20 @@ use Rattle.judge.specs.declared.Plan.{Plan}
 use Rattle.judge.specs.declared.Plan.the-variants.{Report, Initialize, Heads, Format, Move}
 use Rattle.judge.specs.declared.Verdict.{Verdict}
 use Rattle.judge.specs.declared.Verdict.the-variants.{Refused, Do}
-use Rattle.judge.proofs.LetThrough.{format-let-through, move-let-through, refused-before-transfer}
+use Rattle.judge.specs.Checks.{Check, None}
+use Rattle.judge.specs.Verdict.{checks}
+use Rattle.judge.proofs.Exactly.{each-number}
+use Rattle.judge.proofs.LetThrough.{format-let-through, move-let-through, refused-before-transfer, row-before-transfer}
 use Rattle.request.specs.declared.UnitNumber.{UnitNumber}
 use Rattle.request.specs.declared.UnitNumber.the-variants.{Zero, One}
-use Rattle.transfer.specs.Data.{Transfer, formatting, progressOn}
+use Rattle.transfer.specs.Data.{Transfer, progressOn}
 use Rattle.transfer.specs.Progress.{InImage}
-use Rattle.transfer.proofs.Stops.{StoppedAtAMark, means-unreadable, unreadable-means}
+use Rattle.transfer.proofs.Stops.{means-unreadable, stopped-with, unreadable-means}
 use Rattle.transfer.specs.Stores.{Stored, after, imageByte}
-use Rattle.transfer.proofs.Marks.{StandsOnDrive, formatting-on-drive, moving-on-drive, no-mark-stored}
-use Rattle.block.specs.Block.{Effect, dataByte, transferOf, worldAfter}
-use Rattle.demands.specs.Footprint.{HostWritten, ImageWritten, Makes, namedDrive, makes, names, verdictOf}
-use Rattle.demands.specs.Visits.{Visit, effectOf, worldLeft}
+use Rattle.transfer.proofs.Marks.{StandsOnDrive, formatting-on-drive, moving-on-drive, never-past-the-image, no-mark-stored}
+use Rattle.block.specs.Block.{Effect, dataByte, judged, worldAfter}
+use Rattle.demands.specs.Footprint.{HostWritten, ImageWritten, Makes, Stopped, askedOf, namedDrive, makes, names, verdictOf}
+use Rattle.demands.specs.Visits.{Visit, blockOf, effectOf, worldLeft}
 use Rattle.block.specs.World.{buffersOf, changed, driveOf}
 use Rattle.demands.proofs.Keeps.{block-keeps-events, block-keeps-host, block-keeps-image}
 use Rattle.demands.proofs.Written.{data-disk, effect-is, event-written-exactly, host-written-exactly, image-written-exactly, made, reports}
@@ -114,11 +118,7 @@ module _ (v : Visit) where
       getD (driveOf (worldLeft v) (names v) .image) x 0 ≡ getD (namedDrive v .image) x 0
   no-mark-changes x from = block-keeps-image v (names v) x (λ there. no-mark x from (there .1))
 
-  -- ---- answer 20
-
-  answer-number : BlockAnswer → ℕ
-  answer-number BlockAnswer.Ended = 0
-  answer-number (BlockAnswer.Failed r) = refusalNumber r
+  -- ---- the answer
 
   transfer-answers :
       (plan : Plan) (t : Transfer) → verdictOf v ≡ Do plan → makes v plan t → effectOf v .answer ≡ progressOn (namedDrive v .image) t .answer
@@ -145,42 +145,65 @@ module _ (v : Visit) where
       long-enough (Initialize g) s is mk = absurd mk
       long-enough (Heads c) s is mk = absurd mk
 
-  abbrev Stopped : Type 0
-  Stopped = (t : Transfer) × (Makes v t × StoppedAtAMark (namedDrive v .image) t)
+  -- How a block comes to fail with an answer: the judgement refuses it so, or the transfer that it makes is stopped so.
+  data Fails (r : Refusal) : Type 0 where
+    refused : verdictOf v ≡ Refused r → Fails r
+    stopped : (t : Transfer) → Makes v t → progressOn (namedDrive v .image) t .answer ≡ BlockAnswer.Failed r → Fails r
+
+  fails : (r : Refusal) → effectOf v .answer ≡ BlockAnswer.Failed r → Fails r
+  fails r e = by-verdict (verdictOf v) refl
+    where
+      answer-is :
+          (verd : Verdict) → verdictOf v ≡ verd →
+          judged (blockOf v) (v .at) (v .index) (v .world .host) (namedDrive v) verd .answer ≡ BlockAnswer.Failed r
+      answer-is verd is = sym (ap (λ (x : Effect). x .answer) (effect-is v verd is)) ∙ e
+
+      by-verdict : (verd : Verdict) → verdictOf v ≡ verd → Fails r
+      by-verdict (Refused s) is = refused (is ∙ ap Verdict.Refused (cc (answer-is (Refused s) is)))
+      by-verdict (Do (Move j)) is = stopped _ (Move j, (is, refl)) (answer-is (Do (Move j)) is)
+      by-verdict (Do (Format s b)) is = stopped _ (Format s b, (is, refl)) (answer-is (Do (Format s b)) is)
+      by-verdict (Do Report) is = absurd (never (cc (answer-is (Do Report) is)))
+      by-verdict (Do (Initialize g)) is = absurd (never (cc (answer-is (Do (Initialize g)) is)))
+      by-verdict (Do (Heads c)) is = absurd (never (cc (answer-is (Do (Heads c)) is)))
+
+  -- 10 to 19: a block's answer is one of them exactly where the judgement refuses it so. A transfer that is stopped has 20 or 21.
+  pub refused-exactly : (r : Refusal) → refusalNumber r ≤ 19 → (effectOf v .answer ≡ BlockAnswer.Failed r) ↔ (verdictOf v ≡ Refused r)
+  refused-exactly r early = (λ e. by-way (fails r e), λ is. refusal-moves-nothing r is .1)
+    where
+      by-way : Fails r → verdictOf v ≡ Refused r
+      by-way (refused is) = is
+      by-way (stopped t mk stop) =
+          absurd (⊎-elim (λ same. omega (arith, ap refusalNumber same)) (λ same. omega (arith, ap refusalNumber same))
+          (stopped-with (namedDrive v .image) t r stop))
+
+  -- So each of 10 to 19 is "given in its stated case and no other" (00, demand 1): a row's answer is the block's exactly where its
+  -- case is given and that of no row before it, "Block answers, in order".
+  pub answered-in-its-case :
+      (before : List Check) (k : Check) (rest : List Check) → checks (askedOf v) ≡ before ++ k ∷ rest →
+      (effectOf v .answer ≡ BlockAnswer.Failed (k .answer)) ↔ (None before × k .Given)
+  answered-in-its-case before k rest is =
+      let block = refused-exactly (k .answer) (row-before-transfer (askedOf v) before k rest is .1) in
+      let judgement = each-number (askedOf v) before k rest is in
+      (λ e. judgement .0 (block .0 e), λ g. block .1 (judgement .1 g))
 
   -- 20: "unreadable sector, DE clear; earlier sectors moved", exactly where the block makes a transfer that heeds the marks and
   -- that comes to one that is not 0, all before it being 0.
-  pub answer-20-exactly : (effectOf v .answer ≡ BlockAnswer.Failed Refusal.Unreadable) ↔ Stopped
-  unfolding answer-number
-  answer-20-exactly = (by-verdict (verdictOf v) refl, by-stop)
+  pub answer-20-exactly : (effectOf v .answer ≡ BlockAnswer.Failed Refusal.Unreadable) ↔ Stopped v
+  answer-20-exactly = (λ e. by-way (fails Refusal.Unreadable e), by-stop)
     where
-      by-plan :
-          (plan : Plan) → verdictOf v ≡ Do plan → effectOf v .answer ≡ BlockAnswer.Failed Refusal.Unreadable → Stopped
-      by-plan (Move j) is e =
-          let t = transferOf (namedDrive v .unit) j (dataByte (v .world .host) (j .buffer)) in
-          (t, ((Move j, (is, refl)), unreadable-means (namedDrive v .image) t (sym (transfer-answers (Move j) t is refl) ∙ e)))
-      by-plan (Format s b) is e =
-          let t = formatting (namedDrive v .unit) s b in
-          (t, ((Format s b, (is, refl)), unreadable-means (namedDrive v .image) t (sym (transfer-answers (Format s b) t is refl) ∙ e)))
-      by-plan Report is e =
-          absurd (omega (arith, ap answer-number (sym (ap (λ (x : Effect). x .answer) (effect-is v (Do Report) is)) ∙ e)))
-      by-plan (Initialize g) is e =
-          absurd (omega (arith, ap answer-number (sym (ap (λ (x : Effect). x .answer) (effect-is v (Do (Initialize g)) is)) ∙ e)))
-      by-plan (Heads c) is e =
-          absurd (omega (arith, ap answer-number (sym (ap (λ (x : Effect). x .answer) (effect-is v (Do (Heads c)) is)) ∙ e)))
+      by-way : Fails Refusal.Unreadable → Stopped v
+      by-way (refused is) = absurd (omega (arith, refused-before-transfer _ Refusal.Unreadable is))
+      by-way (stopped t mk stop) = (t, (mk, unreadable-means (namedDrive v .image) t stop))
 
-      by-verdict :
-          (verd : Verdict) → verdictOf v ≡ verd → effectOf v .answer ≡ BlockAnswer.Failed Refusal.Unreadable → Stopped
-      by-verdict (Refused r) is e =
-          absurd
-          (omega (
-            arith,
-            refused-before-transfer _ r is,
-            ap answer-number (sym (ap (λ (x : Effect). x .answer) (effect-is v (Refused r) is)) ∙ e),
-          ))
-      by-verdict (Do plan) is e = by-plan plan is e
-
-      by-stop : Stopped → effectOf v .answer ≡ BlockAnswer.Failed Refusal.Unreadable
+      by-stop : Stopped v → effectOf v .answer ≡ BlockAnswer.Failed Refusal.Unreadable
       by-stop (t, ((plan, (is, mk)), stop)) =
           transfer-answers plan t is mk
           ∙ means-unreadable (namedDrive v .image) t (all-in-image plan t is mk (progressOn (namedDrive v .image) t .sectors) (stop .there)) stop
+
+  -- 21: "a sector past the image's end though check 17 passed". No block is answered so: where check 17 passed, no sector is.
+  pub never-21 : effectOf v .answer ≡ BlockAnswer.Failed Refusal.PastTheImage → ⊥
+  never-21 e = by-way (fails Refusal.PastTheImage e)
+    where
+      by-way : Fails Refusal.PastTheImage → ⊥
+      by-way (refused is) = omega (arith, refused-before-transfer _ Refusal.PastTheImage is)
+      by-way (stopped t (plan, (is, mk)) stop) = never-past-the-image (namedDrive v .image) t (all-in-image plan t is mk) stop

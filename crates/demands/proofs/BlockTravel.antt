@@ -4,7 +4,7 @@ use Prim.Native.Nat.{ℕ, _+_, _*_, _<_}
 use mathlib.Core.List.{List, [], _∷_, _++_}
 use mathlib.Core.Path.{_≡_, refl, ap, _∙_}
 use native.Mathlib.Omega.{arith}
-use lib.IntN.{ℤ, pos}
+use lib.IntN.{pos}
 use Rattle.answers.specs.declared.BlockAnswer.{BlockAnswer}
 use Rattle.answers.specs.Numbers.{statusOf}
 use Rattle.geometry.specs.Drive.{C, volumeSectors}
@@ -21,23 +21,15 @@ use Rattle.unit.specs.Landing.{spotOf}
 use Rattle.unit.specs.Standing.{CountsAsInitialized}
 use Rattle.unit.proofs.Laws.{spot-inside}
 use Rattle.block.specs.Block.{Effect, dataByte, transferOf}
-use Rattle.block.specs.Events.{entry, travelTo}
+use Rattle.block.specs.Events.{InRange, entry, travelTo}
 use Rattle.demands.specs.Footprint.{namedDrive, verdictOf}
-use Rattle.demands.specs.Visits.{Visit, blockOf, effectOf}
-use Rattle.block.proofs.Travel.{InRange, travel-in-range}
+use Rattle.demands.specs.Visits.{Travelled, Visit, blockOf}
+use Rattle.block.proofs.Travel.{travel-in-range}
 use Rattle.demands.proofs.Written.{between, effect-is, stages, travels}
 
 append-again : (xs ys zs : List Store) → xs ++ (ys ++ zs) ≡ xs ++ ys ++ zs
 append-again [] ys zs = refl
 append-again (x ∷ xs) ys zs = ap (λ (l : List Store). x ∷ l) (append-again xs ys zs)
-
--- A block's stores end with its entry, and the travel told there is in range.
-pub record Travelled (v : Visit) : Type 0 where
-  pub earlier : List Store
-  pub answer : BlockAnswer
-  pub travel : ℤ
-  pub stores : effectOf v .stores ≡ earlier ++ bytesFrom eventByte (8 * v .index) (entry (blockOf v) answer travel)
-  pub within : InRange travel
 
 nowhere : InRange (pos 0)
 nowhere = travel-in-range 0 0 (omega arith) (omega arith)

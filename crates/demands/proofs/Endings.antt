@@ -14,19 +14,9 @@ use Rattle.answers.specs.declared.BlockAnswer.{BlockAnswer}
 use Rattle.answers.specs.declared.BlockAnswer.the-variants.{Ended, Failed}
 use Rattle.answers.specs.declared.RunAnswer.{RunAnswer}
 use Rattle.board.specs.Chain.{Ending, Tally, counted, ends, executed, fetched, follows}
-use Rattle.demands.specs.Visits.{EndsWith, Linked, Visit, blockOf, effectOf, lastOf, leadsOn, onwards, sectorsOf, visits, worldLeft}
+use Rattle.demands.specs.Visits.{EndsWith, Linked, Told, Visit, blockOf, effectOf, leadsOn, onwards, sectorsOf, visits, worldLeft}
 use Rattle.block.specs.World.{World}
 use Rattle.board.proofs.Chains.{fetched-bad, fetched-spent}
-
--- What a chain comes to, told by the blocks that it fetches: a first one and the rest. Its counts are theirs, the last of them ends
--- it, and what that one leaves is what the chain leaves.
-pub record Told (e : Ending) (vs : List Visit) (left : ℕ) (t : Tally) (first : Visit) : Type 0 where
-  pub rest : List Visit
-  pub are : vs ≡ first ∷ rest
-  pub blocks : e .tally .blocks ≡ t .blocks + length (first ∷ rest)
-  pub sectors : e .tally .sectors ≡ t .sectors + sectorsOf (first ∷ rest)
-  pub last : EndsWith (e .answer) (e .failed) (left - length (first ∷ rest)) (lastOf first rest)
-  pub leaves : e .world ≡ worldLeft (lastOf first rest)
 
 module _ (left : ℕ) (t : Tally) (at : ℕ) (w : World) where
   abbrev pub here : Visit

@@ -16,9 +16,9 @@ use Rattle.answers.specs.declared.RunAnswer.{RunAnswer}
 use Rattle.answers.specs.declared.RunAnswer.the-variants.{Done, EventsShort, AllowanceBad, FirstBad, BlockFailed, LinkBad, AllowanceSpent}
 use Rattle.answers.specs.Numbers.{refusalNumber, runNumber}
 use Rattle.board.specs.Chain.{Ending, Tally, ends, nothing, ran}
-use Rattle.demands.specs.Visits.{EndsWith, Passes, Visit, blockOf, effectOf, fetchedBy, lastOf, passes?, sectorsOf, visits}
+use Rattle.demands.specs.Visits.{EndsWith, Passes, Told, Visit, blockOf, effectOf, fetchedBy, lastOf, passes?, sectorsOf, visits}
 use Rattle.block.specs.World.{World}
-use Rattle.demands.proofs.Endings.{Told, chain-told, visits-few}
+use Rattle.demands.proofs.Endings.{chain-told, visits-few}
 use Rattle.board.proofs.Runs.{ran-allowance-bad, ran-chain, ran-events-short, ran-first-bad}
 
 -- ---- one answer for one last block

@@ -14,9 +14,10 @@ use Rattle.judge.specs.declared.Plan.{Plan}
 use Rattle.judge.specs.declared.Plan.the-variants.{Report, Initialize, Heads, Format, Move}
 use Rattle.judge.specs.declared.Verdict.{Verdict}
 use Rattle.judge.specs.declared.Verdict.the-variants.{Refused, Do}
+use Rattle.judge.specs.Given.{Asked}
 use Rattle.judge.specs.Verdict.{verdict}
 use Rattle.request.specs.declared.UnitNumber.{UnitNumber}
-use Rattle.transfer.specs.Data.{Transfer, diskByte, formatting}
+use Rattle.transfer.specs.Data.{StoppedAtAMark, Transfer, diskByte, formatting}
 use Rattle.block.specs.Block.{dataByte, transferOf, unitAt}
 use Rattle.demands.specs.Visits.{Visit, blockOf, effectOf, fetchedBy}
 use Rattle.block.specs.World.{Drive, World, driveOf}
@@ -26,19 +27,21 @@ use Rattle.block.specs.World.{Drive, World, driveOf}
 abbrev pub names : Visit → UnitNumber
 names v = unitAt (v .world) (v .at)
 
--- The drive of that unit, and the verdict on the block.
+-- The drive of that unit, what is judged of the block, and the verdict on it.
 abbrev pub namedDrive : Visit → Drive
 namedDrive v = driveOf (v .world) (names v)
 
-abbrev pub verdictOf : Visit → Verdict
-verdictOf v =
-    verdict
-    (record {
+abbrev pub askedOf : Visit → Asked
+askedOf v =
+    record {
       task = taskOf (v .world .host) (blockOf v);
       unit = namedDrive v .unit;
       image = length (namedDrive v .image);
       host = v .world .host;
-    })
+    }
+
+abbrev pub verdictOf : Visit → Verdict
+verdictOf v = verdict (askedOf v)
 
 -- The transfer that a verdict has a block make, and whether it makes one.
 abbrev pub makes : Visit → Plan → Transfer → Type 0
@@ -50,6 +53,10 @@ makes v (Heads c) t = ⊥
 
 abbrev pub Makes : Visit → Transfer → Type 0
 Makes v t = (plan : Plan) × ((verdictOf v ≡ Do plan) × makes v plan t)
+
+-- 20, "unreadable sector, DE clear; earlier sectors moved": a mark stops the transfer that the block makes.
+abbrev pub Stopped : Visit → Type 0
+Stopped v = (t : Transfer) × (Makes v t × StoppedAtAMark (namedDrive v .image) t)
 
 -- Byte x is where a transfer has one of the bytes that it moved: in host memory, or in the image.
 abbrev pub HostData : Visit → Transfer → ℕ → Type 0

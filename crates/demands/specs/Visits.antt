@@ -1,11 +1,12 @@
 -- The blocks that a chain fetches, in their order, each with the world as it stood when it was fetched. The theorems about a run
 -- speak of these: which block was the last, what all of them read and wrote.
-use Prim.Native.Nat.{ℕ, zero, suc, _+_, _≤_, _<_}
+use Prim.Native.Nat.{ℕ, zero, suc, _+_, _-_, _*_, _≤_, _<_}
 use mathlib.Core.Bool.{Bool, true, false}
-use mathlib.Core.List.{List, [], _∷_}
+use mathlib.Core.List.{List, [], _∷_, _++_}
 use mathlib.Core.Logic.{ite, Dec·and}
 use mathlib.Core.Path.{_≡_}
 use native.Mathlib.Decide.{decLe, map-dec}
+use lib.IntN.{ℤ}
 use lib.ListN.{length}
 use Rattle.answers.specs.declared.BlockAnswer.{BlockAnswer}
 use Rattle.answers.specs.declared.BlockAnswer.the-variants.{Ended, Failed}
@@ -16,8 +17,11 @@ use Rattle.answers.specs.Numbers.{refusalNumber}
 use Rattle.iopb.specs.declared.Block.{Block}
 use Rattle.iopb.specs.Layout.{blockAt}
 use Rattle.wire.specs.Memory.{InMemory, inMemory?}
+use Rattle.transfer.specs.Stores.{Store, bytesFrom, eventByte}
 use Rattle.block.specs.Block.{Effect, effectAt, worldAfter}
+use Rattle.block.specs.Events.{InRange, entry}
 use Rattle.block.specs.World.{World}
+use Rattle.board.specs.Chain.{Ending, Tally}
 
 -- A block that was fetched: its address, how many were run before it, and the world before it.
 pub record Visit : Type 0 where
@@ -34,6 +38,14 @@ effectOf v = effectAt (v .at) (v .index) (v .world)
 
 abbrev pub worldLeft : Visit → World
 worldLeft v = worldAfter (v .at) (v .index) (v .world)
+
+-- A block's stores end with its entry, and the travel told there is in range.
+pub record Travelled (v : Visit) : Type 0 where
+  pub earlier : List Store
+  pub answer : BlockAnswer
+  pub travel : ℤ
+  pub stores : effectOf v .stores ≡ earlier ++ bytesFrom eventByte (8 * v .index) (entry (blockOf v) answer travel)
+  pub within : InRange travel
 
 -- "running it with LK set and status 80 leads to fetching the next"; "A failed block's link isn't followed".
 abbrev pub onwards : BlockAnswer → Bool → List Visit → List Visit
@@ -115,3 +127,13 @@ EndsWith AllowanceSpent failed left v =
 EndsWith EventsShort failed left v = ⊥
 EndsWith AllowanceBad failed left v = ⊥
 EndsWith FirstBad failed left v = ⊥
+
+-- What a chain comes to, told by the blocks that it fetches: a first one and the rest. Its counts are theirs, the last of them ends
+-- it, and what that one leaves is what the chain leaves.
+pub record Told (e : Ending) (vs : List Visit) (left : ℕ) (t : Tally) (first : Visit) : Type 0 where
+  pub rest : List Visit
+  pub are : vs ≡ first ∷ rest
+  pub blocks : e .tally .blocks ≡ t .blocks + length (first ∷ rest)
+  pub sectors : e .tally .sectors ≡ t .sectors + sectorsOf (first ∷ rest)
+  pub last : EndsWith (e .answer) (e .failed) (left - length (first ∷ rest)) (lastOf first rest)
+  pub leaves : e .world ≡ worldLeft (lastOf first rest)

@@ -1,7 +1,7 @@
 -- What an accepted request is known to be: nothing was refused, so every check's case is excluded, and the plan is the task's own.
 -- A plan to move or to format comes from one kind of task alone.
 use Prim.Native.Nat.{ℕ, _+_, _*_, _≤_, _<_}
-use mathlib.Core.List.{List, [], _∷_}
+use mathlib.Core.List.{List, [], _∷_, _++_}
 use mathlib.Core.Logic.{by-cases, if-neg, if-pos}
 use mathlib.Core.Path.{_≡_, refl, sym, ap, subst, _∙_}
 use native.Mathlib.Omega.{arith}
@@ -37,7 +37,7 @@ use Rattle.judge.specs.declared.Verdict.{Verdict}
 use Rattle.judge.specs.Checks.{Check, None, first}
 use Rattle.judge.specs.Decided.{covers?}
 use Rattle.judge.specs.Given.{Asked, BadList, BadRange, Covers, numberOf}
-use Rattle.judge.specs.Verdict.{checks, found, jobOf, planOf, verdict}
+use Rattle.judge.specs.Verdict.{checks, found, jobOf, verdict}
 
 no-refusal : {r : Refusal} {p : Plan} → Verdict.Refused r ≡ Verdict.Do p → ⊥
 no-refusal e = impossible cc
@@ -187,13 +187,31 @@ refused-by P (k ∷ ks) p r all e =
     (λ given. subst P (answer-is (k .answer) r (sym (if-pos (k .given?) given _ _) ∙ e)) (all .0))
     (λ out. refused-by P ks p r (all .1) (sym (if-neg (k .given?) out _ _) ∙ e))
 
--- So it is one of 10 to 19: the judgement knows no others.
-pub refused-before-transfer : (a : Asked) (r : Refusal) → verdict a ≡ Verdict.Refused r → (10 ≤ refusalNumber r) × (refusalNumber r ≤ 19)
-unfolding verdict AllAnswers
-refused-before-transfer a r e =
-    refused-by (λ s. (10 ≤ refusalNumber s) × (refusalNumber s ≤ 19)) (checks a) _ r
+-- And each check's answer is one of theirs.
+of-row : (P : Refusal → Type 0) (before : List Check) (k : Check) (after : List Check) → AllAnswers P (before ++ k ∷ after) → P (k .answer)
+unfolding AllAnswers
+of-row P [] k after all = all .0
+of-row P (x ∷ xs) k after all = of-row P xs k after (all .1)
+
+-- They are 10 to 19.
+abbrev BeforeTransfer : Refusal → Type 0
+BeforeTransfer r = (10 ≤ refusalNumber r) × (refusalNumber r ≤ 19)
+
+rows-before-transfer : (a : Asked) → AllAnswers BeforeTransfer (checks a)
+unfolding AllAnswers
+rows-before-transfer a =
     ((omega arith), ((omega arith), ((omega arith), ((omega arith), ((omega arith), ((omega arith), ((omega arith), ((omega arith), ((omega arith), ((omega arith), tt))))))))))
-    e
+
+-- So a refusal is one of 10 to 19, the judgement knows no others; and so is the answer of every row.
+pub refused-before-transfer : (a : Asked) (r : Refusal) → verdict a ≡ Verdict.Refused r → (10 ≤ refusalNumber r) × (refusalNumber r ≤ 19)
+unfolding verdict
+refused-before-transfer a r e = refused-by BeforeTransfer (checks a) _ r (rows-before-transfer a) e
+
+pub row-before-transfer :
+    (a : Asked) (before : List Check) (k : Check) (after : List Check) → checks a ≡ before ++ k ∷ after →
+    (10 ≤ refusalNumber (k .answer)) × (refusalNumber (k .answer) ≤ 19)
+row-before-transfer a before k after is =
+    of-row BeforeTransfer before k after (subst (AllAnswers BeforeTransfer) is (rows-before-transfer a))
 
 -- ---- a plan that moves the heads
 

@@ -1,9 +1,9 @@
 -- Answer 20 in its case: a transfer that was stopped as unreadable heeds the marks, and the sector that stopped it is the first
--- whose mark is not 0. The fate of each sector says which it was.
+-- whose mark is not 0. The fate of each sector says which it was, and that 20 and 21 are all the answers that stop a transfer.
 use Prim.Native.Nat.{ℕ, zero, suc, _+_, _<_}
 use mathlib.Core.Bool.{Bool, true, false, cond}
 use mathlib.Core.List.{List}
-use mathlib.Core.Logic.{by-cases, if-neg, if-pos}
+use mathlib.Core.Logic.{_⊎_, by-cases, if-neg, if-pos, inl, inr}
 use mathlib.Core.Path.{_≡_, refl, sym, ap, _∙_}
 use native.Mathlib.Nat.{zero-add}
 use native.Mathlib.Omega.{arith}
@@ -15,7 +15,7 @@ use Rattle.answers.specs.declared.Refusal.{Refusal}
 use Rattle.answers.specs.Numbers.{refusalNumber}
 use Rattle.geometry.specs.declared.Geometry.{Geometry}
 use Rattle.geometry.specs.Sectors.{markByte}
-use Rattle.transfer.specs.Data.{Transfer, progressOn}
+use Rattle.transfer.specs.Data.{StoppedAtAMark, Transfer, progressOn}
 use Rattle.transfer.specs.Progress.{Fate, InImage, fateAt, inImage?, moves, onward, progress, stops}
 use Rattle.transfer.proofs.Progress.{Counts, progress-counts, progress-moved}
 
@@ -65,6 +65,19 @@ module _ (image : List ℕ) (g : Geometry) (place : ℕ) where
       by-heeds true e same = (e, by-mark (eqb mark 0) refl same)
       by-heeds false e same = absurd (omega (arith, ap fate-number same))
 
+  -- A sector that stops a transfer is unreadable or past the image's end: no other answer is a sector's.
+  stop-fate : (heeds : Bool) (r : Refusal) → fateAt image g heeds place ≡ stops r → (r ≡ Refusal.Unreadable) ⊎ (r ≡ Refusal.PastTheImage)
+  unfolding fateAt
+  stop-fate heeds r is =
+      by-cases (inImage? g (length image) place)
+      (λ in-it. inl (by-value heeds (eqb mark 0) (sym (if-pos (inImage? g (length image) place) in-it _ _) ∙ is)))
+      (λ out. inr (cc (sym (if-neg (inImage? g (length image) place) out _ _) ∙ is)))
+    where
+      by-value : (h good : Bool) → cond h (cond good moves (stops Refusal.Unreadable)) moves ≡ stops r → r ≡ Refusal.Unreadable
+      by-value true true same = cc
+      by-value true false same = cc
+      by-value false good same = cc
+
   moved-fate : fateAt image g true place ≡ moves → mark ≡ 0
   unfolding fateAt fate-number
   moved-fate is =
@@ -82,12 +95,13 @@ module _ (image : List ℕ) (g : Geometry) (place : ℕ) where
   marked-fate heeds in-it heeded bad =
       if-pos (inImage? g (length image) place) in-it _ _ ∙ rw (heeded, ne-eqb mark 0 bad)
 
--- A transfer stopped as unreadable: it heeds the marks, j sectors were moved, all of them good, and the next is there and is not.
-pub record StoppedAtAMark (image : List ℕ) (t : Transfer) : Type 0 where
-  pub heeds : t .heeds ≡ true
-  pub there : progressOn image t .sectors < t .count
-  pub bad : getD image (markByte (t .geometry) (t .place (progressOn image t .sectors))) 0 ≡ 0 → ⊥
-  pub good : (j : ℕ) → j < progressOn image t .sectors → getD image (markByte (t .geometry) (t .place j)) 0 ≡ 0
+-- So a transfer that is stopped has 20 or 21.
+pub stopped-with :
+    (image : List ℕ) (t : Transfer) (r : Refusal) →
+    progressOn image t .answer ≡ BlockAnswer.Failed r → (r ≡ Refusal.Unreadable) ⊎ (r ≡ Refusal.PastTheImage)
+stopped-with image t r is =
+    stop-fate image (t .geometry) (t .place (progressOn image t .sectors)) (t .heeds) r
+    (stopped-there (λ j. fateAt image (t .geometry) (t .heeds) (t .place j)) 0 (t .count) r is)
 
 pub unreadable-means :
     (image : List ℕ) (t : Transfer) → progressOn image t .answer ≡ BlockAnswer.Failed Refusal.Unreadable → StoppedAtAMark image t

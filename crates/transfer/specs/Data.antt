@@ -1,11 +1,13 @@
 -- The data of a block: which bytes its transfer moves (01, One run: 81, 82, A1, A2 and 8C).
-use Prim.Native.Nat.{ℕ, _+_, _*_, _/_, _%_}
-use mathlib.Core.Bool.{Bool, false, not, cond, _&&_}
+use Prim.Native.Nat.{ℕ, _+_, _*_, _/_, _%_, _<_}
+use mathlib.Core.Bool.{Bool, true, false, not, cond, _&&_}
 use mathlib.Core.List.{List}
+use mathlib.Core.Path.{_≡_}
+use lib.ListN.{getD}
 use Rattle.geometry.specs.declared.Geometry.{Geometry}
 use Rattle.geometry.specs.declared.VolumeNumber.{VolumeNumber}
 use Rattle.geometry.specs.Drive.{B, S}
-use Rattle.geometry.specs.Sectors.{firstByte}
+use Rattle.geometry.specs.Sectors.{firstByte, markByte}
 use Rattle.unit.specs.declared.Record.{Record}
 use Rattle.unit.specs.declared.Spot.{Spot}
 use Rattle.unit.specs.Landing.{spotOf}
@@ -74,3 +76,11 @@ moveAt t k = move (t .to-host) (diskByte (t .geometry) (t .place) k) (t .host-by
 
 unfoldable pub dataOn : List ℕ → Transfer → List Store
 dataOn image t = upTo (progressOn image t .sectors * B (t .geometry)) (moveAt t)
+
+-- 20, "unreadable sector, DE clear; earlier sectors moved": the transfer heeds the marks, the sectors that it moved are all good,
+-- and the next is there and is not.
+pub record StoppedAtAMark (image : List ℕ) (t : Transfer) : Type 0 where
+  pub heeds : t .heeds ≡ true
+  pub there : progressOn image t .sectors < t .count
+  pub bad : getD image (markByte (t .geometry) (t .place (progressOn image t .sectors))) 0 ≡ 0 → ⊥
+  pub good : (j : ℕ) → j < progressOn image t .sectors → getD image (markByte (t .geometry) (t .place j)) 0 ≡ 0
