@@ -11,13 +11,13 @@ use Rattle.abi.proofs.vsmd_record_len.Reads as record-len
 use Rattle.abi.proofs.vsmd_run.Reads as run
 
 vsmd-layout-version-once : OneResult layout-version.Post
-vsmd-layout-version-once κ a e x y p q = p ∙ sym q
+vsmd-layout-version-once κ a x y e f p q = p ∙ sym q
 
 vsmd-record-len-once : OneResult record-len.Post
-vsmd-record-len-once κ a e x y p q = p ∙ sym q
+vsmd-record-len-once κ a x y e f p q = p ∙ sym q
 
 vsmd-outcome-len-once : OneResult outcome-len.Post
-vsmd-outcome-len-once κ a e x y p q = p ∙ sym q
+vsmd-outcome-len-once κ a x y e f p q = p ∙ sym q
 
 vsmd-run-once :
     OneOutcome run.Post

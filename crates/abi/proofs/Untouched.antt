@@ -1,5 +1,5 @@
--- "Record bytes are stored only where an accepted block changed the record": the bytes of any other come back as they were, also from a
--- call that is refused. A run keeps the record of a unit of which it writes none, and a record that is the same is left as it came.
+-- The bytes of a record are stored only where a block changed the record: those of any other come back as they were, also from a call
+-- that is refused. A run keeps the record of a unit of which it writes none, and a record that is the same is left as it came.
 use Prim.Native.Nat.{ℕ}
 use mathlib.Core.Logic.{by-cases}
 use mathlib.Core.Path.{_≡_, refl, sym}

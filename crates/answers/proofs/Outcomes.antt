@@ -8,13 +8,13 @@ use Rattle.answers.proofs.BlockAnswer.number.Reads as block-number
 use Rattle.answers.proofs.BlockAnswer.status.Reads as status
 
 run-number-once : OneResult run-number.Post
-run-number-once κ a e x y p q = p ∙ sym q
+run-number-once κ a x y e f p q = p ∙ sym q
 
 refusal-number-once : OneResult refusal-number.Post
-refusal-number-once κ a e x y p q = p ∙ sym q
+refusal-number-once κ a x y e f p q = p ∙ sym q
 
 block-number-once : OneResult block-number.Post
-block-number-once κ a e x y p q = p ∙ sym q
+block-number-once κ a x y e f p q = p ∙ sym q
 
 status-once : OneResult status.Post
-status-once κ a e x y p q = p ∙ sym q
+status-once κ a x y e f p q = p ∙ sym q

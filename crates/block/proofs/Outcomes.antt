@@ -12,7 +12,7 @@ use Rattle.block.proofs.events.travel.Reads as travel
 use Rattle.block.proofs.run_block.Reads as run-block
 
 travel-once : OneResult travel.Post
-travel-once κ a e x y p q = p ∙ sym q
+travel-once κ a x y e f p q = p ∙ sym q
 
 put-event-once : OneOutcome put-event.Post (λ κ x e. now (e .0))
 put-event-once κ a x y e f p q = p ∙ sym q

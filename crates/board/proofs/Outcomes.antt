@@ -22,7 +22,7 @@ use Rattle.board.proofs.inspection.inspect.Reads as inspect
 use Rattle.board.proofs.inspection.part_of.Reads as part-of
 
 part-of-once : OneResult part-of.Post
-part-of-once κ a e x y p q = p ∙ sym q
+part-of-once κ a x y e f p q = p ∙ sym q
 
 -- The part that is handed back, by its bytes.
 inspect-once : OneOutcome inspect.Post (λ κ x e. now x)

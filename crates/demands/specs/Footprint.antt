@@ -1,6 +1,6 @@
--- What a block reads and writes (01, One run: "Host bytes read, for demand 3" and "Written"), and what all blocks of a run do.
--- Read is what 01's list says. Written is proved to be what some store has as its target (proofs/Written): "A byte stored with the
--- number it already had is written." Lengths are looked at too, and are no bytes. What is read of an image 01 does not list.
+-- Which unit a block names and what it writes (01, One run: "Written"), and what all blocks of a run do. Written is proved to be what
+-- some store has as its target (proofs/Written): "A byte stored with the number it already had is written." What a block reads of host
+-- memory is defined with demand 3.
 use Prim.Native.Nat.{ℕ, _+_, _*_, _<_}
 use mathlib.Core.Bool.{true, false}
 use mathlib.Core.List.{List, [], _∷_}

@@ -27,67 +27,67 @@ use Rattle.geometry.proofs.Volume.same.Reads as volume-same
 use Rattle.geometry.proofs.Volume.start_head.Reads as volume-start-head
 
 address-once : OneResult address.Post
-address-once κ a e x y p q = p ∙ sym q
+address-once κ a x y e f p q = p ∙ sym q
 
 bytes-a-sector-once : OneResult bytes-a-sector.Post
-bytes-a-sector-once κ a e x y p q = p ∙ sym q
+bytes-a-sector-once κ a x y e f p q = p ∙ sym q
 
 cylinders-once : OneResult cylinders.Post
-cylinders-once κ a e x y p q = p ∙ sym q
+cylinders-once κ a x y e f p q = p ∙ sym q
 
 default-once : OneResult default.Post
-default-once κ a e x y p q = p ∙ sym q
+default-once κ a x y e f p q = p ∙ sym q
 
 drive-sectors-once : OneResult drive-sectors.Post
-drive-sectors-once κ a e x y p q = p .0 ∙ sym (q .0)
+drive-sectors-once κ a x y e f p q = p .0 ∙ sym (q .0)
 
 heads-once : OneResult heads.Post
-heads-once κ a e x y p q = p ∙ sym q
+heads-once κ a x y e f p q = p ∙ sym q
 
 is-within-once : OneResult is-within.Post
-is-within-once κ a e x y p q = says-once x y _ p q
+is-within-once κ a x y e f p q = says-once x y _ p q
 
 marks-at-once : OneResult marks-at.Post
-marks-at-once κ a e x y p q = p ∙ sym q
+marks-at-once κ a x y e f p q = p ∙ sym q
 
 need-once : OneResult need.Post
-need-once κ a e x y p q = p ∙ sym q
+need-once κ a x y e f p q = p ∙ sym q
 
 new-once : OneResult new.Post
-new-once κ a e x y p q = p ∙ sym q
+new-once κ a x y e f p q = p ∙ sym q
 
 number-once : OneResult number.Post
-number-once κ a e x y p q = p ∙ sym q
+number-once κ a x y e f p q = p ∙ sym q
 
 place-once : OneResult place.Post
-place-once κ a e x y p q = p ∙ sym q
+place-once κ a x y e f p q = p ∙ sym q
 
 same-once : OneResult same.Post
-same-once κ a e x y p q = says-once x y _ p q
+same-once κ a x y e f p q = says-once x y _ p q
 
 sector-once : OneResult sector.Post
-sector-once κ a e x y p q = p ∙ sym q
+sector-once κ a x y e f p q = p ∙ sym q
 
 sectors-a-track-once : OneResult sectors-a-track.Post
-sectors-a-track-once κ a e x y p q = p ∙ sym q
+sectors-a-track-once κ a x y e f p q = p ∙ sym q
 
 volume-once : OneResult volume.Post
-volume-once κ a e x y p q = p ∙ sym q
+volume-once κ a x y e f p q = p ∙ sym q
 
 volume-sectors-once : OneResult volume-sectors.Post
-volume-sectors-once κ a e x y p q = p ∙ sym q
+volume-sectors-once κ a x y e f p q = p ∙ sym q
 
 volume-heads-once : OneResult volume-heads.Post
-volume-heads-once κ a e x y p q = p ∙ sym q
+volume-heads-once κ a x y e f p q = p ∙ sym q
 
 volume-is-present-once : OneResult volume-is-present.Post
-volume-is-present-once κ a e x y p q = says-once x y _ p q
+volume-is-present-once κ a x y e f p q = says-once x y _ p q
 
 volume-new-once : OneResult volume-new.Post
-volume-new-once κ a e x y p q = p ∙ sym q
+volume-new-once κ a x y e f p q = p ∙ sym q
 
 volume-same-once : OneResult volume-same.Post
-volume-same-once κ a e x y p q = says-once x y _ p q
+volume-same-once κ a x y e f p q = says-once x y _ p q
 
 volume-start-head-once : OneResult volume-start-head.Post
-volume-start-head-once κ a e x y p q = p ∙ sym q
+volume-start-head-once κ a x y e f p q = p ∙ sym q

@@ -11,22 +11,22 @@ use Rattle.iopb.proofs.Options.of.Reads as options-of
 use Rattle.iopb.proofs.uib.Reads as uib
 
 block-read-once : OneResult block-read.Post
-block-read-once κ a e x y p q = p ∙ sym q
+block-read-once κ a x y e f p q = p ∙ sym q
 
 element-read-once : OneResult element-read.Post
-element-read-once κ a e x y p q = p ∙ sym q
+element-read-once κ a x y e f p q = p ∙ sym q
 
 error-byte-once : OneResult error-byte.Post
-error-byte-once κ a e x y p q = p ∙ sym q
+error-byte-once κ a x y e f p q = p ∙ sym q
 
 identity-once : OneResult identity.Post
-identity-once κ a e x y p q = p ∙ sym q
+identity-once κ a x y e f p q = p ∙ sym q
 
 options-of-once : OneResult options-of.Post
-options-of-once κ a e x y p q = p ∙ sym q
+options-of-once κ a x y e f p q = p ∙ sym q
 
 request-once : OneResult request.Post
-request-once κ a e x y p q = p ∙ sym q
+request-once κ a x y e f p q = p ∙ sym q
 
 uib-once : OneResult uib.Post
-uib-once κ a e x y p q = p ∙ sym q
+uib-once κ a x y e f p q = p ∙ sym q

@@ -44,7 +44,7 @@ moveOf b to-host buffer =
 abbrev pub trackOf : Block → Track
 trackOf b = record { cylinder = b .cylinder; head = b .head; buffer = b .address }
 
--- A UIB is 18 bytes, read where they lie in host memory; elsewhere it is "misplaced", which check 12 says of a "UIB address odd or
+-- A UIB is 18 bytes, read where they lie in host memory; elsewhere it is misplaced, which check 12 says of a "UIB address odd or
 -- UIB not wholly in host memory".
 unfoldable pub shapeAt : List ℕ → ℕ → Shape
 shapeAt host at = ite (inMemory? host at 18) (Shape.Given (uibAt host at)) Shape.Misplaced

@@ -5,4 +5,4 @@ use Rattle.wire.specs.Promise.{OneResult}
 use Rattle.judge.proofs.judge.Reads as judge
 
 judge-once : OneResult judge.Post
-judge-once κ a e x y p q = p ∙ sym q
+judge-once κ a x y e f p q = p ∙ sym q

@@ -23,7 +23,7 @@ listing-once host at n bytes Good Misplaced p q = absurd (q .1 (p .1))
 listing-once host at n bytes Good Good p q = refl
 
 list-once : OneResult list.Post
-list-once κ a e x y p q = listing-once _ _ _ _ x y p q
+list-once κ a x y e f p q = listing-once _ _ _ _ x y p q
 
 copy-out-once : OneResult copy-out.Post
-copy-out-once κ a e x y p q = p ∙ sym q
+copy-out-once κ a x y e f p q = p ∙ sym q

@@ -9,10 +9,10 @@ use Rattle.transcript.proofs.start.Reads as start
 use Rattle.transcript.proofs.step.Reads as step
 
 start-once : OneResult start.Post
-start-once κ a e x y p q = p ∙ sym q
+start-once κ a x y e f p q = p ∙ sym q
 
 wanted-once : OneResult wanted.Post
-wanted-once κ a e x y p q = p ∙ sym q
+wanted-once κ a x y e f p q = p ∙ sym q
 
 -- What a caller of a step sees: the answer, with the state in it, and every byte of the four buffers.
 step-once :

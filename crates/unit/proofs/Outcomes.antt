@@ -15,31 +15,31 @@ use Rattle.unit.proofs.Record.number.Reads as number
 use Rattle.unit.proofs.Record.same.Reads as same
 
 counts-as-initialized-once : OneResult counts-as-initialized.Post
-counts-as-initialized-once κ a e x y p q = says-once x y _ p q
+counts-as-initialized-once κ a x y e f p q = says-once x y _ p q
 
 cylinder-once : OneResult cylinder.Post
-cylinder-once κ a e x y p q = p ∙ sym q
+cylinder-once κ a x y e f p q = p ∙ sym q
 
 geometry-once : OneResult geometry.Post
-geometry-once κ a e x y p q = p ∙ sym q
+geometry-once κ a x y e f p q = p ∙ sym q
 
 initialized-once : OneResult initialized.Post
-initialized-once κ a e x y p q = p ∙ sym q
+initialized-once κ a x y e f p q = p ∙ sym q
 
 land-once : OneResult land.Post
-land-once κ a e x y p q = p ∙ sym q
+land-once κ a x y e f p q = p ∙ sym q
 
 land-track-once : OneResult land-track.Post
-land-track-once κ a e x y p q = p ∙ sym q
+land-track-once κ a x y e f p q = p ∙ sym q
 
 moved-to-once : OneResult moved-to.Post
-moved-to-once κ a e x y p q = p ∙ sym q
+moved-to-once κ a x y e f p q = p ∙ sym q
 
 new-once : OneResult new.Post
-new-once κ a e x y p q = p ∙ sym q
+new-once κ a x y e f p q = p ∙ sym q
 
 number-once : OneResult number.Post
-number-once κ a e x y p q = p ∙ sym q
+number-once κ a x y e f p q = p ∙ sym q
 
 same-once : OneResult same.Post
-same-once κ a e x y p q = says-once x y _ p q
+same-once κ a x y e f p q = says-once x y _ p q

@@ -14,7 +14,7 @@ use Rattle.unit.specs.declared.Record.{Record}
 use Rattle.unit.specs.declared.Spot.{Spot}
 pub mod Behind
 
--- A sector of the drive: its cylinder, "the place in the image", and the sectors from it to the end of its track.
+-- A sector of the drive: its cylinder, its "place in the image", and the sectors from it to the end of its track.
 pub spotAt : Geometry → Address → Spot
 spotAt g a = record { cylinder = a .cylinder; place = placeOf g a; rest = S g - a .sector }
 

@@ -12,10 +12,10 @@ use Rattle.wire.proofs.put16.Reads as put16
 use Rattle.wire.proofs.put32.Reads as put32
 
 be16-once : OneResult be16.Post
-be16-once κ a e x y p q = p ∙ sym q
+be16-once κ a x y e f p q = p ∙ sym q
 
 be32-once : OneResult be32.Post
-be32-once κ a e x y p q = p ∙ sym q
+be32-once κ a x y e f p q = p ∙ sym q
 
 put16-once : OneOutcome put16.Post (λ κ x e. now (e .0))
 put16-once κ a x y e f p q = p ∙ sym q
@@ -27,4 +27,4 @@ copy-once : OneOutcome copy.Post (λ κ x e. now (e .1 .1 .0))
 copy-once κ a x y e f p q = p ∙ sym q
 
 holds-once : OneResult holds.Post
-holds-once κ a e x y p q = says-once x y _ p q
+holds-once κ a x y e f p q = says-once x y _ p q

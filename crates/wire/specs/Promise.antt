@@ -14,7 +14,7 @@ abbrev pub OneResult {ℓ₀ ℓ₁ ℓ₂ ℓ₃} :
     ((κ : K) → A κ → R κ → E κ → Type 0) →
     Type (ℓ₀ ⊔ ℓ₁ ⊔ ℓ₂ ⊔ ℓ₃)
 OneResult {K} {A} {R} {E} Post =
-    (κ : K) (a : A κ) (e : E κ) (x y : R κ) → Post κ a x e → Post κ a y e → x ≡ y
+    (κ : K) (a : A κ) (x y : R κ) (e f : E κ) → Post κ a x e → Post κ a y f → x ≡ y
 
 -- The same of all that a caller can see of an outcome, its lent bytes among it: `seen` says what that is.
 abbrev pub OneOutcome {ℓ₀ ℓ₁ ℓ₂ ℓ₃} :
