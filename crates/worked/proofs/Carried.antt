@@ -9,6 +9,8 @@ use native.Mathlib.Omega.{arith}
 use lib.ListN.{length}
 use Rattle.wire.specs.Memory.{Among, InMemory}
 use Rattle.answers.specs.declared.BlockAnswer.{BlockAnswer}
+use Rattle.answers.specs.declared.BlockAnswer.the-variants.{Ended, Failed}
+use Rattle.answers.specs.declared.Refusal.{Refusal}
 use Rattle.iopb.specs.Ask.{taskOf}
 use Rattle.judge.specs.declared.Plan.{Plan}
 use Rattle.judge.specs.declared.Verdict.{Verdict}
@@ -29,7 +31,7 @@ use Rattle.request.specs.declared.UnitNumber.{UnitNumber}
 use Rattle.request.specs.declared.UnitNumber.the-variants.{Zero, One}
 use Rattle.worked.specs.TwoChains.{come, driveWith, one, two}
 use Rattle.worked.proofs.OneBlock.{Apart, DataBy, In, none-in-both, of-block, reads-in, writes-in}
-use Rattle.worked.proofs.Tiny.{carriedOn, move-passes, moveOf}
+use Rattle.worked.proofs.Tiny.{carriedOn, move-passes, moveOf, read-of-one, read-stopped, write-of-one}
 
 pub passes-at :
     (t : Which) (s : Both) (at : ℕ) → length (eventsOf s t) ≡ 512 → at % 2 ≡ 0 → at + 28 ≤ length (s .host) → Passes at 1 (worldFor t s)
@@ -154,7 +156,7 @@ module _
       ranged true false x among is = absurd (no-way is)
       ranged false true x among is = absurd (no-way (sym is))
 
-    pub carried :
+    carried :
         (n : ℕ) (a : BlockAnswer) →
         carriedOn (driveWith byte mark .image) refl buffer to-host count ≡ record { sectors = n; answer = a } →
         Carried t s at to-host buffer count n a
@@ -171,3 +173,25 @@ module _
               (λ x report among. absurd (no-other (s .host) (blockOf b) _ task (inl report)))
               (λ x d. ranged n moved to-host true x (λ same. there n moved true x d) (d .0));
         }
+
+-- The transfers of one sector, and the read of two that a mark stops.
+module _
+    (t : Which) (s : Both) (at : ℕ) (passes : Passes at 1 (worldFor t s)) (byte mark : ℕ)
+    (same : namedDrive (v t s at passes) ≡ driveWith byte mark) (buffer : ℕ)
+  where
+    abbrev Asks : Bool → ℕ → Type 0
+    Asks to-host count = taskOf (s .host) (blockOf (v t s at passes)) ≡ Task.Move (moveOf to-host 0 count buffer)
+
+    pub read-carried : Asks true 1 → InMemory (s .host) buffer 64 → Carried t s at true buffer 1 1 Ended
+    read-carried task held =
+        carried t s at passes byte mark same true buffer 1 task (omega arith) (omega arith) held 1 Ended (read-of-one _ refl buffer refl)
+
+    pub write-carried : Asks false 1 → InMemory (s .host) buffer 64 → Carried t s at false buffer 1 1 Ended
+    write-carried task held =
+        carried t s at passes byte mark same false buffer 1 task (omega arith) (omega arith) held 1 Ended (write-of-one _ refl buffer)
+
+    pub read-stopped-carried :
+        mark ≡ 1 → Asks true 2 → InMemory (s .host) buffer 128 → Carried t s at true buffer 2 1 (Failed Refusal.Unreadable)
+    read-stopped-carried bad task held =
+        carried t s at passes byte mark same true buffer 2 task (omega arith) (omega arith) held 1 _
+        (read-stopped _ refl buffer refl bad)

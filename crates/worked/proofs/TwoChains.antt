@@ -40,9 +40,9 @@ use Rattle.independence.proofs.Demand3.{run-local}
 use Rattle.independence.proofs.Steps.{unnoticed}
 use Rattle.request.specs.declared.UnitNumber.the-variants.{Zero, One}
 use Rattle.worked.specs.TwoChains.{adjacent, come, driveWith, newDrive, ofFirst, ofSecond, one, readByOther, refusedData, sharedUnit, stoppedRead, tiny, two, writtenTwice, Met, Fails}
-use Rattle.worked.proofs.Carried.{Alone, Carried, alone, carried, differ, met, no-unit, no-way, none-read, none-twice, passes-at, v}
+use Rattle.worked.proofs.Carried.{Alone, Carried, alone, differ, met, no-unit, no-way, none-read, none-twice, passes-at, read-carried, read-stopped-carried, v, write-carried}
 use Rattle.worked.proofs.OneBlock.{by-block, done, failed, leaves}
-use Rattle.worked.proofs.Tiny.{counts, moveOf, read-of-one, place-is, read-stopped, unit, write-of-one}
+use Rattle.worked.proofs.Tiny.{counts, moveOf, place-is, unit}
 
 abbrev first-of : Both → Visit
 first-of s = record { at = 0; index = 0; world = worldFor First s }
@@ -67,15 +67,11 @@ adjacent2 = passes2 adjacent refl (omega arith)
 
 adjacent-read : Carried First adjacent 0 true 56 1 1 Ended
 unfolding word taskOf
-adjacent-read =
-    carried First adjacent 0 adjacent1 7 0 refl true 56 1 refl (omega arith) (omega arith) (omega arith) 1 Ended
-    (read-of-one _ refl 56 refl)
+adjacent-read = read-carried First adjacent 0 adjacent1 7 0 refl 56 refl (omega arith)
 
 adjacent-write : Carried Second adjacent 28 false 120 1 1 Ended
 unfolding word taskOf
-adjacent-write =
-    carried Second adjacent 28 adjacent2 9 0 refl false 120 1 refl (omega arith) (omega arith) (omega arith) 1 Ended
-    (write-of-one _ refl 120)
+adjacent-write = write-carried Second adjacent 28 adjacent2 9 0 refl 120 refl (omega arith)
 
 adjacent-met : Independent one two adjacent
 adjacent-met = met (adjacent-read .footprint) (adjacent-write .footprint) differ (omega arith) (omega arith) (omega arith)
@@ -110,9 +106,7 @@ refused-first =
 
 refused-read : Carried Second refusedData 28 true 56 1 1 Ended
 unfolding word taskOf
-refused-read =
-    carried Second refusedData 28 refused2 9 0 refl true 56 1 refl (omega arith) (omega arith) (omega arith) 1 Ended
-    (read-of-one _ refl 56 refl)
+refused-read = read-carried Second refusedData 28 refused2 9 0 refl 56 refl (omega arith)
 
 refused-met : Independent one two refusedData
 refused-met = met refused-first (refused-read .footprint) differ (omega arith) (omega arith) (omega arith)
@@ -135,15 +129,11 @@ stopped2 = passes2 stoppedRead refl (omega arith)
 
 stopped-read : Carried First stoppedRead 0 true 56 2 1 (Failed Refusal.Unreadable)
 unfolding word taskOf
-stopped-read =
-    carried First stoppedRead 0 stopped1 7 1 refl true 56 2 refl (omega arith) (omega arith) (omega arith) 1 _
-    (read-stopped _ refl 56 refl refl)
+stopped-read = read-stopped-carried First stoppedRead 0 stopped1 7 1 refl 56 refl refl (omega arith)
 
 stopped-write : Carried Second stoppedRead 28 false 120 1 1 Ended
 unfolding word taskOf
-stopped-write =
-    carried Second stoppedRead 28 stopped2 9 0 refl false 120 1 refl (omega arith) (omega arith) (omega arith) 1 Ended
-    (write-of-one _ refl 120)
+stopped-write = write-carried Second stoppedRead 28 stopped2 9 0 refl 120 refl (omega arith)
 
 stopped-met : Independent one two stoppedRead
 stopped-met = met (stopped-read .footprint) (stopped-write .footprint) differ (omega arith) (omega arith) (omega arith)
@@ -180,15 +170,11 @@ twice2 = passes2 writtenTwice refl (omega arith)
 
 twice-first : Carried First writtenTwice 0 true 56 1 1 Ended
 unfolding word taskOf
-twice-first =
-    carried First writtenTwice 0 twice1 7 0 refl true 56 1 refl (omega arith) (omega arith) (omega arith) 1 Ended
-    (read-of-one _ refl 56 refl)
+twice-first = read-carried First writtenTwice 0 twice1 7 0 refl 56 refl (omega arith)
 
 twice-second : Carried Second writtenTwice 28 true 56 1 1 Ended
 unfolding word taskOf
-twice-second =
-    carried Second writtenTwice 28 twice2 9 0 refl true 56 1 refl (omega arith) (omega arith) (omega arith) 1 Ended
-    (read-of-one _ refl 56 refl)
+twice-second = read-carried Second writtenTwice 28 twice2 9 0 refl 56 refl (omega arith)
 
 -- Byte 56 gets the byte of the disk that was read.
 module _
