@@ -1,5 +1,6 @@
 # make run: proves and builds the session program and plays the paper's example. make test: the one test; the witnesses come first, then
-# `rt ci`, whose last line is the verdict; a look at its logs follows in silence. make agree N=..: more worlds.
+# `rt ci`, whose last line is the verdict; a look at its logs follows in silence. make agree N=..: more worlds. rt waits for each batch of
+# checks to end; a batch of four leaves neither of two cores idle while the longest one ends.
 .PHONY: run test audit agree
 
 N ?= 1000000
@@ -11,7 +12,7 @@ run:
 
 test: audit
 	@sh tools/witnesses
-	@rt ci
+	@RT_JOBS=4 rt ci
 	@sh tools/after-ci
 
 audit:
