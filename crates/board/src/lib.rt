@@ -1,5 +1,5 @@
-// The run of the V/SMD 3200: chains of blocks fetched and executed, their events and counts; and the inspection call.
-// Everything below is used by its promise alone: layouts by iopb, checks by judge, data by transfer, places by unit.
+// The run of the V/SMD 3200: a chain of blocks, each fetched and executed, with its answer and its counts; and the inspection call.
+// What one block does is block's, and is used by its promise alone; here is which block comes next, and on whose drive.
 // It trusts no caller: any memory, images, records, address and allowance get an answer.
 use unit::Record;
 ghost use mathlib.Core.Path.{_≡_};
