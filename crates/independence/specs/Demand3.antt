@@ -15,12 +15,12 @@ module _ (one two : Chain) (s : Both) where
   NoUnitInCommon = (n : UnitNumber) → Names one (worldFor First s) n → Names two (worldFor Second s) n → ⊥
 
   -- "no host byte that one writes is .. written by the other"
-  abbrev pub NoneWrittenTwice : Type 0
-  NoneWrittenTwice = (x : ℕ) → HostWrites one (worldFor First s) x → HostWrites two (worldFor Second s) x → ⊥
+  abbrev pub NoByteWrittenByBoth : Type 0
+  NoByteWrittenByBoth = (x : ℕ) → HostWrites one (worldFor First s) x → HostWrites two (worldFor Second s) x → ⊥
 
   -- "no host byte that one writes is read .. by the other"
-  abbrev pub NoneReadThere : Type 0
-  NoneReadThere =
+  abbrev pub NoByteReadByOther : Type 0
+  NoByteReadByOther =
       (x : ℕ) →
       (HostWrites one (worldFor First s) x → HostReads two (worldFor Second s) x → ⊥) ×
       (HostWrites two (worldFor Second s) x → HostReads one (worldFor First s) x → ⊥)
@@ -28,8 +28,8 @@ module _ (one two : Chain) (s : Both) where
   -- The condition. That "their event buffers are separate" is in `Both`, which has two.
   pub record Independent : Type 0 where
     pub units : NoUnitInCommon
-    pub written : NoneWrittenTwice
-    pub read : NoneReadThere
+    pub written : NoByteWrittenByBoth
+    pub read : NoByteReadByOther
 
   -- "running them in either order gives the same"
   abbrev pub EitherWay : Type 0

@@ -25,7 +25,7 @@ use Rattle.demands.specs.Footprint.{HostWritten, RunNames, RunWrites, namedDriv
 use Rattle.demands.specs.Visits.{Passes, Visit, blockOf, effectOf}
 use Rattle.demands.proofs.Written.{effect-is}
 use Rattle.independence.specs.Chains.{Both, First, Second, Which, eventsOf, told, worldFor}
-use Rattle.independence.specs.Demand3.{Independent, NoUnitInCommon, NoneReadThere, NoneWrittenTwice}
+use Rattle.independence.specs.Demand3.{Independent, NoUnitInCommon, NoByteReadByOther, NoByteWrittenByBoth}
 use Rattle.independence.specs.Reads.{HostRead, RunReads}
 use Rattle.request.specs.declared.UnitNumber.{UnitNumber}
 use Rattle.request.specs.declared.UnitNumber.the-variants.{Zero, One}
@@ -52,10 +52,10 @@ module _ {s : Both} {m n : UnitNumber} {rs ws qs vs : List (ℕ × ℕ)} (f : Al
   pub no-unit : (m ≡ n → ⊥) → NoUnitInCommon one two s
   no-unit differ k a b = differ (f .names-it k a ∙ sym (g .names-it k b))
 
-  pub none-twice : Apart ws vs → NoneWrittenTwice one two s
+  pub none-twice : Apart ws vs → NoByteWrittenByBoth one two s
   none-twice apart x a b = none-in-both ws vs x apart (f .writes-there x a) (g .writes-there x b)
 
-  pub none-read : Apart ws qs → Apart vs rs → NoneReadThere one two s
+  pub none-read : Apart ws qs → Apart vs rs → NoByteReadByOther one two s
   none-read forth back x = (
     λ w r. none-in-both ws qs x forth (f .writes-there x w) (g .reads-there x r),
     λ w r. none-in-both vs rs x back (g .writes-there x w) (f .reads-there x r),

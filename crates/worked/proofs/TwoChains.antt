@@ -32,7 +32,7 @@ use Rattle.demands.specs.Visits.{Passes, Visit, effectOf, worldLeft}
 use Rattle.demands.proofs.VersionTwo.{disk-byte-is-there}
 use Rattle.demands.proofs.Written.{effect-is}
 use Rattle.independence.specs.Chains.{Both, Cell, First, HostReads, HostWrites, Second, Which, both, drive, eventBuffer, hostByte, leaving, runOf, told, worldFor}
-use Rattle.independence.specs.Demand3.{EitherWay, Independent, NoUnitInCommon, NoneReadThere, NoneWrittenTwice}
+use Rattle.independence.specs.Demand3.{EitherWay, Independent, NoUnitInCommon, NoByteReadByOther, NoByteWrittenByBoth}
 use Rattle.independence.specs.Local.{LeadsAlike}
 use Rattle.independence.specs.Reads.{HostRead}
 use Rattle.independence.proofs.Blocks.{lawful}
@@ -203,7 +203,7 @@ which-number First = 0
 which-number Second = 1
 
 -- A second chain that names another unit and reads no byte that the first writes goes after the first as it goes alone.
-module _ (s : Both) (units : NoUnitInCommon one two s) (read : NoneReadThere one two s) where
+module _ (s : Both) (units : NoUnitInCommon one two s) (read : NoByteReadByOther one two s) where
   unread : (c : Cell) → runOf First one .Writes s c → runOf Second two .Reads s c → ⊥
   unfolding which-number
   unread (hostByte x) w r = read x .0 w r
@@ -222,7 +222,7 @@ wrote-second = wrote-56 Second writtenTwice 28 twice2 9 0 refl twice-second
 units-apart : NoUnitInCommon one two writtenTwice
 units-apart = no-unit (twice-first .footprint) (twice-second .footprint) differ
 
-reads-apart : NoneReadThere one two writtenTwice
+reads-apart : NoByteReadByOther one two writtenTwice
 reads-apart = none-read (twice-first .footprint) (twice-second .footprint) (omega arith) (omega arith)
 
 twice-differs : EitherWay one two writtenTwice → ⊥
@@ -319,7 +319,7 @@ shared-differs e =
 
 shared-unit :
     (NoUnitInCommon one two sharedUnit → ⊥) ×
-    (NoneWrittenTwice one two sharedUnit × (NoneReadThere one two sharedUnit × (EitherWay one two sharedUnit → ⊥)))
+    (NoByteWrittenByBoth one two sharedUnit × (NoByteReadByOther one two sharedUnit × (EitherWay one two sharedUnit → ⊥)))
 shared-unit = (
   λ none. none Zero (by-block 0 _ shared1 (λ v. names v ≡ Zero) refl) (by-block 28 _ shared2 (λ v. names v ≡ Zero) refl),
   (
@@ -403,8 +403,8 @@ read-differs e =
     omega (arith, ap (λ t. t .failed) same)
 
 read-by-other :
-    (NoneReadThere one two readByOther → ⊥) ×
-    (NoUnitInCommon one two readByOther × (NoneWrittenTwice one two readByOther × (EitherWay one two readByOther → ⊥)))
+    (NoByteReadByOther one two readByOther → ⊥) ×
+    (NoUnitInCommon one two readByOther × (NoByteWrittenByBoth one two readByOther × (EitherWay one two readByOther → ⊥)))
 unfolding word
 read-by-other = (
   λ none.

@@ -12,7 +12,7 @@ use Rattle.geometry.specs.declared.Geometry.{Geometry}
 use Rattle.geometry.specs.Drive.{geometryOf, volumeOf}
 use Rattle.unit.specs.Standing.{recordOf}
 use Rattle.independence.specs.Chains.{Both, Chain, First, HostReads, HostWrites, Second, Told, runOf, worldFor}
-use Rattle.independence.specs.Demand3.{EitherWay, Independent, NoUnitInCommon, NoneReadThere, NoneWrittenTwice}
+use Rattle.independence.specs.Demand3.{EitherWay, Independent, NoUnitInCommon, NoByteReadByOther, NoByteWrittenByBoth}
 
 -- Two cylinders with one sector of 64 bytes each; an image has 130 bytes, of which the last two are the marks.
 abbrev pub tiny : Geometry
@@ -108,10 +108,10 @@ writtenTwice = starting (block 0x81 0x10 0 1 56) (block 0x81 0x90 0 1 56) (drive
 pub record Fails : Type 0 where
   pub shared-unit :
       (NoUnitInCommon one two sharedUnit → ⊥) ×
-      (NoneWrittenTwice one two sharedUnit × (NoneReadThere one two sharedUnit × (EitherWay one two sharedUnit → ⊥)))
+      (NoByteWrittenByBoth one two sharedUnit × (NoByteReadByOther one two sharedUnit × (EitherWay one two sharedUnit → ⊥)))
   pub read-by-other :
-      (NoneReadThere one two readByOther → ⊥) ×
-      (NoUnitInCommon one two readByOther × (NoneWrittenTwice one two readByOther × (EitherWay one two readByOther → ⊥)))
+      (NoByteReadByOther one two readByOther → ⊥) ×
+      (NoUnitInCommon one two readByOther × (NoByteWrittenByBoth one two readByOther × (EitherWay one two readByOther → ⊥)))
   pub written-twice :
-      (NoneWrittenTwice one two writtenTwice → ⊥) ×
-      (NoUnitInCommon one two writtenTwice × (NoneReadThere one two writtenTwice × (EitherWay one two writtenTwice → ⊥)))
+      (NoByteWrittenByBoth one two writtenTwice → ⊥) ×
+      (NoUnitInCommon one two writtenTwice × (NoByteReadByOther one two writtenTwice × (EitherWay one two writtenTwice → ⊥)))
