@@ -14,18 +14,16 @@ pub(crate) fn put(bytes: &mut [u8], from: u32, i: u32, byte: u8) {
     }
 }
 
-pub(crate) fn put16(bytes: &mut [u8], from: u32, i: u8, word: u16) {
+pub(crate) fn put16(bytes: &mut [u8], from: u32, i: u16, word: u16) {
     let k = i as u32;
-    put(bytes, from, k, (word / 256 % 256) as u8);
+    put(bytes, from, k, (word / 256) as u8);
     put(bytes, from, k + 1, (word % 256) as u8);
 }
 
 pub(crate) fn put32(bytes: &mut [u8], from: u32, i: u8, word: u32) {
-    let k = i as u32;
-    put(bytes, from, k, (word / 256 / 256 / 256 % 256) as u8);
-    put(bytes, from, k + 1, (word / 256 / 256 % 256) as u8);
-    put(bytes, from, k + 2, (word / 256 % 256) as u8);
-    put(bytes, from, k + 3, (word % 256) as u8);
+    let k = i as u16;
+    put16(bytes, from, k, (word / 65536) as u16);
+    put16(bytes, from, k + 2, (word % 65536) as u16);
 }
 
 // What the examples' images hold at byte i: i mod 251. So the 128 bytes of the places 7 and 12 are all different, and none is

@@ -1,14 +1,14 @@
 // Chains, and the handshake, which needs no drive.
-use crate::bytes::changed;
 use crate::bytes::fill;
 use crate::lay;
 use crate::lay::IE;
 use crate::lay::LK;
 use crate::lay::XL;
-use crate::places::blank;
+use crate::places::neither;
 use crate::places::units;
-use crate::show;
-use crate::show::line;
+use crate::runs::run;
+use crate::runs::run_into;
+use crate::show::changes;
 use crate::show::text;
 use crate::show::word;
 use board::Units;
@@ -20,38 +20,28 @@ pub(crate) fn linked_to_itself() {
         b"paper: A block linked to itself, allowance 3, ending 80 each time: three blocks, answer 6.\n",
     );
     let mut host = [255u8; 28];
-    let mut image = [0u8; 1];
-    let mut other = [0u8; 1];
-    let mut events = [255u8; 512];
     lay::block(&mut host, 0, lay::plain(0x89, LK));
-    let before = events;
-    let out = board::run(
-        &mut host,
-        &mut image,
-        &mut other,
-        &mut events,
-        units(5),
-        0,
-        3,
-    );
-    show::run(out, &events);
-    line(
+    watched(
         b"event bytes that changed after the third entry: ",
-        changed(&before, &events, 24, 488) as u64,
+        &mut host,
+        units(5),
+        3,
+        24,
+        488,
     );
 }
 
-fn shake(host: &mut [u8]) {
+// The chain at 0, which asks for no sector, and how many of n event bytes changed, from a start on.
+fn watched(name: &[u8], host: &mut [u8], units: Units, allowance: u32, from: u32, n: u32) {
     let mut image = [0u8; 1];
-    let mut other = [0u8; 1];
     let mut events = [255u8; 512];
     let before = events;
-    let out = board::run(host, &mut image, &mut other, &mut events, units(0), 0, 1);
-    show::run(out, &events);
-    line(
-        b"event bytes that changed: ",
-        changed(&before, &events, 0, 512) as u64,
-    );
+    run_into(host, &mut image, &mut events, units, 0, allowance);
+    changes(name, &before, &events, from, n);
+}
+
+fn shake(host: &mut [u8]) {
+    watched(b"event bytes that changed: ", host, units(0), 1, 0, 512);
 }
 
 pub(crate) fn handshake() {
@@ -63,12 +53,17 @@ pub(crate) fn handshake() {
     let mut host = [255u8; 28];
     lay::block(&mut host, 0, lay::plain(0x86, 0));
     shake(&mut host);
-    word(b"words 2 to 7: ", &host, 0, 4);
-    word(b" ", &host, 0, 6);
-    word(b" ", &host, 0, 8);
-    word(b" ", &host, 0, 10);
-    word(b" ", &host, 0, 12);
-    word(b" ", &host, 0, 14);
+    identity(&host);
+}
+
+fn identity(host: &[u8]) {
+    text(b"words 2 to 7:");
+    word(host, 0, 4);
+    word(host, 0, 6);
+    word(host, 0, 8);
+    word(host, 0, 10);
+    word(host, 0, 12);
+    word(host, 0, 14);
     text(b"\n");
 }
 
@@ -80,10 +75,7 @@ pub(crate) fn handshake_cut() {
     lay::block(&mut host, 0, lay::plain(0x86, 0));
     let before = host;
     shake(&mut host);
-    line(
-        b"host bytes that changed: ",
-        changed(&before, &host, 0, 27) as u64,
-    );
+    changes(b"host bytes that changed: ", &before, &host, 0, 27);
 }
 
 // The initialize at 0 leads to the read at 32; the UIB stands at 192 and the data at 64.
@@ -94,22 +86,19 @@ pub(crate) fn session() {
     );
     let mut host = [255u8; 256];
     let mut image = [0u8; 7800];
-    let mut other = [0u8; 1];
-    let mut events = [255u8; 512];
+    lay_session(&mut host);
+    fill(&mut image, 7680);
+    run(&mut host, &mut image, neither(), 0, 64);
+}
+
+fn lay_session(host: &mut [u8]) {
     let mut first = lay::plain(0x87, LK);
     first.address = 192;
     first.link = 32;
     let mut second = lay::transfer(0x81, XL + IE, 7, 2, 64);
     second.level = 3;
     second.vector = 0x40;
-    lay::block(&mut host, 0, first);
-    lay::block(&mut host, 32, second);
-    lay::uib(&mut host, 192);
-    fill(&mut image, 7680);
-    let units = Units {
-        zero: blank(),
-        one: blank(),
-    };
-    let out = board::run(&mut host, &mut image, &mut other, &mut events, units, 0, 64);
-    show::run(out, &events);
+    lay::block(host, 0, first);
+    lay::block(host, 32, second);
+    lay::uib(host, 192);
 }

@@ -1,8 +1,8 @@
 // The inspection of one sector.
 use crate::bytes::at;
 use crate::bytes::fill;
-use crate::places::blank;
-use crate::places::ready;
+use crate::places::both;
+use crate::places::units;
 use crate::show::decimal;
 use crate::show::line;
 use crate::show::text;
@@ -44,17 +44,32 @@ fn inspected<'a>(
     }
 }
 
-fn refused<'a>(image0: &'a [u8], image1: &'a [u8], units: Units) {
-    inspected(b"unit 0 place 120", image0, image1, units, 0, 120);
-    inspected(b"unit 2 place 12", image0, image1, units, 2, 12);
-    let zero = units.zero;
-    let blanked = Units { zero, one: blank() };
+fn lent<'a>(image0: &'a [u8], image1: &'a [u8]) {
+    inspected(b"unit 0 place 12", image0, image1, both(), 0, 12);
+    inspected(b"unit 1 place 12", image0, image1, both(), 1, 12);
+}
+
+fn refused<'a>(image0: &'a [u8], image1: &'a [u8]) {
+    inspected(b"unit 0 place 120", image0, image1, both(), 0, 120);
+    inspected(b"unit 2 place 12", image0, image1, both(), 2, 12);
     inspected(
         b"unit 1 not initialized, place 12",
         image0,
         image1,
-        blanked,
+        units(0),
         1,
+        12,
+    );
+}
+
+fn short<'a>(image1: &'a [u8]) {
+    let image0 = [7u8; 7799];
+    inspected(
+        b"unit 0 with 7799 bytes, place 12",
+        &image0,
+        image1,
+        both(),
+        0,
         12,
     );
 }
@@ -72,20 +87,7 @@ pub(crate) fn inspection() {
     let mut image0 = [0u8; 7800];
     fill(&mut image0, 7680);
     let image1 = [7u8; 7800];
-    let units = Units {
-        zero: ready(0),
-        one: ready(0),
-    };
-    inspected(b"unit 0 place 12", &image0, &image1, units, 0, 12);
-    inspected(b"unit 1 place 12", &image0, &image1, units, 1, 12);
-    refused(&image0, &image1, units);
-    let short = [7u8; 7799];
-    inspected(
-        b"unit 0 with 7799 bytes, place 12",
-        &short,
-        &image1,
-        units,
-        0,
-        12,
-    );
+    lent(&image0, &image1);
+    refused(&image0, &image1);
+    short(&image1);
 }

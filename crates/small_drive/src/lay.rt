@@ -69,12 +69,10 @@ fn led(host: &mut [u8], at: u32, w: Said) {
     put32(host, at, 20, w.link);
 }
 
-// The small drive's UIB, in the places of Table 10.
+// The small drive's UIB, in the places of Table 10. Its first two words are the volumes: a start head and heads each.
 pub(crate) fn uib(host: &mut [u8], at: u32) {
-    put(host, at, 0, 0);
-    put(host, at, 1, 2);
-    put(host, at, 2, 2);
-    put(host, at, 3, 1);
+    put16(host, at, 0, 0x0002);
+    put16(host, at, 2, 0x0201);
     put(host, at, 4, 4);
     put16(host, at, 6, 64);
     put16(host, at, 12, 10);

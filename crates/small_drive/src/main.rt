@@ -6,6 +6,7 @@ mod chains;
 mod inspection;
 mod lay;
 mod places;
+mod runs;
 mod show;
 mod transfers;
 
@@ -19,5 +20,6 @@ fn main() {
     chains::handshake_cut();
     chains::session();
     transfers::unreadable();
+    transfers::unreadable_with_de();
     inspection::inspection();
 }

@@ -1,4 +1,5 @@
 // The drives themselves: their sizes, and where their sectors stand.
+use crate::show::decimal;
 use crate::show::line;
 use crate::show::text;
 use board::Units;
@@ -15,12 +16,12 @@ fn small() -> Geometry {
 }
 
 // The small drive with its heads on a cylinder.
-pub(crate) fn ready(cylinder: u16) -> Record {
+fn ready(cylinder: u16) -> Record {
     Record::new(true, small(), cylinder)
 }
 
 // A unit that nothing has initialized. Its geometry is none, so that whatever works after an initialize works by the UIB.
-pub(crate) fn blank() -> Record {
+fn blank() -> Record {
     let none = Volume::new(0, 0);
     Record::new(false, Geometry::new(0, 0, 0, none, none), 0)
 }
@@ -29,6 +30,22 @@ pub(crate) fn blank() -> Record {
 pub(crate) fn units(cylinder: u16) -> Units {
     Units {
         zero: ready(cylinder),
+        one: blank(),
+    }
+}
+
+// Both units are small drives.
+pub(crate) fn both() -> Units {
+    Units {
+        zero: ready(0),
+        one: ready(0),
+    }
+}
+
+// Nothing has initialized either unit.
+pub(crate) fn neither() -> Units {
+    Units {
+        zero: blank(),
         one: blank(),
     }
 }
@@ -46,17 +63,21 @@ fn byte(place: u64) {
 }
 
 fn landing(name: &[u8], volume: VolumeNumber, number: u64) {
+    decimal(name, number);
     let unit = ready(0);
     match unit.land(volume, number) {
         Landing::At(spot) => {
-            line(name, spot.place);
+            line(b" place ", spot.place);
             byte(spot.place);
         }
         Landing::Outside => {
-            text(name);
-            text(b"outside\n");
+            text(b" place outside\n");
         }
     }
+}
+
+fn volume_0(number: u64) {
+    landing(b"volume 0 logical ", VolumeNumber::Zero, number);
 }
 
 fn sizes(g: Geometry) {
@@ -69,12 +90,12 @@ fn sizes(g: Geometry) {
 pub(crate) fn small_drive() {
     text(b"small drive\n");
     sizes(small());
-    landing(b"volume 0 logical 0 place ", VolumeNumber::Zero, 0);
-    landing(b"volume 0 logical 7 place ", VolumeNumber::Zero, 7);
-    landing(b"volume 0 logical 8 place ", VolumeNumber::Zero, 8);
-    landing(b"volume 0 logical 79 place ", VolumeNumber::Zero, 79);
-    landing(b"volume 0 logical 80 place ", VolumeNumber::Zero, 80);
-    landing(b"volume 1 logical 0 place ", VolumeNumber::One, 0);
+    volume_0(0);
+    volume_0(7);
+    volume_0(8);
+    volume_0(79);
+    volume_0(80);
+    landing(b"volume 1 logical ", VolumeNumber::One, 0);
 }
 
 pub(crate) fn table_11() {

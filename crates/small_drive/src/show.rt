@@ -1,5 +1,6 @@
 // Lines of output. What a run came to is printed as the paper's session program prints it.
 use crate::bytes::at;
+use crate::bytes::changed;
 use board::Outcome;
 use libc::STDOUT_FILENO;
 
@@ -17,23 +18,28 @@ pub(crate) fn line(text: &[u8], number: u64) {
     io::write_all(STDOUT_FILENO, b"\n");
 }
 
+// How many of n bytes, from a start on, are others than before.
+pub(crate) fn changes(text: &[u8], before: &[u8], after: &[u8], from: u32, n: u32) {
+    line(text, changed(before, after, from, n) as u64);
+}
+
 // A byte in two hex digits.
-pub(crate) fn hex(text: &[u8], byte: u8) {
+fn hex(text: &[u8], bytes: &[u8], from: u32, i: u32) {
     io::write_all(STDOUT_FILENO, text);
-    io::print_hex(STDOUT_FILENO, byte as u64, 2);
+    io::print_hex(STDOUT_FILENO, at(bytes, from, i) as u64, 2);
 }
 
 // Two bytes in hex, the one at a place and the next.
 pub(crate) fn pair(text: &[u8], bytes: &[u8], from: u32, i: u8) {
-    hex(text, at(bytes, from, i as u32));
-    hex(b" ", at(bytes, from, (i as u32) + 1));
+    hex(text, bytes, from, i as u32);
+    hex(b" ", bytes, from, (i as u32) + 1);
     io::write_all(STDOUT_FILENO, b"\n");
 }
 
-// A word in four hex digits, with no line end.
-pub(crate) fn word(text: &[u8], bytes: &[u8], from: u32, i: u8) {
-    hex(text, at(bytes, from, i as u32));
-    hex(b"", at(bytes, from, (i as u32) + 1));
+// A blank and a word in four hex digits.
+pub(crate) fn word(bytes: &[u8], from: u32, i: u8) {
+    hex(b" ", bytes, from, i as u32);
+    hex(b"", bytes, from, (i as u32) + 1);
 }
 
 // A travel, from the 32 bits of its two's complement.
@@ -59,10 +65,10 @@ fn long(bytes: &[u8], from: u32, i: u8) -> u32 {
 fn entry(events: &[u8], i: u32) {
     let from = i % 64 * 8;
     decimal(b"block ", (i as u64) + 1);
-    hex(b" status ", at(events, from, 0));
-    hex(b" error ", at(events, from, 1));
-    hex(b" level ", at(events, from, 2));
-    hex(b" vector ", at(events, from, 3));
+    hex(b" status ", events, from, 0);
+    hex(b" error ", events, from, 1);
+    hex(b" level ", events, from, 2);
+    hex(b" vector ", events, from, 3);
     travel(long(events, from, 4));
 }
 

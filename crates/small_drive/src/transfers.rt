@@ -7,13 +7,14 @@ use crate::lay;
 use crate::lay::DE;
 use crate::lay::XL;
 use crate::places::units;
-use crate::show;
+use crate::runs::run;
+use crate::show::changes;
 use crate::show::line;
 use crate::show::pair;
 use crate::show::text;
 
-// The data against the two sectors of the image, and the bytes that no read may touch.
-fn compare(before: &[u8], host: &[u8], image: &[u8]) {
+// The data against the two sectors of the image.
+fn compare_data(host: &[u8], image: &[u8]) {
     line(
         b"host bytes 64 to 127 that are image bytes 448 to 511: ",
         same(host, 64, image, 448, 64) as u64,
@@ -22,9 +23,16 @@ fn compare(before: &[u8], host: &[u8], image: &[u8]) {
         b"host bytes 128 to 191 that are image bytes 768 to 831: ",
         same(host, 128, image, 768, 64) as u64,
     );
-    line(
+}
+
+// What changed of the data's second half, and of what no read may touch.
+fn compare_host(before: &[u8], host: &[u8]) {
+    changes(
         b"host bytes 128 to 191 that changed: ",
-        changed(before, host, 128, 64) as u64,
+        before,
+        host,
+        128,
+        64,
     );
     let head = changed(before, host, 0, 2) as u64;
     let words = changed(before, host, 4, 60) as u64;
@@ -39,30 +47,21 @@ fn compare(before: &[u8], host: &[u8], image: &[u8]) {
 fn read(options: u8, mark: u8) {
     let mut host = [255u8; 256];
     let mut image = [0u8; 7800];
-    let mut other = [0u8; 1];
-    let mut events = [255u8; 512];
     lay::block(&mut host, 0, lay::transfer(0x81, options, 7, 2, 64));
     fill(&mut image, 7680);
     put(&mut image, 7680, 12, mark);
     let before = host;
     let drive = image;
-    let out = board::run(
-        &mut host,
-        &mut image,
-        &mut other,
-        &mut events,
-        units(0),
-        0,
-        1,
-    );
-    show::run(out, &events);
-    line(b"failed ", out.failed as u64);
-    pair(b"word 1 after the run: ", &host, 0, 2);
-    compare(&before, &host, &drive);
-    line(
-        b"image bytes that changed: ",
-        changed(&drive, &image, 0, 7800) as u64,
-    );
+    run_read(&mut host, &mut image);
+    compare_data(&host, &drive);
+    compare_host(&before, &host);
+    changes(b"image bytes that changed: ", &drive, &image, 0, 7800);
+}
+
+fn run_read(host: &mut [u8], image: &mut [u8]) {
+    let failed = run(host, image, units(0), 0, 1);
+    line(b"failed ", failed as u64);
+    pair(b"word 1 after the run: ", host, 0, 2);
 }
 
 pub(crate) fn read_of_two() {
@@ -81,6 +80,9 @@ pub(crate) fn unreadable() {
     text(b"paper: 20: unreadable sector, DE clear; earlier sectors moved.\n");
     text(b"paper: the sector that stopped a read counts as tried.\n");
     read(XL, 1);
+}
+
+pub(crate) fn unreadable_with_de() {
     text(b"the same with DE\n");
     read(XL + DE, 1);
 }
@@ -91,20 +93,13 @@ pub(crate) fn write_over_itself() {
     text(b"paper: 82 whose buffer covers its own word 1: the image gets 81 00 there.\n");
     let mut host = [255u8; 256];
     let mut image = [0u8; 7800];
-    let mut other = [0u8; 1];
-    let mut events = [255u8; 512];
     lay::block(&mut host, 128, lay::transfer(0x82, XL, 8, 1, 96));
-    let out = board::run(
-        &mut host,
-        &mut image,
-        &mut other,
-        &mut events,
-        units(0),
-        128,
-        1,
-    );
-    show::run(out, &events);
-    pair(b"image bytes 800 and 801, from word 0: ", &image, 768, 32);
-    pair(b"image bytes 802 and 803, from word 1: ", &image, 768, 34);
-    pair(b"word 1 after the run: ", &host, 128, 2);
+    run(&mut host, &mut image, units(0), 128, 1);
+    written(&host, &image);
+}
+
+fn written(host: &[u8], image: &[u8]) {
+    pair(b"image bytes 800 and 801, from word 0: ", image, 768, 32);
+    pair(b"image bytes 802 and 803, from word 1: ", image, 768, 34);
+    pair(b"word 1 after the run: ", host, 128, 2);
 }

@@ -47,23 +47,24 @@ judgement c = rw (c .before .before .request .ensures) at (c .judge .ensures)
 accept-requires : tie.Need-accept-requires
 accept-requires c κs =
     let pre = c .before .before .before .before .before .before .before .before .before .before .before .before .before .pre in
+    let is = c .before .before .before .before .plan .given .1 in
     (pre .0, sym (judgement (c .before .before .before .before .before .before)) ∙ cc)
 
 same-length : tie.Need-same-length
-same-length c = search needs
+same-length c = c .before .before .before .before .before .before .refuse .kept .0
 
 same-length-2 : tie.Need-same-length-2
-same-length-2 c = search needs
+same-length-2 c = c .before .before .before .before .before .before .refuse .kept .1 .0
 
 same-length-3 : tie.Need-same-length-3
-same-length-3 c = search needs
+same-length-3 c = c .before .before .before .before .before .before .refuse .kept .1 .1 .0
 
 returns : tie.Need-returns
 returns c =
     let a = c .before .before .before .before .before .before .before .before .before .before .before .before .before .before .before .before .before .before .before .before .args in
     rw
     (effect-judged (a .host .now) (driveWith (a .u) (a .image .now)) (a .at) (a .i) (a .b) (Verdict.Refused (c .before .before .before .before .before .before .before .before .before .before .before .r .given .0 .0)) (c .before .before .before .before .before .before .before .before .before .before .before .before .before .before .before .before .before .before .before .before .pre .1)
-    (sym (judgement (c .before .before .before .before .before .before .before .before .before .before .before .before .before)) ∙ cc))
+    (sym (judgement (c .before .before .before .before .before .before .before .before .before .before .before .before .before)) ∙ c .before .before .before .before .before .before .before .before .before .before .before .r .given .1))
     (c .before .before .before .before .before .before .refuse .ensures)
 
 same-length-4 : tie.Need-same-length-4
@@ -80,7 +81,7 @@ returns-2 c =
     let a = c .before .before .before .before .before .before .before .before .before .before .before .before .before .before .before .before .before .before .before .before .args in
     rw
     (effect-judged (a .host .now) (driveWith (a .u) (a .image .now)) (a .at) (a .i) (a .b) (Verdict.Do (c .before .before .before .before .before .before .before .before .before .before .before .plan .given .0 .0)) (c .before .before .before .before .before .before .before .before .before .before .before .before .before .before .before .before .before .before .before .before .pre .1)
-    (sym (judgement (c .before .before .before .before .before .before .before .before .before .before .before .before .before)) ∙ cc))
+    (sym (judgement (c .before .before .before .before .before .before .before .before .before .before .before .before .before)) ∙ c .before .before .before .before .before .before .before .before .before .before .before .plan .given .1))
     (c .before .before .before .before .before .before .accept .ensures)
 
 pub run-block-spec : {M : Type 1} → statement M

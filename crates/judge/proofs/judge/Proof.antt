@@ -1,8 +1,7 @@
 -- The task's kind decides which function judges it.
 -- Each promises the verdict on its own kind.
-use mathlib.Core.Path.{_≡_, sym}
+use mathlib.Core.Path.{sym}
 use borrow.Author.Needs.{needs}
-use Rattle.request.specs.declared.Task.{Task}
 use Rattle.judge.proofs.Tasks.{handshake, unknown}
 use Rattle.judge.proofs.judge.Statement.{statement}
 use Rattle.judge.proofs.judge.Tie as tie
@@ -44,39 +43,25 @@ judge-format-requires : tie.Need-judge-format-requires
 judge-format-requires c κs = search needs
 
 returns : tie.Need-returns
-returns c =
-    let is : c .before .before .before .args .r .task ≡ Task.Unknown = cc in
-    rw is (sym (unknown _ _))
+returns c = rw (c .enum-told .given .1) (sym (unknown _ _))
 
 returns-2 : tie.Need-returns-2
-returns-2 c =
-    let is : c .before .before .before .before .before .args .r .task ≡ Task.Move (c .before .before .task .given .0 .0) = cc in
-    rw is (c .judge-move .ensures)
+returns-2 c = rw (c .before .before .task .given .1) (c .judge-move .ensures)
 
 returns-3 : tie.Need-returns-3
-returns-3 c =
-    let is : c .before .before .before .args .r .task ≡ Task.Handshake = cc in
-    rw is (sym (handshake _ _))
+returns-3 c = rw (c .enum-told2 .given .1) (sym (handshake _ _))
 
 returns-4 : tie.Need-returns-4
-returns-4 c =
-    let is : c .before .before .before .before .before .args .r .task ≡ Task.Initialize (c .before .before .task2 .given .0 .0) = cc in
-    rw is (c .judge-shape .ensures)
+returns-4 c = rw (c .before .before .task2 .given .1) (c .judge-shape .ensures)
 
 returns-5 : tie.Need-returns-5
-returns-5 c =
-    let is : c .before .before .before .before .args .r .task ≡ Task.Restore = cc in
-    rw is (c .judge-restore .ensures)
+returns-5 c = rw (c .before .enum-told3 .given .1) (c .judge-restore .ensures)
 
 returns-6 : tie.Need-returns-6
-returns-6 c =
-    let is : c .before .before .before .before .before .args .r .task ≡ Task.Seek (c .before .before .task3 .given .0 .0) = cc in
-    rw is (c .judge-seek .ensures)
+returns-6 c = rw (c .before .before .task3 .given .1) (c .judge-seek .ensures)
 
 returns-7 : tie.Need-returns-7
-returns-7 c =
-    let is : c .before .before .before .before .before .args .r .task ≡ Task.Format (c .before .before .task4 .given .0 .0) = cc in
-    rw is (c .judge-format .ensures)
+returns-7 c = rw (c .before .before .task4 .given .1) (c .judge-format .ensures)
 
 pub judge-spec : {M : Type 1} → statement M
 judge-spec =

@@ -1,12 +1,10 @@
 -- A piece is judged by check 19 alone, a list by 18 and then by 19.
 -- What `wire::holds` found of a piece, and `memory::list` of a list, is what those checks say.
-use mathlib.Core.Path.{_≡_, sym, _∙_}
+use mathlib.Core.Path.{sym, _∙_}
 use native.Mathlib.Omega.{arith}
 use borrow.Author.Needs.{needs}
 use Rattle.wire.proofs.Numbers.{product-below}
 use Rattle.wire.proofs.Promises.{denied, granted}
-use Rattle.request.specs.declared.Buffer.{Buffer}
-use Rattle.memory.specs.declared.Listed.{Listed}
 use Rattle.judge.proofs.Tasks.{list-18, list-19, list-done, piece-19, piece-done}
 use Rattle.judge.proofs.judge_buffer.Statement.{statement}
 use Rattle.judge.proofs.judge_buffer.Tie as tie
@@ -29,11 +27,10 @@ holds-requires c κs = search needs
 returns : tie.Need-returns
 returns c =
     let a = c .before .before .before .before .before .before .before .before .before .args in
-    let at = c .before .before .before .buffer .given .0 .0 in
-    let is : a .m .buffer ≡ Buffer.Piece at = cc in
+    let is = c .before .before .before .buffer .given in
     let held = c .before .holds in
     sym
-    (piece-19 (a .standing) (a .host .now) (a .m) at is
+    (piece-19 (a .standing) (a .host .now) (a .m) (is .0 .0) (is .1)
     (denied (held .result) _ (c .if1 .taken) (rw (c .before .before .before .before .before .sector-bytes .ensures .0) at (held .ensures))))
 
 accepted-requires : tie.Need-accepted-requires
@@ -60,42 +57,35 @@ enum-told-3 c = search needs
 returns-2 : tie.Need-returns-2
 returns-2 c =
     let a = c .before .before .before .before .before .before .before .before .before .before .args in
-    let at = c .before .before .before .before .buffer .given .0 .0 in
-    let is : a .m .buffer ≡ Buffer.Piece at = cc in
+    let is = c .before .before .before .before .buffer .given in
     let held = c .before .before .holds in
     c .accepted .ensures
     ∙ sym
-    (piece-done (a .standing) (a .host .now) (a .m) at is (a .n) (c .before .before .before .before .before .before .before .before .before .before .pre .starts)
+    (piece-done (a .standing) (a .host .now) (a .m) (is .0 .0) (is .1) (a .n) (c .before .before .before .before .before .before .before .before .before .before .pre .starts)
     (granted (held .result) _ (c .before .if1 .left) (rw (c .before .before .before .before .before .before .sector-bytes .ensures .0) at (held .ensures))))
 
 returns-3 : tie.Need-returns-3
 returns-3 c =
     let a = c .before .before .before .before .before .before .before .before .before .before .before .args in
-    let f = c .before .before .before .before .before .buffer2 .given .0 in
-    let is : a .m .buffer ≡ Buffer.List (f .0) (f .1 .0) = cc in
-    let good : c .before .before .before .list .result ≡ Listed.Good = cc in
-    let found = rw (c .before .before .before .before .before .before .before .sector-bytes .ensures .0, good) at (c .before .before .before .list .ensures) in
+    let is = c .before .before .before .before .before .buffer2 .given in
+    let found = rw (c .before .before .before .before .before .before .before .sector-bytes .ensures .0, c .before .enum-told .given .1) at (c .before .before .before .list .ensures) in
     c .accepted2 .ensures
     ∙ sym
-    (list-done (a .standing) (a .host .now) (a .m) (f .0) (f .1 .0) is (a .n) (c .before .before .before .before .before .before .before .before .before .before .before .pre .starts) (found .0) (found .1))
+    (list-done (a .standing) (a .host .now) (a .m) (is .0 .0) (is .0 .1 .0) (is .1) (a .n) (c .before .before .before .before .before .before .before .before .before .before .before .pre .starts) (found .0) (found .1))
 
 returns-4 : tie.Need-returns-4
 returns-4 c =
     let a = c .before .before .before .before .before .before .before .before .before .before .args in
-    let f = c .before .before .before .before .buffer2 .given .0 in
-    let is : a .m .buffer ≡ Buffer.List (f .0) (f .1 .0) = cc in
-    let bad : c .before .before .list .result ≡ Listed.Bad = cc in
-    let found = rw (c .before .before .before .before .before .before .sector-bytes .ensures .0, bad) at (c .before .before .list .ensures) in
-    sym (list-18 (a .standing) (a .host .now) (a .m) (f .0) (f .1 .0) is found)
+    let is = c .before .before .before .before .buffer2 .given in
+    let found = rw (c .before .before .before .before .before .before .sector-bytes .ensures .0, c .enum-told2 .given .1) at (c .before .before .list .ensures) in
+    sym (list-18 (a .standing) (a .host .now) (a .m) (is .0 .0) (is .0 .1 .0) (is .1) found)
 
 returns-5 : tie.Need-returns-5
 returns-5 c =
     let a = c .before .before .before .before .before .before .before .before .before .before .args in
-    let f = c .before .before .before .before .buffer2 .given .0 in
-    let is : a .m .buffer ≡ Buffer.List (f .0) (f .1 .0) = cc in
-    let out : c .before .before .list .result ≡ Listed.Misplaced = cc in
-    let found = rw (c .before .before .before .before .before .before .sector-bytes .ensures .0, out) at (c .before .before .list .ensures) in
-    sym (list-19 (a .standing) (a .host .now) (a .m) (f .0) (f .1 .0) is (found .0) (found .1))
+    let is = c .before .before .before .before .buffer2 .given in
+    let found = rw (c .before .before .before .before .before .before .sector-bytes .ensures .0, c .enum-told3 .given .1) at (c .before .before .list .ensures) in
+    sym (list-19 (a .standing) (a .host .now) (a .m) (is .0 .0) (is .0 .1 .0) (is .1) (found .0) (found .1))
 
 pub judge-buffer-spec : {M : Type 1} → statement M
 judge-buffer-spec =

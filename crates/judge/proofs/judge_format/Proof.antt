@@ -34,7 +34,7 @@ returns-2 c =
     let a = c .before .before .before .before .before .before .before .before .before .before .args in
     let u = c .before .before .before .before .before .before .before .counts-as-initialized in
     let short = c .before .is-short in
-    let on = at-track (a .standing .record) (a .k .cylinder) (a .k .head) (c .before .before .before .spot .given .0 .0) (cc) in
+    let on = at-track (a .standing .record) (a .k .cylinder) (a .k .head) (c .before .before .before .spot .given .0 .0) (sym (c .before .before .before .before .before .land-track .ensures) ∙ c .before .before .before .spot .given .1) in
     sym
     (format-17 (a .standing) (a .host .now) (a .k) (granted (u .result) _ (c .before .before .before .before .before .before .if1 .left) (u .ensures)) (on .0)
     (says-yes (short .result) _ (c .if2 .taken) (short .ensures)))
@@ -51,7 +51,7 @@ returns-3 c =
     let u = c .before .before .before .before .before .before .before .before .before .before .counts-as-initialized in
     let short = c .before .before .before .before .is-short in
     let long = says-no (short .result) _ (c .before .before .before .if2 .left) (short .ensures) in
-    let on = at-track (a .standing .record) (a .k .cylinder) (a .k .head) (c .before .before .before .before .before .before .spot .given .0 .0) (cc) in
+    let on = at-track (a .standing .record) (a .k .cylinder) (a .k .head) (c .before .before .before .before .before .before .spot .given .0 .0) (sym (c .before .before .before .before .before .before .before .before .land-track .ensures) ∙ c .before .before .before .before .before .before .spot .given .1) in
     let held = c .before .holds in
     sym
     (format-19 (a .standing) (a .host .now) (a .k) (granted (u .result) _ (c .before .before .before .before .before .before .before .before .before .if1 .left) (u .ensures)) (on .0)
@@ -67,7 +67,7 @@ returns-4 c =
     let u = c .before .before .before .before .before .before .before .before .before .before .counts-as-initialized in
     let short = c .before .before .before .before .is-short in
     let long = says-no (short .result) _ (c .before .before .before .if2 .left) (short .ensures) in
-    let on = at-track (a .standing .record) (a .k .cylinder) (a .k .head) (c .before .before .before .before .before .before .spot .given .0 .0) (cc) in
+    let on = at-track (a .standing .record) (a .k .cylinder) (a .k .head) (c .before .before .before .before .before .before .spot .given .0 .0) (sym (c .before .before .before .before .before .before .before .before .land-track .ensures) ∙ c .before .before .before .before .before .before .spot .given .1) in
     let held = c .before .holds in
     ap (λ (x : Spot). Verdict.Do (Plan.Format x (a .k .buffer))) (on .1)
     ∙ sym
@@ -81,7 +81,7 @@ returns-5 c =
     let u = c .before .before .before .before .counts-as-initialized in
     sym
     (format-16 (a .standing) (a .host .now) (a .k) (granted (u .result) _ (c .before .before .before .if1 .left) (u .ensures))
-    (no-track (a .standing .record) (a .k .cylinder) (a .k .head) (cc)))
+    (no-track (a .standing .record) (a .k .cylinder) (a .k .head) (sym (c .before .before .land-track .ensures) ∙ c .enum-told .given .1)))
 
 pub judge-format-spec : {M : Type 1} → statement M
 judge-format-spec =

@@ -40,7 +40,7 @@ enum-known-n : tie.Need-enum-known-n
 enum-known-n c = search needs
 
 judge-span-requires : tie.Need-judge-span-requires
-judge-span-requires c κs = record { starts = cc; some = omega arith }
+judge-span-requires c κs = record { starts = sym (c .before .before .before .number .ensures) ∙ c .before .n .given .1; some = omega arith }
 
 enum-told : tie.Need-enum-told
 enum-told c = search needs
@@ -65,7 +65,7 @@ returns-5 c =
     (move-nowhere (a .standing) (a .host .now) (a .m) (granted (u .result) _ (c .before .before .before .before .before .before .before .if1 .left) (u .ensures))
     (granted (v .result) _ (c .before .before .before .before .before .if2 .left) (v .ensures))
     (c .before .before .before .if3 .left)
-    (cc))
+    (sym (c .before .before .number .ensures) ∙ c .enum-told .given .1))
 
 pub judge-move-spec : {M : Type 1} → statement M
 judge-move-spec =

@@ -1,13 +1,11 @@
 -- Checks 11, 14 and 16, each passed before the next is asked.
 -- Where the unit has a landing the number is in the volume, and the heads go to its cylinder.
-use mathlib.Core.Path.{_≡_, ap, sym, _∙_}
+use mathlib.Core.Path.{ap, sym, _∙_}
 use native.Mathlib.Omega.{arith}
 use borrow.Author.Needs.{needs}
 use Rattle.wire.proofs.Promises.{denied, granted}
-use Rattle.geometry.specs.declared.Number.{Number}
 use Rattle.unit.proofs.Answers.{at-landing, no-landing}
 use Rattle.unit.specs.declared.Spot.{Spot}
-use Rattle.judge.specs.Given.{numberOf}
 use Rattle.judge.specs.declared.Plan.{Plan}
 use Rattle.judge.specs.declared.Verdict.{Verdict}
 use Rattle.judge.proofs.Tasks.{seek-11, seek-14, seek-done, seek-nowhere, seek-past}
@@ -56,13 +54,12 @@ returns-3 c =
     let v = c .before .before .before .before .before .before .before .before .before .has-volume in
     let n = c .before .before .before .before .before .n .given .0 .0 in
     let spot = c .before .spot .given .0 .0 in
-    let is : numberOf (a .standing .record) (a .t .volume) (a .t .start) ≡ Number.Is n = cc in
-    let landed = at-landing (a .standing .record) (a .t .volume) n spot (cc) in
+    let landed = at-landing (a .standing .record) (a .t .volume) n spot (sym (c .before .before .before .land .ensures) ∙ c .before .spot .given .1) in
     ap (λ (x : Spot). Verdict.Do (Plan.Heads (x .cylinder))) (landed .1)
     ∙ sym
     (seek-done (a .standing) (a .host .now) (a .t) n (granted (u .result) _ (c .before .before .before .before .before .before .before .before .before .before .if1 .left) (u .ensures))
     (granted (v .result) _ (c .before .before .before .before .before .before .before .before .if2 .left) (v .ensures))
-    is
+    (sym (c .before .before .before .before .before .before .before .number .ensures) ∙ c .before .before .before .before .before .n .given .1)
     (omega (arith, landed)))
 
 returns-4 : tie.Need-returns-4
@@ -71,24 +68,22 @@ returns-4 c =
     let u = c .before .before .before .before .before .before .before .before .before .before .counts-as-initialized in
     let v = c .before .before .before .before .before .before .before .before .has-volume in
     let n = c .before .before .before .before .n .given .0 .0 in
-    let is : numberOf (a .standing .record) (a .t .volume) (a .t .start) ≡ Number.Is n = cc in
     sym
     (seek-past (a .standing) (a .host .now) (a .t) (granted (u .result) _ (c .before .before .before .before .before .before .before .before .before .if1 .left) (u .ensures))
     (granted (v .result) _ (c .before .before .before .before .before .before .before .if2 .left) (v .ensures))
     n
-    is
-    (no-landing (a .standing .record) (a .t .volume) n (cc)))
+    (sym (c .before .before .before .before .before .before .number .ensures) ∙ c .before .before .before .before .n .given .1)
+    (no-landing (a .standing .record) (a .t .volume) n (sym (c .before .before .land .ensures) ∙ c .enum-told .given .1)))
 
 returns-5 : tie.Need-returns-5
 returns-5 c =
     let a = c .before .before .before .before .before .before .before .before .before .args in
     let u = c .before .before .before .before .before .before .counts-as-initialized in
     let v = c .before .before .before .before .has-volume in
-    let is : numberOf (a .standing .record) (a .t .volume) (a .t .start) ≡ Number.Outside = cc in
     sym
     (seek-nowhere (a .standing) (a .host .now) (a .t) (granted (u .result) _ (c .before .before .before .before .before .if1 .left) (u .ensures))
     (granted (v .result) _ (c .before .before .before .if2 .left) (v .ensures))
-    is)
+    (sym (c .before .before .number .ensures) ∙ c .enum-told2 .given .1))
 
 pub judge-seek-spec : {M : Type 1} → statement M
 judge-seek-spec =

@@ -1,8 +1,6 @@
 -- A logical number is itself.
 -- A physical address has the number that the unit gives it.
-use mathlib.Core.Path.{_≡_}
 use borrow.Author.Needs.{needs}
-use Rattle.request.specs.declared.Start.{Start}
 use Rattle.judge.proofs.number.Statement.{statement}
 use Rattle.judge.proofs.number.Tie as tie
 
@@ -19,15 +17,10 @@ number-requires : tie.Need-number-requires
 number-requires c κs = search needs
 
 returns : tie.Need-returns
-returns c =
-    let is : c .before .before .before .args .start ≡ Start.Logical (c .before .start .given .0 .0) = cc in
-    rw is
+returns c = rw (c .before .start .given .1)
 
 returns-2 : tie.Need-returns-2
-returns-2 c =
-    let f = c .before .before .start2 .given .0 in
-    let is : c .before .before .before .before .args .start ≡ Start.Physical (f .0) (f .1 .0) (f .1 .1 .0) = cc in
-    rw is (c .number .ensures)
+returns-2 c = rw (c .before .before .start2 .given .1) (c .number .ensures)
 
 pub number-spec : {M : Type 1} → statement M
 number-spec =

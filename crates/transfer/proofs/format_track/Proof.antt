@@ -1,6 +1,6 @@
 -- A request that does not fit stores nothing. One that fits is scanned, and the sectors that come are filled.
 -- The two promises together are the result's two halves.
-use mathlib.Core.Path.{_≡_, refl}
+use mathlib.Core.Path.{_≡_, refl, sym, _∙_}
 use native.Mathlib.Omega.{arith}
 use lib.ListN.{length}
 use Rattle.geometry.specs.Drive.{B}
@@ -65,7 +65,7 @@ returns-2 c =
     let a = c .before .before .before .before .before .before .before .before .before .args in
     absurd
     (omega
-    (arith, no-sector (a .u .geometry) (a .spot .place) (cc (c .before .before .before .before .geometry .ensures)), fits (c .before .before .before .before .before)))
+    (arith, no-sector (a .u .geometry) (a .spot .place) (sym (rw (c .before .before .before .before .geometry .ensures) at (c .before .before .before .sector .ensures)) ∙ c .before .enum-told .given .1), fits (c .before .before .before .before .before)))
 
 sectors-a-track-requires : tie.Need-sectors-a-track-requires
 sectors-a-track-requires c κs = search needs
@@ -93,8 +93,8 @@ known :
 known c =
     let a = c .before .before .before .before .before .before .before .before .before .before .before .before .before .before .before .args in
     let is = c .before .before .before .before .before .before .before .before .before .before .geometry .ensures in
-    let given = c .before .before .before .before .before .before .before .first .given .0 in (
-      at-sector (a .u .geometry) (a .spot .place) (given .0) (given .1 .0) (cc is) .1 .0,
+    let sector = c .before .before .before .before .before .before .before .first .given in (
+      at-sector (a .u .geometry) (a .spot .place) (sector .0 .0) (sector .0 .1 .0) (sym (rw is at (c .before .before .before .before .before .before .before .before .before .sector .ensures)) ∙ sector .1) .1 .0,
       (
         rw is at (c .before .bytes-a-sector .ensures),
         rw (c .before .before .before .before .sectors-a-track .ensures, is) at (c .before .before .before .reach .ensures),

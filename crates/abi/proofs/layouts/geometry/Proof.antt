@@ -23,7 +23,15 @@ new-requires : tie.Need-new-requires
 new-requires c κs = search needs
 
 returns : tie.Need-returns
-returns c = cc
+returns c =
+    rw (
+      c .new .ensures,
+      c .before .before .before .before .before .be16 .ensures,
+      c .before .before .before .before .be162 .ensures,
+      c .before .before .before .be163 .ensures,
+      c .before .before .volume .ensures,
+      c .before .volume2 .ensures,
+    )
 
 pub geometry-spec : {M : Type 1} → statement M
 geometry-spec =

@@ -43,9 +43,24 @@ same-length c = search needs
 
 returns : tie.Need-returns
 returns c =
-    let a = c .before .before .before .before .before .before .before .before .before .before .before .before .before .before .before .before .before .before .before .before .before .before .before .before .before .before .args in
-    let stored = geometry-stored (now (a .bytes)) (C (a .g)) (S (a .g)) (B (a .g)) (volume (a .g) Zero) (volume (a .g) One) in
-    cc
+    let fifth = c .before .before in
+    let fourth = fifth .before .before .before .before .before in
+    let third = fourth .before .before .before .before .before in
+    let second = third .before .before .before .before .before in
+    let first = second .before .before .before .before .before in
+    let a = first .before .before .before .before .args in
+    rw (
+      fifth .put-volume2 .ensures,
+      fourth .put-volume .ensures,
+      third .put163 .ensures,
+      second .put162 .ensures,
+      first .put16 .ensures,
+      fifth .before .volume2 .ensures,
+      fourth .before .volume .ensures,
+      third .before .bytes-a-sector .ensures,
+      second .before .sectors-a-track .ensures,
+      first .before .cylinders .ensures,
+    ) (geometry-stored (now (a .bytes)) (C (a .g)) (S (a .g)) (B (a .g)) (volume (a .g) Zero) (volume (a .g) One))
 
 pub put-geometry-spec : {M : Type 1} → statement M
 put-geometry-spec =

@@ -29,9 +29,18 @@ same-length c = search needs
 
 returns : tie.Need-returns
 returns c =
-    let a = c .before .before .before .before .before .before .before .before .before .before .before .before .before .before .before .before .args in
-    let stored = record-stored (now (a .bytes)) (a .u .initialized) (a .u .geometry) (a .u .cylinder) in
-    cc
+    let third = c .before .before in
+    let second = third .before .before .before .before .before in
+    let first = second .before .before .before .before .before in
+    let a = first .before .before .before .before .args in
+    rw (
+      third .put16 .ensures,
+      second .put-geometry .ensures,
+      first .put-opening .ensures,
+      third .before .cylinder .ensures,
+      second .before .geometry .ensures,
+      first .before .initialized .ensures,
+    ) (record-stored (now (a .bytes)) (a .u .initialized) (a .u .geometry) (a .u .cylinder))
 
 pub put-record-spec : {M : Type 1} → statement M
 put-record-spec =

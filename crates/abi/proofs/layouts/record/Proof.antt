@@ -17,7 +17,13 @@ new-requires : tie.Need-new-requires
 new-requires c κs = search needs
 
 returns : tie.Need-returns
-returns c = cc
+returns c =
+    rw (
+      c .new .ensures,
+      c .before .before .before .be32 .ensures,
+      c .before .before .geometry .ensures,
+      c .before .be16 .ensures,
+    )
 
 pub record-spec : {M : Type 1} → statement M
 record-spec =

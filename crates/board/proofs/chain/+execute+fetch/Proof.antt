@@ -84,16 +84,16 @@ module _ (t : ℕ) where
   execute-ended-requires-2 c κs = search needs
 
   execute-same-length : execute-lts.Need-same-length (step-reads.Asked, step-reads.Learnt, counted-reads.Asked, counted-reads.Learnt, number-reads.Asked, number-reads.Learnt, ended-reads.Asked, ended-reads.Learnt, fetch-below t, fetch.Post) (execute-at t) execute.Post
-  execute-same-length c = search needs
+  execute-same-length c = c .before .before .before .before .before .before .before .before .before .before .before .before .before .before .before .step .kept .0
 
   execute-same-length-2 : execute-lts.Need-same-length-2 (step-reads.Asked, step-reads.Learnt, counted-reads.Asked, counted-reads.Learnt, number-reads.Asked, number-reads.Learnt, ended-reads.Asked, ended-reads.Learnt, fetch-below t, fetch.Post) (execute-at t) execute.Post
-  execute-same-length-2 c = search needs
+  execute-same-length-2 c = c .before .before .before .before .before .before .before .before .before .before .before .before .before .before .before .step .kept .1 .0
 
   execute-same-length-3 : execute-lts.Need-same-length-3 (step-reads.Asked, step-reads.Learnt, counted-reads.Asked, counted-reads.Learnt, number-reads.Asked, number-reads.Learnt, ended-reads.Asked, ended-reads.Learnt, fetch-below t, fetch.Post) (execute-at t) execute.Post
-  execute-same-length-3 c = search needs
+  execute-same-length-3 c = c .before .before .before .before .before .before .before .before .before .before .before .before .before .before .before .step .kept .1 .1 .0
 
   execute-same-length-4 : execute-lts.Need-same-length-4 (step-reads.Asked, step-reads.Learnt, counted-reads.Asked, counted-reads.Learnt, number-reads.Asked, number-reads.Learnt, ended-reads.Asked, ended-reads.Learnt, fetch-below t, fetch.Post) (execute-at t) execute.Post
-  execute-same-length-4 c = search needs
+  execute-same-length-4 c = c .before .before .before .before .before .before .before .before .before .before .before .before .before .before .before .step .kept .1 .1 .1 .0
 
   execute-returns : execute-lts.Need-returns (step-reads.Asked, step-reads.Learnt, counted-reads.Asked, counted-reads.Learnt, number-reads.Asked, number-reads.Learnt, ended-reads.Asked, ended-reads.Learnt, fetch-below t, fetch.Post) (execute-at t) execute.Post
   execute-returns c =
@@ -103,7 +103,7 @@ module _ (t : ℕ) where
       let r = c .before .before .before .answer .given .0 .0 in
       rw (c .ended .ensures, c .before .number .ensures, c .before .before .before .before .before .counted .ensures)
       (came-to RunAnswer.BlockFailed (refusalNumber r) (countedOf (a .count) (s .result .sectors)) (s .result .units) (s .last .0) (s .last .1 .0) (s .last .1 .1 .0) (s .last .1 .1 .1 .0) _
-      (executed-failed (fetched (a .left)) (a .count) (a .at) w (worldOf (s .last .0) (s .last .1 .0) (s .last .1 .1 .0) (s .last .1 .1 .1 .0) (s .result .units)) (s .result) (s .ensures) r (cc)))
+      (executed-failed (fetched (a .left)) (a .count) (a .at) w (worldOf (s .last .0) (s .last .1 .0) (s .last .1 .1 .0) (s .last .1 .1 .1 .0) (s .result .units)) (s .result) (s .ensures) r (c .before .before .before .answer .given .1)))
 
   execute-same-length-5 : execute-lts.Need-same-length-5 (step-reads.Asked, step-reads.Learnt, counted-reads.Asked, counted-reads.Learnt, number-reads.Asked, number-reads.Learnt, ended-reads.Asked, ended-reads.Learnt, fetch-below t, fetch.Post) (execute-at t) execute.Post
   execute-same-length-5 c = c .before .before .before .before .before .before .before .before .fetch .kept .0 ∙ c .before .before .before .before .before .before .before .before .before .before .before .before .before .before .before .before .before .before .before .before .before .before .before .before .before .before .step .kept .0
@@ -112,10 +112,10 @@ module _ (t : ℕ) where
   execute-same-length-6 c = c .before .before .before .before .before .before .before .before .fetch .kept .1 .0 ∙ c .before .before .before .before .before .before .before .before .before .before .before .before .before .before .before .before .before .before .before .before .before .before .before .before .before .before .step .kept .1 .0
 
   execute-same-length-7 : execute-lts.Need-same-length-7 (step-reads.Asked, step-reads.Learnt, counted-reads.Asked, counted-reads.Learnt, number-reads.Asked, number-reads.Learnt, ended-reads.Asked, ended-reads.Learnt, fetch-below t, fetch.Post) (execute-at t) execute.Post
-  execute-same-length-7 c = search needs
+  execute-same-length-7 c = c .before .before .before .before .before .before .before .before .fetch .kept .1 .1 .0 ∙ c .before .before .before .before .before .before .before .before .before .before .before .before .before .before .before .before .before .before .before .before .before .before .before .before .before .before .step .kept .1 .1 .0
 
   execute-same-length-8 : execute-lts.Need-same-length-8 (step-reads.Asked, step-reads.Learnt, counted-reads.Asked, counted-reads.Learnt, number-reads.Asked, number-reads.Learnt, ended-reads.Asked, ended-reads.Learnt, fetch-below t, fetch.Post) (execute-at t) execute.Post
-  execute-same-length-8 c = search needs
+  execute-same-length-8 c = c .before .before .before .before .before .before .before .before .fetch .kept .1 .1 .1 .0 ∙ c .before .before .before .before .before .before .before .before .before .before .before .before .before .before .before .before .before .before .before .before .before .before .before .before .before .before .step .kept .1 .1 .1 .0
 
   execute-returns-2 : execute-lts.Need-returns-2 (step-reads.Asked, step-reads.Learnt, counted-reads.Asked, counted-reads.Learnt, number-reads.Asked, number-reads.Learnt, ended-reads.Asked, ended-reads.Learnt, fetch-below t, fetch.Post) (execute-at t) execute.Post
   execute-returns-2 c =
@@ -128,16 +128,16 @@ module _ (t : ℕ) where
       (rw (c .before .before .before .before .before .before .before .before .before .before .before .before .before .before .before .before .counted .ensures) at (f .ensures))
 
   execute-same-length-9 : execute-lts.Need-same-length-9 (step-reads.Asked, step-reads.Learnt, counted-reads.Asked, counted-reads.Learnt, number-reads.Asked, number-reads.Learnt, ended-reads.Asked, ended-reads.Learnt, fetch-below t, fetch.Post) (execute-at t) execute.Post
-  execute-same-length-9 c = search needs
+  execute-same-length-9 c = c .before .before .before .before .before .before .before .before .before .before .before .before .before .before .step .kept .0
 
   execute-same-length-10 : execute-lts.Need-same-length-10 (step-reads.Asked, step-reads.Learnt, counted-reads.Asked, counted-reads.Learnt, number-reads.Asked, number-reads.Learnt, ended-reads.Asked, ended-reads.Learnt, fetch-below t, fetch.Post) (execute-at t) execute.Post
-  execute-same-length-10 c = search needs
+  execute-same-length-10 c = c .before .before .before .before .before .before .before .before .before .before .before .before .before .before .step .kept .1 .0
 
   execute-same-length-11 : execute-lts.Need-same-length-11 (step-reads.Asked, step-reads.Learnt, counted-reads.Asked, counted-reads.Learnt, number-reads.Asked, number-reads.Learnt, ended-reads.Asked, ended-reads.Learnt, fetch-below t, fetch.Post) (execute-at t) execute.Post
-  execute-same-length-11 c = search needs
+  execute-same-length-11 c = c .before .before .before .before .before .before .before .before .before .before .before .before .before .before .step .kept .1 .1 .0
 
   execute-same-length-12 : execute-lts.Need-same-length-12 (step-reads.Asked, step-reads.Learnt, counted-reads.Asked, counted-reads.Learnt, number-reads.Asked, number-reads.Learnt, ended-reads.Asked, ended-reads.Learnt, fetch-below t, fetch.Post) (execute-at t) execute.Post
-  execute-same-length-12 c = search needs
+  execute-same-length-12 c = c .before .before .before .before .before .before .before .before .before .before .before .before .before .before .step .kept .1 .1 .1 .0
 
   execute-returns-3 : execute-lts.Need-returns-3 (step-reads.Asked, step-reads.Learnt, counted-reads.Asked, counted-reads.Learnt, number-reads.Asked, number-reads.Learnt, ended-reads.Asked, ended-reads.Learnt, fetch-below t, fetch.Post) (execute-at t) execute.Post
   execute-returns-3 c =
@@ -146,7 +146,7 @@ module _ (t : ℕ) where
       let w = (worldOf (a .host .now) (a .image0 .now) (a .image1 .now) (a .events .now) (a .units)) in
       rw (c .ended2 .ensures, c .before .before .before .before .counted .ensures)
       (came-to RunAnswer.Done 0 (countedOf (a .count) (s .result .sectors)) (s .result .units) (s .last .0) (s .last .1 .0) (s .last .1 .1 .0) (s .last .1 .1 .1 .0) _
-      (executed-done (fetched (a .left)) (a .count) (a .at) w (worldOf (s .last .0) (s .last .1 .0) (s .last .1 .1 .0) (s .last .1 .1 .1 .0) (s .result .units)) (s .result) (s .ensures) (cc) (c .before .if1 .left)))
+      (executed-done (fetched (a .left)) (a .count) (a .at) w (worldOf (s .last .0) (s .last .1 .0) (s .last .1 .1 .0) (s .last .1 .1 .1 .0) (s .result .units)) (s .result) (s .ensures) (c .before .before .enum-told .given .1) (c .before .if1 .left)))
 
   fetch-ended-requires : fetch-lts.Need-ended-requires (ended-reads.Asked, ended-reads.Learnt, holds-reads.Asked, holds-reads.Learnt, execute-below t, execute.Post) (fetch-at t) fetch.Post
   fetch-ended-requires c κs = search needs

@@ -1,7 +1,6 @@
 -- The part that was chosen lies in the image that it names, so it can be cut out there.
 -- What is cut out are the part's bytes, whichever of the two images that is.
 use Prim.Native.Nat.{_^_}
-use mathlib.Core.Path.{_≡_}
 use native.Mathlib.Omega.{arith}
 use borrow.Author.Needs.{needs}
 use denote.Ref.{now}
@@ -38,15 +37,13 @@ part-result-start : tie.Need-part-result-start
 part-result-start c = search needs
 
 part-result-end : tie.Need-part-result-end
-part-result-end c =
-    let is : c .before .before .before .part-of .result .unit ≡ Zero = cc in
-    rw is at (lies (c .before .before .before))
+part-result-end c = rw (c .enum-told .given .1) at (lies (c .before .before .before))
 
 returns : tie.Need-returns
 returns c =
     let a = c .before .before .before .before .before .before .before .args in
     let p = c .before .before .before .before .part-of in
-    rw (← p .ensures) (part-cut (now (a .image0)) (now (a .image1)) (p .result) Zero (cc))
+    rw (← p .ensures) (part-cut (now (a .image0)) (now (a .image1)) (p .result) Zero (c .before .enum-told .given .1))
 
 enum-told-2 : tie.Need-enum-told-2
 enum-told-2 c = search needs
@@ -58,15 +55,13 @@ part-result-start-2 : tie.Need-part-result-start-2
 part-result-start-2 c = search needs
 
 part-result-end-2 : tie.Need-part-result-end-2
-part-result-end-2 c =
-    let is : c .before .before .before .part-of .result .unit ≡ One = cc in
-    rw is at (lies (c .before .before .before))
+part-result-end-2 c = rw (c .enum-told2 .given .1) at (lies (c .before .before .before))
 
 returns-2 : tie.Need-returns-2
 returns-2 c =
     let a = c .before .before .before .before .before .before .before .args in
     let p = c .before .before .before .before .part-of in
-    rw (← p .ensures) (part-cut (now (a .image0)) (now (a .image1)) (p .result) One (cc))
+    rw (← p .ensures) (part-cut (now (a .image0)) (now (a .image1)) (p .result) One (c .before .enum-told2 .given .1))
 
 pub inspect-spec : {M : Type 1} → statement M
 inspect-spec =

@@ -80,7 +80,7 @@ returns-2 : tie.Need-returns-2
 returns-2 c =
     let a = c .before .before .before .before .before .args in
     let inside : a .number < volumeSectors (a .self) (a .v) = omega arith in
-    rw (found-inside, addressOf-is) (cc)
+    rw (found-inside, addressOf-is, c .before .heads-of .ensures .0, c .start-of .ensures .0)
 
 pub address-spec : {M : Type 1} → statement M
 address-spec =

@@ -13,7 +13,7 @@ product-requires : tie.Need-product-requires
 product-requires c κs = search needs
 
 returns : tie.Need-returns
-returns c = (rw driveSectors-is (cc), omega arith)
+returns c = (rw (driveSectors-is, c .product .ensures .0, c .before .heads .ensures), omega arith)
 
 pub drive-sectors-spec : {M : Type 1} → statement M
 drive-sectors-spec = tie.close (tie.spec heads-requires product-requires returns)

@@ -28,7 +28,12 @@ returns-4 : tie.Need-returns-4
 returns-4 c =
     let a = c .before .before .before .before .before .before .before .args in
     let in-it : InVolume (a .self) (a .v) (a .cylinder) (a .head) (a .sector) = omega arith in
-    rw (numbered-inside (a .self) (a .v) (a .cylinder) (a .head) (a .sector) in-it, numberOf-is) (cc)
+    rw (
+      numbered-inside (a .self) (a .v) (a .cylinder) (a .head) (a .sector) in-it,
+      numberOf-is,
+      c .count .ensures,
+      c .before .before .before .before .before .before .heads-of .ensures .0,
+    )
 
 pub number-spec : {M : Type 1} → statement M
 number-spec =

@@ -28,7 +28,12 @@ returns-4 : tie.Need-returns-4
 returns-4 c =
     let a = c .before .before .before .before .before .before .before .before .before .before .args in
     let on : OnDrive (a .self) (a .a) = omega arith in
-    rw (placed-inside (a .self) (a .a) on, placeOf-is) (cc)
+    rw (
+      placed-inside (a .self) (a .a) on,
+      placeOf-is,
+      c .count .ensures,
+      c .before .before .before .before .before .before .before .before .before .heads .ensures,
+    )
 
 pub place-spec : {M : Type 1} → statement M
 place-spec =

@@ -12,7 +12,7 @@ product-requires : tie.Need-product-requires
 product-requires c κs = search needs
 
 returns : tie.Need-returns
-returns c = rw volumeSectors-is (cc)
+returns c = rw (volumeSectors-is, c .product .ensures .0, c .before .heads-of .ensures .0)
 
 pub volume-sectors-spec : {M : Type 1} → statement M
 volume-sectors-spec = tie.close (tie.spec heads-of-requires product-requires returns)

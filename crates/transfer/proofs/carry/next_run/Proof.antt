@@ -1,6 +1,7 @@
 -- The run is one of the span's, so it lies on the drive and its first byte is known.
 -- Its cursor stands right by the law of cursors.
 use Prim.Native.Nat.{_^_, _-_}
+use mathlib.Core.Path.{sym, _∙_}
 use native.Mathlib.Omega.{arith}
 use Rattle.wire.proofs.Numbers.{product-below}
 use Rattle.geometry.proofs.Answers.{at-sector, no-sector}
@@ -44,7 +45,7 @@ returns c =
     absurd
     (omega (
       arith,
-      no-sector (a .u .geometry) (run .result .place) cc,
+      no-sector (a .u .geometry) (run .result .place) (sym (rw (c .before .before .before .geometry .ensures) at (c .before .before .sector .ensures)) ∙ c .enum-told .given .1),
       run-inside (a .u) (a .span .volume) _ _ (run .result) (omega arith) (run .ensures),
       run .ensures,
     ))
@@ -74,8 +75,8 @@ returns-2 c =
     let a = c .before .before .before .before .before .before .before .before .before .before .before .before .args in
     let run = c .before .before .before .before .before .before .before .before .before .run-at in
     let pre = c .before .before .before .before .before .before .before .before .before .before .before .before .pre in
-    let given = c .before .before .before .before .before .first .given .0 in
-    let at = at-sector (a .u .geometry) (run .result .place) (given .0) (given .1 .0) cc in
+    let sector = c .before .before .before .before .before .first .given in
+    let at = at-sector (a .u .geometry) (run .result .place) (sector .0 .0) (sector .0 .1 .0) (sym (rw (c .before .before .before .before .before .before .before .before .geometry .ensures) at (c .before .before .before .before .before .before .before .sector .ensures)) ∙ sector .1) in
     rw (at .1 .0, c .before .bytes-a-sector .ensures, c .before .before .geometry2 .ensures)
     (cursor-begins (a .u) (a .span) (a .next) (a .span .count - a .next) (run .result) (omega (arith, pre)) (run .ensures) (omega (arith, pre)) (omega (arith, pre)))
 

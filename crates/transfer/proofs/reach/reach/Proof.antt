@@ -1,6 +1,6 @@
 -- A place on the drive has a mark; of the marks that follow, those in the image are scanned, and what is found says how far.
 -- Each way out is the row's law of the same name.
-use mathlib.Core.Path.{sym, ap}
+use mathlib.Core.Path.{ap, sym, _∙_}
 use native.Mathlib.Omega.{arith}
 use Rattle.geometry.proofs.Answers.{at-sector, no-sector}
 use Rattle.transfer.specs.Progress.{Progress}
@@ -27,7 +27,7 @@ enum-told c = search needs
 returns : tie.Need-returns
 returns c =
     let a = c .before .before .before .before .args in
-    absurd (omega (arith, no-sector (a .g) (a .place) cc))
+    absurd (omega (arith, no-sector (a .g) (a .place) (sym (c .before .before .sector .ensures) ∙ c .enum-told .given .1)))
 
 fitting-requires : tie.Need-fitting-requires
 fitting-requires c κs = search needs
@@ -44,39 +44,39 @@ cast-sectors c = search needs
 returns-2 : tie.Need-returns-2
 returns-2 c =
     let a = c .before .before .before .before .before .before .before .before .args in
-    let given = c .before .before .before .before .mark .given .0 in
+    let sector = c .before .before .before .before .mark .given in
     let fit = c .before .before .fitting in
     let found = c .before .readable in
     ap (λ (p : Progress). reached p)
     (sym
-    (row-unreadable (a .image .now) (a .g) (a .heeds) (a .place) (a .n) (omega arith) (given .1 .0)
-    (at-sector (a .g) (a .place) (given .0) (given .1 .0) (cc) .1 .1)
+    (row-unreadable (a .image .now) (a .g) (a .heeds) (a .place) (a .n) (omega arith) (sector .0 .1 .0)
+    (at-sector (a .g) (a .place) (sector .0 .0) (sector .0 .1 .0) (sym (c .before .before .before .before .before .before .sector .ensures) ∙ sector .1) .1 .1)
     (fit .result) (found .result) (fit .ensures) (found .ensures)
     (c .if1 .taken)))
 
 returns-3 : tie.Need-returns-3
 returns-3 c =
     let a = c .before .before .before .before .before .before .before .before .before .args in
-    let given = c .before .before .before .before .before .mark .given .0 in
+    let sector = c .before .before .before .before .before .mark .given in
     let fit = c .before .before .before .fitting in
     let found = c .before .before .readable in
     ap (λ (p : Progress). reached p)
     (sym
-    (row-past (a .image .now) (a .g) (a .heeds) (a .place) (a .n) (omega arith) (given .1 .0)
-    (at-sector (a .g) (a .place) (given .0) (given .1 .0) (cc) .1 .1)
+    (row-past (a .image .now) (a .g) (a .heeds) (a .place) (a .n) (omega arith) (sector .0 .1 .0)
+    (at-sector (a .g) (a .place) (sector .0 .0) (sector .0 .1 .0) (sym (c .before .before .before .before .before .before .before .sector .ensures) ∙ sector .1) .1 .1)
     (fit .result) (found .result) (fit .ensures) (found .ensures)
     (c .before .if1 .left) (c .if2 .taken)))
 
 returns-4 : tie.Need-returns-4
 returns-4 c =
     let a = c .before .before .before .before .before .before .before .before .before .args in
-    let given = c .before .before .before .before .before .mark .given .0 in
+    let sector = c .before .before .before .before .before .mark .given in
     let fit = c .before .before .before .fitting in
     let found = c .before .before .readable in
     ap (λ (p : Progress). reached p)
     (sym
-    (row-whole (a .image .now) (a .g) (a .heeds) (a .place) (a .n) (omega arith) (given .1 .0)
-    (at-sector (a .g) (a .place) (given .0) (given .1 .0) (cc) .1 .1)
+    (row-whole (a .image .now) (a .g) (a .heeds) (a .place) (a .n) (omega arith) (sector .0 .1 .0)
+    (at-sector (a .g) (a .place) (sector .0 .0) (sector .0 .1 .0) (sym (c .before .before .before .before .before .before .before .sector .ensures) ∙ sector .1) .1 .1)
     (fit .result) (found .result) (fit .ensures) (found .ensures)
     (c .before .if1 .left) (c .if2 .left)))
 

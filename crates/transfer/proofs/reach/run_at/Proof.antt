@@ -1,6 +1,6 @@
 -- A number of the volume has a landing; its run is the rest of its track, cut to what was asked for.
 -- Both are positive, so the run has a sector.
-use mathlib.Core.Path.{ap}
+use mathlib.Core.Path.{ap, sym, _∙_}
 use native.Mathlib.Omega.{arith}
 use borrow.Author.Needs.{needs}
 use Rattle.unit.specs.declared.Spot.{Spot}
@@ -25,7 +25,7 @@ enum-told c = search needs
 returns : tie.Need-returns
 returns c =
     let a = c .before .before .before .args in
-    absurd (omega (arith, no-landing (a .u) (a .v) (a .number) cc))
+    absurd (omega (arith, no-landing (a .u) (a .v) (a .number) (sym (c .before .before .land .ensures) ∙ c .enum-told .given .1)))
 
 lesser-requires : tie.Need-lesser-requires
 lesser-requires c κs = search needs
@@ -34,7 +34,7 @@ returns-2 : tie.Need-returns-2
 returns-2 c =
     let a = c .before .before .before .before .before .args in
     let spot = c .before .before .spot .given .0 .0 in
-    let landed = at-landing (a .u) (a .v) (a .number) spot cc in
+    let landed = at-landing (a .u) (a .v) (a .number) spot (sym (c .before .before .before .before .land .ensures) ∙ c .before .before .spot .given .1) in
     let inside = spot-inside (a .u) (a .v) (a .number) (omega arith) in
     let is = landed .1 in
     record {

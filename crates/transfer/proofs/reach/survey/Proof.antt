@@ -49,7 +49,7 @@ returns c =
     let now = c .before .before .before .before .before .before .before .before .before .loop in
     let m = c .before .before .before .before .advance in
     survey-stopped (a .image .now) (a .u) (a .span .volume) (a .span .first) (a .span .count) (a .heeds) (now .done) (now .cylinder) (now .inv) (m .result) (m .ensures)
-    (c .before .answer .given .0 .0) cc
+    (c .before .answer .given .0 .0) (c .before .answer .given .1)
 
 enum-told : tie.Need-enum-told Inv-loop μ-loop
 enum-told c = search needs
@@ -59,14 +59,14 @@ loop-less c =
     let a = c .before .before .before .before .before .before .before .before .before .before .args in
     let now = c .before .before .before .before .before .before .before .before .loop in
     let m = c .before .before .before .advance in
-    omega (arith, survey-grows (a .image .now) (a .u) (a .span .volume) (a .span .first) (a .span .count) (a .heeds) (now .done) (now .cylinder) (now .inv) (m .result) (m .ensures) (cc))
+    omega (arith, survey-grows (a .image .now) (a .u) (a .span .volume) (a .span .first) (a .span .count) (a .heeds) (now .done) (now .cylinder) (now .inv) (m .result) (m .ensures) (c .enum-told .given .1))
 
 loop-again : tie.Need-loop-again Inv-loop μ-loop
 loop-again c =
     let a = c .before .before .before .before .before .before .before .before .before .before .args in
     let now = c .before .before .before .before .before .before .before .before .loop in
     let m = c .before .before .before .advance in
-    survey-on (a .image .now) (a .u) (a .span .volume) (a .span .first) (a .span .count) (a .heeds) (now .done) (now .cylinder) (now .inv) (m .result) (m .ensures) cc
+    survey-on (a .image .now) (a .u) (a .span .volume) (a .span .first) (a .span .count) (a .heeds) (now .done) (now .cylinder) (now .inv) (m .result) (m .ensures) (c .enum-told .given .1)
 
 returns-2 : tie.Need-returns-2 Inv-loop μ-loop
 returns-2 c =
