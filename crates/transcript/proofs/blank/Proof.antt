@@ -16,7 +16,13 @@ new-requires-4 : tie.Need-new-requires-4
 new-requires-4 c κs = search needs
 
 returns : tie.Need-returns
-returns c = cc
+returns c =
+    rw (
+      c .new4 .ensures,
+      c .before .new3 .ensures,
+      c .before .before .new2 .ensures,
+      c .before .before .before .new .ensures,
+    )
 
 pub blank-spec : {M : Type 1} → statement M
 blank-spec = tie.close (tie.spec new-requires new-requires-2 new-requires-3 new-requires-4 returns)

@@ -53,7 +53,7 @@ run-requires c κs =
     (pre .0, (five, omega (arith, pre .1 .whole)))
 
 same-length : tie.Need-same-length
-same-length c = search needs
+same-length c = c .before .before .before .copy .kept .1 .1 .0
 
 returns : tie.Need-returns
 returns c =
@@ -63,7 +63,7 @@ returns c =
     (host-given (start .args .field .now) (start .args .s) (lent start) _ (start .pre .0) (start .pre .1 .whole))
 
 same-length-2 : tie.Need-same-length-2
-same-length-2 c = search needs
+same-length-2 c = c .before .before .before .copy2 .kept .1 .1 .0
 
 returns-2 : tie.Need-returns-2
 returns-2 c =
@@ -73,7 +73,7 @@ returns-2 c =
     (image0-given (start .args .field .now) (start .args .s) (lent start) _ (start .pre .0) (start .pre .1 .whole))
 
 same-length-3 : tie.Need-same-length-3
-same-length-3 c = search needs
+same-length-3 c = c .before .before .before .copy3 .kept .1 .1 .0
 
 returns-3 : tie.Need-returns-3
 returns-3 c =
@@ -83,16 +83,16 @@ returns-3 c =
     (image1-given (start .args .field .now) (start .args .s) (lent start) _ (start .pre .0) (start .pre .1 .whole))
 
 same-length-4 : tie.Need-same-length-4
-same-length-4 c = search needs
+same-length-4 c = c .before .before .before .before .before .before .before .before .run .kept .1 .0
 
 same-length-5 : tie.Need-same-length-5
-same-length-5 c = search needs
+same-length-5 c = c .before .before .before .before .before .before .before .before .run .kept .1 .1 .0
 
 same-length-6 : tie.Need-same-length-6
-same-length-6 c = search needs
+same-length-6 c = c .before .before .before .before .before .before .before .before .run .kept .1 .1 .1 .0
 
 same-length-7 : tie.Need-same-length-7
-same-length-7 c = search needs
+same-length-7 c = c .before .before .before .before .before .before .before .before .run .kept .1 .1 .1 .1 .0
 
 returns-4 : tie.Need-returns-4
 returns-4 c =
