@@ -1,6 +1,6 @@
 -- The line is its seven parts in a row; the words are their letters, and what is left of the 96 bytes is counted part by part.
-use Prim.Native.Nat.{_+_, _≤_}
-use mathlib.Core.Path.{refl, sym}
+use Prim.Native.Nat.{ℕ, _+_, _-_, _*_, _<_, _≤_}
+use mathlib.Core.Path.{_≡_, refl, sym}
 use lib.ListN.{length}
 use native.Mathlib.Omega.{arith}
 use Rattle.transcript.specs.Text.{letters, lettersFrom}
@@ -8,6 +8,17 @@ use Rattle.transcript.proofs.Texts.{decimal-short, put-keeps-length, pu
 use borrow.Author.Needs.{needs}
 use Rattle.transcript.proofs.lines.put_block.Statement.{statement}
 use Rattle.transcript.proofs.lines.put_block.Tie as tie
+
+-- The bytes of an entry are among the events.
+entry : (k n : ℕ) → 1 ≤ k → 8 * k ≤ n → (8 * (k - 1) < n) × ((8 * (k - 1) + 1 < n) × ((8 * (k - 1) + 2 < n) × ((8 * (k - 1) + 3 < n) × (8 * (k - 1) + 4 + 4 ≤ n))))
+entry k n some inside = omega arith
+
+-- There is room for a word of w bytes and d more, and what is left after d bytes.
+enough : (w d l at : ℕ) {n : ℕ} → at + (l + (w + d)) ≤ n → at + w + d ≤ n
+enough w d l at room = omega arith
+
+left : (d l at : ℕ) {r n n′ : ℕ} → at + (l + d) ≤ n → r ≡ at + d → n′ ≡ n → r + l ≤ n′
+left d l at room after kept = omega arith
 
 sub-entry : tie.Need-sub-entry
 sub-entry c = search needs
@@ -32,13 +43,13 @@ slice-aggregate-put-hex : tie.Need-slice-aggregate-put-hex
 slice-aggregate-put-hex c = refl
 
 shared-slice-read-put-hex : tie.Need-shared-slice-read-put-hex
-shared-slice-read-put-hex c = search needs
+shared-slice-read-put-hex c = let start = c .before .before .before .before .before .before .before .before .before .before in entry _ _ (start .pre .1 .0) (start .pre .1 .1) .0
 
 put-hex-requires : tie.Need-put-hex-requires
-put-hex-requires c κs = omega (arith, left-1 (c .before .before .before .before .before))
+put-hex-requires c κs = enough 8 2 60 _ (left-1 (c .before .before .before .before .before))
 
 left-2 : (c : tie.After-put-hex) → c .put-hex .result + 60 ≤ length (c .put-hex .last .0)
-left-2 c = omega (arith, left-1 (c .before .before .before .before .before .before))
+left-2 c = left 10 60 _ (left-1 (c .before .before .before .before .before .before)) (c .put-hex .ensures .after) (c .put-hex .kept .0)
 
 slice-aggregate-put-hex-2 : tie.Need-slice-aggregate-put-hex-2
 slice-aggregate-put-hex-2 c = refl
@@ -47,13 +58,13 @@ add-put-hex : tie.Need-add-put-hex
 add-put-hex c = search needs
 
 shared-slice-read-put-hex-2 : tie.Need-shared-slice-read-put-hex-2
-shared-slice-read-put-hex-2 c = search needs
+shared-slice-read-put-hex-2 c = let start = c .before .before .before .before .before .before .before .before .before .before .before .before .before .before .before .before in entry _ _ (start .pre .1 .0) (start .pre .1 .1) .1 .0
 
 put-hex-requires-2 : tie.Need-put-hex-requires-2
-put-hex-requires-2 c κs = omega (arith, left-2 (c .before .before .before .before .before))
+put-hex-requires-2 c κs = enough 7 2 51 _ (left-2 (c .before .before .before .before .before))
 
 left-3 : (c : tie.After-put-hex2) → c .put-hex2 .result + 51 ≤ length (c .put-hex2 .last .0)
-left-3 c = omega (arith, left-2 (c .before .before .before .before .before .before))
+left-3 c = left 9 51 _ (left-2 (c .before .before .before .before .before .before)) (c .put-hex2 .ensures .after) (c .put-hex2 .kept .0)
 
 slice-aggregate-put-hex-3 : tie.Need-slice-aggregate-put-hex-3
 slice-aggregate-put-hex-3 c = refl
@@ -62,13 +73,13 @@ add-put-hex-2 : tie.Need-add-put-hex-2
 add-put-hex-2 c = search needs
 
 shared-slice-read-put-hex-3 : tie.Need-shared-slice-read-put-hex-3
-shared-slice-read-put-hex-3 c = search needs
+shared-slice-read-put-hex-3 c = let start = c .before .before .before .before .before .before .before .before .before .before .before .before .before .before .before .before .before .before .before .before .before .before in entry _ _ (start .pre .1 .0) (start .pre .1 .1) .1 .1 .0
 
 put-hex-requires-3 : tie.Need-put-hex-requires-3
-put-hex-requires-3 c κs = omega (arith, left-3 (c .before .before .before .before .before))
+put-hex-requires-3 c κs = enough 7 2 42 _ (left-3 (c .before .before .before .before .before))
 
 left-4 : (c : tie.After-put-hex3) → c .put-hex3 .result + 42 ≤ length (c .put-hex3 .last .0)
-left-4 c = omega (arith, left-3 (c .before .before .before .before .before .before))
+left-4 c = left 9 42 _ (left-3 (c .before .before .before .before .before .before)) (c .put-hex3 .ensures .after) (c .put-hex3 .kept .0)
 
 slice-aggregate-put-hex-4 : tie.Need-slice-aggregate-put-hex-4
 slice-aggregate-put-hex-4 c = refl
@@ -77,13 +88,13 @@ add-put-hex-3 : tie.Need-add-put-hex-3
 add-put-hex-3 c = search needs
 
 shared-slice-read-put-hex-4 : tie.Need-shared-slice-read-put-hex-4
-shared-slice-read-put-hex-4 c = search needs
+shared-slice-read-put-hex-4 c = let start = c .before .before .before .before .before .before .before .before .before .before .before .before .before .before .before .before .before .before .before .before .before .before .before .before .before .before .before .before in entry _ _ (start .pre .1 .0) (start .pre .1 .1) .1 .1 .1 .0
 
 put-hex-requires-4 : tie.Need-put-hex-requires-4
-put-hex-requires-4 c κs = omega (arith, left-4 (c .before .before .before .before .before))
+put-hex-requires-4 c κs = enough 8 2 32 _ (left-4 (c .before .before .before .before .before))
 
 left-5 : (c : tie.After-put-hex4) → c .put-hex4 .result + 32 ≤ length (c .put-hex4 .last .0)
-left-5 c = omega (arith, left-4 (c .before .before .before .before .before .before))
+left-5 c = left 10 32 _ (left-4 (c .before .before .before .before .before .before)) (c .put-hex4 .ensures .after) (c .put-hex4 .kept .0)
 
 slice-aggregate-put-signed : tie.Need-slice-aggregate-put-signed
 slice-aggregate-put-signed c = refl
@@ -95,13 +106,10 @@ add-be32 c =
     omega (arith, first .before .before .before .before .before .before .before .before .before .before .before .fits .k)
 
 be32-requires : tie.Need-be32-requires
-be32-requires c κs =
-    let third = c .before .before .before .before .before .before .before .before .before .before .before in
-    let first = third .before .before .before .before .before .before .before .before .before .before .before in
-    omega (arith, first .before .before .before .before .before .before .before .before .before .before .before .pre)
+be32-requires c κs = let start = c .before .before .before .before .before .before .before .before .before .before .before .before .before .before .before .before .before .before .before .before .before .before .before .before .before .before .before .before .before .before .before .before .before in entry _ _ (start .pre .1 .0) (start .pre .1 .1) .1 .1 .1 .1
 
 put-signed-requires : tie.Need-put-signed-requires
-put-signed-requires c κs = omega (arith, left-5 (c .before .before .before .before .before))
+put-signed-requires c κs = enough 8 21 3 _ (left-5 (c .before .before .before .before .before))
 
 left-6 : (c : tie.After-put-signed) → c .put-signed .result + 1 ≤ length (c .put-signed .last .0)
 left-6 c = omega (arith, left-5 (c .before .before .before .before .before .before), signed-short (c .before .be32 .result))
