@@ -4,7 +4,6 @@ use mathlib.Core.List.{List}
 use Rattle.block.specs.World.{World}
 use Rattle.board.specs.declared.Units.{Units}
 
--- The world that a caller lends.
 abbrev pub worldOf : List ℕ → List ℕ → List ℕ → List ℕ → Units → World
 worldOf host image0 image1 events units =
     record {

@@ -12,8 +12,8 @@ use Rattle.block.specs.World.{World}
 use Rattle.demands.specs.Footprint.{HostData, Makes, Some, namedDrive}
 use Rattle.demands.specs.Visits.{Visit, blockOf, fetchedBy}
 
--- "the 28 of each fetched block; a UIB that passed check 12; a list ..; the data of 82, A2 and 8C": the bytes moved, which
--- are all of them unless 21 stops the transfer.
+-- "the 28 of each fetched block; a UIB that passed check 12; a list ..; the data of 82, A2 and 8C": the bytes moved, which are all of
+-- them, since only 21 would stop a write and no block is answered 21 (demands, never-21).
 abbrev pub HostRead : Visit → ℕ → Type 0
 HostRead v x =
     Among (v .at) 28 x ⊎

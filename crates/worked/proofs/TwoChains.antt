@@ -50,36 +50,33 @@ first-of s = record { at = 0; index = 0; world = worldFor First s }
 abbrev second-of : Both → Visit
 second-of s = record { at = 28; index = 0; world = worldFor Second s }
 
--- 0 and 28 are good addresses in every pair.
-passes1 : (s : Both) → length (s .events1) ≡ 512 → 28 ≤ length (s .host) → Passes 0 1 (worldFor First s)
-passes1 s events inside = passes-at First s 0 events refl inside
-
-passes2 : (s : Both) → length (s .events2) ≡ 512 → 56 ≤ length (s .host) → Passes 28 1 (worldFor Second s)
-passes2 s events inside = passes-at Second s 28 events refl inside
+-- Both chains of a pair pass checks 1, 2 and 3.
+both-pass :
+    (s : Both) → length (s .events1) ≡ 512 → length (s .events2) ≡ 512 → 56 ≤ length (s .host) →
+    Passes 0 1 (worldFor First s) × Passes 28 1 (worldFor Second s)
+both-pass s events1 events2 long =
+    (passes-at First s 0 events1 refl (omega arith), passes-at Second s 28 events2 refl long)
 
 -- ---- adjacent buffers
 
-adjacent1 : Passes 0 1 (worldFor First adjacent)
-adjacent1 = passes1 adjacent refl (omega arith)
-
-adjacent2 : Passes 28 1 (worldFor Second adjacent)
-adjacent2 = passes2 adjacent refl (omega arith)
+adjacent-pass : Passes 0 1 (worldFor First adjacent) × Passes 28 1 (worldFor Second adjacent)
+adjacent-pass = both-pass adjacent refl refl (omega arith)
 
 adjacent-read : Carried First adjacent 0 true 56 1 1 Ended
 unfolding word taskOf
-adjacent-read = read-carried First adjacent 0 adjacent1 7 0 refl 56 refl (omega arith)
+adjacent-read = read-carried First adjacent 0 (adjacent-pass .0) 7 0 refl 56 refl (omega arith)
 
 adjacent-write : Carried Second adjacent 28 false 120 1 1 Ended
 unfolding word taskOf
-adjacent-write = write-carried Second adjacent 28 adjacent2 9 0 refl 120 refl (omega arith)
+adjacent-write = write-carried Second adjacent 28 (adjacent-pass .1) 9 0 refl 120 refl (omega arith)
 
 adjacent-met : Independent one two adjacent
 adjacent-met = met (adjacent-read .footprint) (adjacent-write .footprint) differ (omega arith) (omega arith) (omega arith)
 
 both-move : (ofFirst adjacent ≡ come RunAnswer.Done 0 1) × (ofSecond adjacent ≡ come RunAnswer.Done 0 1)
 both-move = (
-  ap told (done 0 _ adjacent1 refl 1 (adjacent-read .answer) (adjacent-read .sectors)),
-  ap told (done 28 _ adjacent2 refl 1 (adjacent-write .answer) (adjacent-write .sectors)),
+  ap told (done 0 _ (adjacent-pass .0) refl 1 (adjacent-read .answer) (adjacent-read .sectors)),
+  ap told (done 28 _ (adjacent-pass .1) refl 1 (adjacent-write .answer) (adjacent-write .sectors)),
 )
 
 -- ---- a refused block's data
@@ -87,11 +84,8 @@ both-move = (
 not-ready : CountsAsInitialized (newDrive .unit) → ⊥
 not-ready counts = no-way (sym (counts .said))
 
-refused1 : Passes 0 1 (worldFor First refusedData)
-refused1 = passes1 refusedData refl (omega arith)
-
-refused2 : Passes 28 1 (worldFor Second refusedData)
-refused2 = passes2 refusedData refl (omega arith)
+refused-pass : Passes 0 1 (worldFor First refusedData) × Passes 28 1 (worldFor Second refusedData)
+refused-pass = both-pass refusedData refl refl (omega arith)
 
 refused-write : verdictOf (first-of refusedData) ≡ Verdict.Refused Refusal.NotInitialized
 unfolding word taskOf
@@ -100,13 +94,13 @@ refused-write = move-11 (record { «record» = newDrive .unit; image = 0 }) (ref
 refused-first : Alone First 0 refusedData Zero ((0, 28) ∷ []) ((2, 2) ∷ [])
 unfolding word taskOf
 refused-first =
-    alone First refusedData 0 refused1 _ refused-write [] []
+    alone First refusedData 0 (refused-pass .0) _ refused-write [] []
     (λ x j. ⊎-elim (λ uib. omega (arith, uib .initialize)) (λ none. none) j) (λ x d. d) (λ x report among. omega (arith, report))
     (λ x d. d)
 
 refused-read : Carried Second refusedData 28 true 56 1 1 Ended
 unfolding word taskOf
-refused-read = read-carried Second refusedData 28 refused2 9 0 refl 56 refl (omega arith)
+refused-read = read-carried Second refusedData 28 (refused-pass .1) 9 0 refl 56 refl (omega arith)
 
 refused-met : Independent one two refusedData
 refused-met = met refused-first (refused-read .footprint) differ (omega arith) (omega arith) (omega arith)
@@ -115,25 +109,22 @@ data-not-read :
     (ofFirst refusedData ≡ come RunAnswer.BlockFailed 11 0) × (Among 28 64 30 × HostWrites two (worldFor Second refusedData) 30)
 data-not-read =
     let e = effect-is (first-of refusedData) _ refused-write in (
-      ap told (failed 0 _ refused1 Refusal.NotInitialized 0 (ap (λ e. e .answer) e) (ap (λ e. e .sectors) e)),
-      (omega arith, by-block 28 _ refused2 (λ v. HostWritten v 30) (inl (omega arith))),
+      ap told (failed 0 _ (refused-pass .0) Refusal.NotInitialized 0 (ap (λ e. e .answer) e) (ap (λ e. e .sectors) e)),
+      (omega arith, by-block 28 _ (refused-pass .1) (λ v. HostWritten v 30) (inl (omega arith))),
     )
 
 -- ---- the rest of a stopped read
 
-stopped1 : Passes 0 1 (worldFor First stoppedRead)
-stopped1 = passes1 stoppedRead refl (omega arith)
-
-stopped2 : Passes 28 1 (worldFor Second stoppedRead)
-stopped2 = passes2 stoppedRead refl (omega arith)
+stopped-pass : Passes 0 1 (worldFor First stoppedRead) × Passes 28 1 (worldFor Second stoppedRead)
+stopped-pass = both-pass stoppedRead refl refl (omega arith)
 
 stopped-read : Carried First stoppedRead 0 true 56 2 1 (Failed Refusal.Unreadable)
 unfolding word taskOf
-stopped-read = read-stopped-carried First stoppedRead 0 stopped1 7 1 refl 56 refl refl (omega arith)
+stopped-read = read-stopped-carried First stoppedRead 0 (stopped-pass .0) 7 1 refl 56 refl refl (omega arith)
 
 stopped-write : Carried Second stoppedRead 28 false 120 1 1 Ended
 unfolding word taskOf
-stopped-write = write-carried Second stoppedRead 28 stopped2 9 0 refl 120 refl (omega arith)
+stopped-write = write-carried Second stoppedRead 28 (stopped-pass .1) 9 0 refl 120 refl (omega arith)
 
 stopped-met : Independent one two stoppedRead
 stopped-met = met (stopped-read .footprint) (stopped-write .footprint) differ (omega arith) (omega arith) (omega arith)
@@ -141,10 +132,10 @@ stopped-met = met (stopped-read .footprint) (stopped-write .footprint) differ (o
 rest-not-written :
     (ofFirst stoppedRead ≡ come RunAnswer.BlockFailed 20 1) × (Among 56 128 120 × HostReads two (worldFor Second stoppedRead) 120)
 rest-not-written = (
-  ap told (failed 0 _ stopped1 Refusal.Unreadable 1 (stopped-read .answer) (stopped-read .sectors)),
+  ap told (failed 0 _ (stopped-pass .0) Refusal.Unreadable 1 (stopped-read .answer) (stopped-read .sectors)),
   (
     omega arith,
-    by-block 28 _ stopped2 (λ v. HostRead v 120)
+    by-block 28 _ (stopped-pass .1) (λ v. HostRead v 120)
         (inr (inr (_, ((_, (stopped-write .verdict, refl)), (refl, (0, (omega (arith, stopped-write .sectors), refl))))))),
   ),
 )
@@ -162,19 +153,16 @@ met-pairs =
 
 -- ---- a byte that both write
 
-twice1 : Passes 0 1 (worldFor First writtenTwice)
-twice1 = passes1 writtenTwice refl (omega arith)
-
-twice2 : Passes 28 1 (worldFor Second writtenTwice)
-twice2 = passes2 writtenTwice refl (omega arith)
+twice-pass : Passes 0 1 (worldFor First writtenTwice) × Passes 28 1 (worldFor Second writtenTwice)
+twice-pass = both-pass writtenTwice refl refl (omega arith)
 
 twice-first : Carried First writtenTwice 0 true 56 1 1 Ended
 unfolding word taskOf
-twice-first = read-carried First writtenTwice 0 twice1 7 0 refl 56 refl (omega arith)
+twice-first = read-carried First writtenTwice 0 (twice-pass .0) 7 0 refl 56 refl (omega arith)
 
 twice-second : Carried Second writtenTwice 28 true 56 1 1 Ended
 unfolding word taskOf
-twice-second = read-carried Second writtenTwice 28 twice2 9 0 refl 56 refl (omega arith)
+twice-second = read-carried Second writtenTwice 28 (twice-pass .1) 9 0 refl 56 refl (omega arith)
 
 -- Byte 56 gets the byte of the disk that was read.
 module _
@@ -214,10 +202,10 @@ module _ (s : Both) (units : NoUnitInCommon one two s) (read : NoByteReadByOther
   as-alone = unnoticed both lawful (runOf Second two) (runOf First one) (run-local Second two) (run-local First one) s unread
 
 wrote-first : HostWrites one (worldFor First writtenTwice) 56
-wrote-first = wrote-56 First writtenTwice 0 twice1 7 0 refl twice-first
+wrote-first = wrote-56 First writtenTwice 0 (twice-pass .0) 7 0 refl twice-first
 
 wrote-second : HostWrites two (worldFor Second writtenTwice) 56
-wrote-second = wrote-56 Second writtenTwice 28 twice2 9 0 refl twice-second
+wrote-second = wrote-56 Second writtenTwice 28 (twice-pass .1) 9 0 refl twice-second
 
 units-apart : NoUnitInCommon one two writtenTwice
 units-apart = no-unit (twice-first .footprint) (twice-second .footprint) differ
@@ -229,11 +217,11 @@ twice-differs : EitherWay one two writtenTwice → ⊥
 twice-differs e =
     let s = writtenTwice in
     let by-one : getD (runOf First one .left s .host) 56 0 ≡ 7 =
-    ap (λ w. getD (w .host) 56 0) (leaves 0 (worldFor First s) twice1 refl) ∙
-    left-56 First s 0 twice1 7 0 refl twice-first (λ among. omega arith) (omega arith) in
+    ap (λ w. getD (w .host) 56 0) (leaves 0 (worldFor First s) (twice-pass .0) refl) ∙
+    left-56 First s 0 (twice-pass .0) 7 0 refl twice-first (λ among. omega arith) (omega arith) in
     let by-two : getD (runOf Second two .left s .host) 56 0 ≡ 9 =
-    ap (λ w. getD (w .host) 56 0) (leaves 28 (worldFor Second s) twice2 refl) ∙
-    left-56 Second s 28 twice2 9 0 refl twice-second (λ among. omega arith) (omega arith) in
+    ap (λ w. getD (w .host) 56 0) (leaves 28 (worldFor Second s) (twice-pass .1) refl) ∙
+    left-56 Second s 28 (twice-pass .1) 9 0 refl twice-second (λ among. omega arith) (omega arith) in
     omega (
       arith,
       by-one,
@@ -247,11 +235,8 @@ twice-differs e =
 within-tiny : Within tiny
 within-tiny = counts 0 (omega arith) .within
 
-shared1 : Passes 0 1 (worldFor First sharedUnit)
-shared1 = passes1 sharedUnit refl (omega arith)
-
-shared2 : Passes 28 1 (worldFor Second sharedUnit)
-shared2 = passes2 sharedUnit refl (omega arith)
+shared-pass : Passes 0 1 (worldFor First sharedUnit) × Passes 28 1 (worldFor Second sharedUnit)
+shared-pass = both-pass sharedUnit refl refl (omega arith)
 
 shared-initialize : verdictOf (first-of sharedUnit) ≡ Verdict.Do (Plan.Initialize tiny)
 unfolding word taskOf
@@ -266,14 +251,14 @@ shared-restore = restore-refused (record { «record» = newDrive .unit; image = 
 shared-first : Alone First 0 sharedUnit Zero ((0, 28) ∷ (32, 18) ∷ []) ((2, 2) ∷ [])
 unfolding word taskOf
 shared-first =
-    alone First sharedUnit 0 shared1 _ shared-initialize ((32, 18) ∷ []) []
+    alone First sharedUnit 0 (shared-pass .0) _ shared-initialize ((32, 18) ∷ []) []
     (λ x j. ⊎-elim (λ uib. inl (uib .among)) (λ none. absurd none) j) (λ x d. absurd d)
     (λ x report among. absurd (omega (arith, report))) (λ x d. d)
 
 shared-second : Alone Second 28 sharedUnit Zero ((28, 28) ∷ []) ((30, 2) ∷ [])
 unfolding word taskOf
 shared-second =
-    alone Second sharedUnit 28 shared2 _ shared-restore [] []
+    alone Second sharedUnit 28 (shared-pass .1) _ shared-restore [] []
     (λ x j. ⊎-elim (λ uib. absurd (omega (arith, uib .initialize))) (λ none. none) j) (λ x d. d)
     (λ x report among. absurd (omega (arith, report))) (λ x d. d)
 
@@ -288,14 +273,14 @@ initialize-leaves : runOf First one .left sharedUnit ≡ leaving First sharedUni
 unfolding worldAfter
 initialize-leaves =
     ap (leaving First sharedUnit)
-    (leaves 0 (worldFor First sharedUnit) shared1 refl ∙ rw (effect-is (first-of sharedUnit) _ shared-initialize))
+    (leaves 0 (worldFor First sharedUnit) (shared-pass .0) refl ∙ rw (effect-is (first-of sharedUnit) _ shared-initialize))
 
 abbrev then-shared : Both
 then-shared = leaving First sharedUnit initialized-world
 
 then-passes : Passes 28 1 (worldFor Second then-shared)
 unfolding after bytesFrom
-then-passes = passes2 then-shared refl (omega arith)
+then-passes = passes-at Second then-shared 28 refl refl (omega arith)
 
 then-restore : verdictOf (second-of then-shared) ≡ Verdict.Do (Plan.Heads 0)
 unfolding word taskOf after bytesFrom
@@ -310,7 +295,7 @@ then-comes =
 alone-comes : ofSecond sharedUnit ≡ come RunAnswer.BlockFailed 11 0
 alone-comes =
     let e = effect-is (second-of sharedUnit) _ shared-restore in
-    ap told (failed 28 _ shared2 Refusal.NotInitialized 0 (ap (λ e. e .answer) e) (ap (λ e. e .sectors) e))
+    ap told (failed 28 _ (shared-pass .1) Refusal.NotInitialized 0 (ap (λ e. e .answer) e) (ap (λ e. e .sectors) e))
 
 shared-differs : EitherWay one two sharedUnit → ⊥
 shared-differs e =
@@ -321,7 +306,7 @@ shared-unit :
     (NoUnitInCommon one two sharedUnit → ⊥) ×
     (NoByteWrittenByBoth one two sharedUnit × (NoByteReadByOther one two sharedUnit × (EitherWay one two sharedUnit → ⊥)))
 shared-unit = (
-  λ none. none Zero (by-block 0 _ shared1 (λ v. names v ≡ Zero) refl) (by-block 28 _ shared2 (λ v. names v ≡ Zero) refl),
+  λ none. none Zero (by-block 0 _ (shared-pass .0) (λ v. names v ≡ Zero) refl) (by-block 28 _ (shared-pass .1) (λ v. names v ≡ Zero) refl),
   (
     none-twice shared-first shared-second (omega arith),
     (none-read shared-first shared-second (omega arith) (omega arith), shared-differs),
@@ -330,11 +315,8 @@ shared-unit = (
 
 -- ---- a written byte that the other reads
 
-read1 : Passes 0 1 (worldFor First readByOther)
-read1 = passes1 readByOther refl (omega arith)
-
-read2 : Passes 28 1 (worldFor Second readByOther)
-read2 = passes2 readByOther refl (omega arith)
+read-pass : Passes 0 1 (worldFor First readByOther) × Passes 28 1 (worldFor Second readByOther)
+read-pass = both-pass readByOther refl refl (omega arith)
 
 read-report : verdictOf (first-of readByOther) ≡ Verdict.Do Plan.Report
 unfolding word taskOf
@@ -349,14 +331,14 @@ read-initialize =
 read-first : Alone First 0 readByOther Zero ((0, 28) ∷ []) ((2, 2) ∷ (4, 12) ∷ [])
 unfolding word taskOf
 read-first =
-    alone First readByOther 0 read1 _ read-report [] ((4, 12) ∷ [])
+    alone First readByOther 0 (read-pass .0) _ read-report [] ((4, 12) ∷ [])
     (λ x j. ⊎-elim (λ uib. absurd (omega (arith, uib .initialize))) (λ none. none) j) (λ x d. d) (λ x report among. inl among)
     (λ x d. absurd d)
 
 read-second : Alone Second 28 readByOther One ((28, 28) ∷ (4, 18) ∷ []) ((30, 2) ∷ [])
 unfolding word taskOf
 read-second =
-    alone Second readByOther 28 read2 _ read-initialize ((4, 18) ∷ []) []
+    alone Second readByOther 28 (read-pass .1) _ read-initialize ((4, 18) ∷ []) []
     (λ x j. ⊎-elim (λ uib. inl (uib .among)) (λ none. absurd none) j) (λ x d. absurd d)
     (λ x report among. absurd (omega (arith, report))) (λ x d. d)
 
@@ -370,14 +352,14 @@ report-leaves : runOf First one .left readByOther ≡ leaving First readByOther 
 unfolding worldAfter
 report-leaves =
     ap (leaving First readByOther)
-    (leaves 0 (worldFor First readByOther) read1 refl ∙ rw (effect-is (first-of readByOther) _ read-report))
+    (leaves 0 (worldFor First readByOther) (read-pass .0) refl ∙ rw (effect-is (first-of readByOther) _ read-report))
 
 abbrev then-read : Both
 then-read = leaving First readByOther reported-world
 
 then-read-passes : Passes 28 1 (worldFor Second then-read)
 unfolding after bytesFrom
-then-read-passes = passes2 then-read refl (omega arith)
+then-read-passes = passes-at Second then-read 28 refl refl (omega arith)
 
 -- The UIB now says that volume 0 has no heads.
 then-outside : verdictOf (second-of then-read) ≡ Verdict.Refused Refusal.UibOutsideLimits
@@ -395,7 +377,7 @@ then-read-comes =
 read-alone-comes : ofSecond readByOther ≡ come RunAnswer.Done 0 0
 read-alone-comes =
     let e = effect-is (second-of readByOther) _ read-initialize in
-    ap told (done 28 _ read2 refl 0 (ap (λ e. e .answer) e) (ap (λ e. e .sectors) e))
+    ap told (done 28 _ (read-pass .1) refl 0 (ap (λ e. e .answer) e) (ap (λ e. e .sectors) e))
 
 read-differs : EitherWay one two readByOther → ⊥
 read-differs e =
@@ -408,8 +390,8 @@ read-by-other :
 unfolding word
 read-by-other = (
   λ none.
-      none 4 .0 (by-block 0 _ read1 (λ v. HostWritten v 4) (inr (inl (refl, omega arith))))
-      (by-block 28 _ read2 (λ v. HostRead v 4)
+      none 4 .0 (by-block 0 _ (read-pass .0) (λ v. HostWritten v 4) (inr (inl (refl, omega arith))))
+      (by-block 28 _ (read-pass .1) (λ v. HostRead v 4)
       (inr (inl (inl (record { initialize = refl; place = omega arith; among = omega arith }))))),
   (no-unit read-first read-second differ, (none-twice read-first read-second (omega arith), read-differs)),
 )

@@ -85,10 +85,10 @@ pub record Met : Type 0 where
   pub adjacent-buffers : Independent one two adjacent
   pub both-move : (ofFirst adjacent ≡ come RunAnswer.Done 0 1) × (ofSecond adjacent ≡ come RunAnswer.Done 0 1)
   pub refused-block : Independent one two refusedData
-  -- its data would have been byte 30, which the second writes
+  -- byte 30, which the second writes, lies in the data that it asked for
   pub data-not-read : (ofFirst refusedData ≡ come RunAnswer.BlockFailed 11 0) × (Among 28 64 30 × HostWrites two (worldFor Second refusedData) 30)
   pub stopped-read : Independent one two stoppedRead
-  -- its buffer has byte 120, which the second reads
+  -- byte 120, which the second reads, lies in the buffer that it asked for
   pub rest-not-written : (ofFirst stoppedRead ≡ come RunAnswer.BlockFailed 20 1) × (Among 56 128 120 × HostReads two (worldFor Second stoppedRead) 120)
 
 -- ---- one part of it fails, and the orders differ
