@@ -3,14 +3,12 @@
 use Prim.Native.Nat.{ℕ, _+_, _*_, _≤_, _<_}
 use mathlib.Core.List.{List, _∷_, _++_}
 use mathlib.Core.Logic.{_↔_, inl, inr, ⊎-elim}
-use mathlib.Core.Path.{_≡_, refl, sym, ap, _∙_}
-use native.Mathlib.Omega.{arith}
+use mathlib.Core.Path.{_≡_, refl, sym, ap, subst, _∙_}
 use lib.ListN.{getD, length}
 use Rattle.wire.specs.Memory.{Among}
 use Rattle.wire.proofs.Promises.{never}
 use Rattle.answers.specs.declared.BlockAnswer.{BlockAnswer}
 use Rattle.answers.specs.declared.Refusal.{Refusal}
-use Rattle.answers.specs.Numbers.{refusalNumber}
 use Rattle.geometry.specs.Drive.{marksAt, need}
 use Rattle.geometry.proofs.Laws.{sector-in-image}
 use Rattle.judge.specs.declared.Plan.{Plan}
@@ -18,9 +16,10 @@ use Rattle.judge.specs.declared.Plan.the-variants.{Report, Initialize, Heads, F
 use Rattle.judge.specs.declared.Verdict.{Verdict}
 use Rattle.judge.specs.declared.Verdict.the-variants.{Refused, Do}
 use Rattle.judge.specs.Checks.{Check, None}
-use Rattle.judge.specs.Verdict.{checks}
-use Rattle.judge.proofs.Exactly.{each-number}
-use Rattle.judge.proofs.LetThrough.{format-let-through, move-let-through, refused-before-transfer, row-before-transfer}
+use Rattle.judge.specs.Asks.{checks}
+use Rattle.judge.specs.Table.{BeforeTransfer}
+use Rattle.judge.proofs.Exactly.{check-before-transfer, given-in-its-case, refused-before-transfer}
+use Rattle.judge.proofs.LetThrough.{format-let-through, move-let-through}
 use Rattle.request.specs.declared.UnitNumber.{UnitNumber}
 use Rattle.request.specs.declared.UnitNumber.the-variants.{Zero, One}
 use Rattle.transfer.specs.Data.{Transfer, progressOn}
@@ -166,24 +165,24 @@ module _ (v : Visit) where
       by-verdict (Do (Initialize g)) is = absurd (never (cc (answer-is (Do (Initialize g)) is)))
       by-verdict (Do (Heads c)) is = absurd (never (cc (answer-is (Do (Heads c)) is)))
 
-  -- 10 to 19: a block's answer is one of them exactly where the judgement refuses it so. A transfer that is stopped has 20 or 21.
-  pub refused-exactly : (r : Refusal) → refusalNumber r ≤ 19 → (effectOf v .answer ≡ BlockAnswer.Failed r) ↔ (verdictOf v ≡ Refused r)
+  -- An answer before transfer is a block's exactly where the judgement refuses it so. A transfer that is stopped has 20 or 21.
+  pub refused-exactly : (r : Refusal) → BeforeTransfer r → (effectOf v .answer ≡ BlockAnswer.Failed r) ↔ (verdictOf v ≡ Refused r)
   refused-exactly r early = (λ e. by-way (fails r e), λ is. refusal-moves-nothing r is .1)
     where
       by-way : Fails r → verdictOf v ≡ Refused r
       by-way (refused is) = is
       by-way (stopped t mk stop) =
-          absurd (⊎-elim (λ same. omega (arith, ap refusalNumber same)) (λ same. omega (arith, ap refusalNumber same))
+          absurd (⊎-elim (λ same. subst BeforeTransfer same early) (λ same. subst BeforeTransfer same early)
           (stopped-with (namedDrive v .image) t r stop))
 
-  -- So each of 10 to 19 is "given in its stated case and no other" (00, demand 1): a row's answer is the block's exactly where its
-  -- case is given and that of no row before it, "Block answers, in order".
+  -- So each of 10 to 19 is "given in its stated case and no other" (00, demand 1): a check's answer is the block's exactly where its
+  -- case is given and that of no check before it, "Block answers, in order".
   pub answered-in-its-case :
       (before : List Check) (k : Check) (rest : List Check) → checks (askedOf v) ≡ before ++ k ∷ rest →
       (effectOf v .answer ≡ BlockAnswer.Failed (k .answer)) ↔ (None before × k .Given)
   answered-in-its-case before k rest is =
-      let block = refused-exactly (k .answer) (row-before-transfer (askedOf v) before k rest is .1) in
-      let judgement = each-number (askedOf v) before k rest is in
+      let block = refused-exactly (k .answer) (check-before-transfer (askedOf v) before k rest is) in
+      let judgement = given-in-its-case (askedOf v) before k rest is in
       (λ e. judgement .0 (block .0 e), λ g. block .1 (judgement .1 g))
 
   -- 20: "unreadable sector, DE clear; earlier sectors moved", exactly where the block makes a transfer that heeds the marks and
@@ -192,7 +191,7 @@ module _ (v : Visit) where
   answer-20-exactly = (λ e. by-way (fails Refusal.Unreadable e), by-stop)
     where
       by-way : Fails Refusal.Unreadable → Stopped v
-      by-way (refused is) = absurd (omega (arith, refused-before-transfer _ Refusal.Unreadable is))
+      by-way (refused is) = absurd (refused-before-transfer _ Refusal.Unreadable is)
       by-way (stopped t mk stop) = (t, (mk, unreadable-means (namedDrive v .image) t stop))
 
       by-stop : Stopped v → effectOf v .answer ≡ BlockAnswer.Failed Refusal.Unreadable
@@ -205,5 +204,5 @@ module _ (v : Visit) where
   never-21 e = by-way (fails Refusal.PastTheImage e)
     where
       by-way : Fails Refusal.PastTheImage → ⊥
-      by-way (refused is) = omega (arith, refused-before-transfer _ Refusal.PastTheImage is)
+      by-way (refused is) = refused-before-transfer _ Refusal.PastTheImage is
       by-way (stopped t (plan, (is, mk)) stop) = never-past-the-image (namedDrive v .image) t (all-in-image plan t is mk) stop

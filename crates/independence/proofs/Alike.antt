@@ -22,16 +22,16 @@ use Rattle.judge.specs.declared.Plan.the-variants.{Report, Initialize, Heads, F
 use Rattle.judge.specs.declared.Verdict.{Verdict}
 use Rattle.judge.specs.declared.Verdict.the-variants.{Refused, Do}
 use Rattle.judge.specs.Verdict.{verdict}
+use Rattle.judge.proofs.LetThrough.{move-let-through}
 use Rattle.judge.proofs.Locality.{block-local}
 use Rattle.transfer.proofs.Joined.{joined-same}
 use Rattle.block.specs.Block.{dataByte, judged}
-use Rattle.demands.specs.Footprint.{namedDrive, names, verdictOf}
+use Rattle.demands.specs.Footprint.{askedOf, namedDrive, names, verdictOf}
 use Rattle.independence.specs.Reads.{HostRead}
 use Rattle.demands.specs.Visits.{Visit, blockOf, effectOf}
 use Rattle.block.specs.World.{Drive, World, driveOf}
-use Rattle.block.proofs.Gathered.{list-good, moved-same}
+use Rattle.block.proofs.Gathered.{moved-same}
 use Rattle.demands.proofs.Written.{effect-is}
-use Rattle.independence.proofs.Lists.{list-is-read}
 
 block-same : (h k : List ℕ) (at : ℕ) → ((x : ℕ) → Among at 28 x → getD h x 0 ≡ getD k x 0) → blockAt h at ≡ blockAt k at
 block-same h k at alike =
@@ -86,16 +86,16 @@ module _
 
     pub verdict-alike : verdictOf v ≡ verdictOf there
     verdict-alike =
-        block-local (namedDrive v .unit) (length (namedDrive v .image)) h (k .host) long (blockOf v) (λ x read. alike x (inr (inl read))) ∙
+        block-local (namedDrive v .unit) (length (namedDrive v .image)) h (k .host) long (blockOf v) (λ x read. alike x (inr (inl (inl read))))
+        (λ x read. alike x (inr (inl (inr read)))) ∙
         (λ i. on (block-alike i) (drive-alike i) (k .host))
 
     -- Where byte y of the data of a job lies.
     data-alike : (j : Job) → verdictOf v ≡ Do (Move j) → (b : Buffer) → j .buffer ≡ b → (y : ℕ) → dataByte h b y ≡ dataByte (k .host) b y
     data-alike j is (Piece at) here y = refl
     data-alike j is (Elements at n) here y =
-        let good = list-good h (namedDrive v .image) (namedDrive v .unit) (blockOf v) j is at n here in
         let same : (i : ℕ) → i < n → elementOf h at i ≡ elementOf (k .host) at i =
-        element-same h (k .host) at n (λ x among. alike x (inr (inl (inr (list-is-read _ j at n _ x is here good among))))) in
+        element-same h (k .host) at n (λ x among. alike x (inr (inl (inr (move-let-through (askedOf v) j is .list at n x here among))))) in
         joined-same (λ i. elementOf h at i .bytes) (λ i. elementOf (k .host) at i .bytes) (λ i. elementOf h at i .address)
         (λ i. elementOf (k .host) at i .address) n 0 y
         (λ t less. rw zero-add (ap (λ e. e .bytes) (same t less), ap (λ e. e .address) (same t less)))

@@ -4,12 +4,11 @@ use Prim.Native.Nat.{ℕ}
 use mathlib.Core.Bool.{false}
 use mathlib.Core.Logic.{_⊎_}
 use mathlib.Core.Path.{_≡_}
-use lib.ListN.{length}
 use Rattle.wire.specs.Memory.{Among}
-use Rattle.judge.specs.Reads.{ReadFor}
+use Rattle.judge.specs.Reads.{InList, InUib}
 use Rattle.transfer.specs.Data.{Transfer}
 use Rattle.block.specs.World.{World}
-use Rattle.demands.specs.Footprint.{HostData, Makes, Some, namedDrive}
+use Rattle.demands.specs.Footprint.{HostData, Makes, Some, askedOf}
 use Rattle.demands.specs.Visits.{Visit, blockOf, fetchedBy}
 
 -- "the 28 of each fetched block; a UIB that passed check 12; a list ..; the data of 82, A2 and 8C": the bytes moved, which are all of
@@ -17,7 +16,7 @@ use Rattle.demands.specs.Visits.{Visit, blockOf, fetchedBy}
 abbrev pub HostRead : Visit → ℕ → Type 0
 HostRead v x =
     Among (v .at) 28 x ⊎
-    (ReadFor (blockOf v) (namedDrive v .unit) (length (namedDrive v .image)) (v .world .host) x ⊎
+    ((InUib (askedOf v) (blockOf v .address) 18 x ⊎ InList (askedOf v) x) ⊎
     ((t : Transfer) × (Makes v t × ((t .to-host ≡ false) × HostData v t x))))
 
 -- What a run reads: some block that it fetches does.

@@ -2,4 +2,3 @@ pub mod Ask
 pub mod Errors
 pub mod Identity
 pub mod Layout
-pub mod Reads

@@ -1,135 +1,167 @@
 -- Each number in its stated case and no other: an answer is given exactly where its check is and no earlier one is.
 -- In a list whose answers differ, the first check that is given is the only one that can have given its answer.
-use mathlib.Core.Bool.{Bool, true, false, not, _&&_}
+use Prim.Native.Nat.{ℕ}
+use mathlib.Core.Bool.{Bool, true, false, cond, not, _&&_, _||_}
 use mathlib.Core.List.{List, [], _∷_, _++_}
-use mathlib.Core.Logic.{_↔_, by-cases, if-neg, if-pos}
-use mathlib.Core.Path.{_≡_, refl, sym, ap, _∙_}
-use borrow.Author.Tests.{eq-eqb, eqb-false, ne-eqb}
-use lib.Dec.{T, eqb}
-use lib.ListN.{take}
+use mathlib.Core.Logic.{_↔_, by-cases}
+use mathlib.Core.Path.{_≡_, refl, sym, ap, subst, _∙_}
+use borrow.Author.Tests.{eq-eqb, eqb-true}
+use lib.Dec.{T, T-not, eqb, not-T}
 use Rattle.wire.proofs.Promises.{never as impossible}
 use Rattle.answers.specs.declared.Refusal.{Refusal}
 use Rattle.answers.specs.Numbers.{refusalNumber}
 use Rattle.judge.specs.declared.Plan.{Plan}
 use Rattle.judge.specs.declared.Verdict.{Verdict}
-use Rattle.judge.specs.Checks.{Check, None, first}
-use Rattle.judge.specs.Given.{Asked, given10, given11, given12, given13, given14, given15, given16, given17, given18, given19}
-use Rattle.judge.specs.Verdict.{checks, verdict}
-
--- No check of the list has this answer: told by the numbers, which are computed.
-abbrev pub lacks : Refusal → List Check → Bool
-lacks r [] = true
-lacks r (k ∷ ks) = not (eqb (refusalNumber (k .answer)) (refusalNumber r)) && lacks r ks
-
-differs : (r : Refusal) (k : Check) (ks : List Check) → T (lacks r (k ∷ ks)) → (k .answer ≡ r → ⊥) × T (lacks r ks)
-differs r k ks = by-test (eqb (refusalNumber (k .answer)) (refusalNumber r)) refl
-  where
-    by-test :
-        (t : Bool) → eqb (refusalNumber (k .answer)) (refusalNumber r) ≡ t → T (not t && lacks r ks) →
-        (k .answer ≡ r → ⊥) × T (lacks r ks)
-    by-test true e no-one = absurd no-one
-    by-test false e no-one = (λ same. eqb-false _ _ e (ap refusalNumber same), no-one)
+use Rattle.judge.specs.Asks.{checks}
+use Rattle.judge.specs.Checks.{Check, None, answersOf, first}
+use Rattle.judge.specs.Given.{Asked}
+use Rattle.judge.specs.Table.{BeforeTransfer, has, inOrder, keepsOrder, hasNumber, rows}
+use Rattle.judge.specs.Verdict.{verdict}
+use Rattle.judge.proofs.First.{done, skip, stop}
+use Rattle.judge.proofs.Table.{in-the-papers-order}
 
 answer-of : (r s : Refusal) → Verdict.Refused r ≡ Verdict.Refused s → r ≡ s
 answer-of r s e = cc
 
--- A list gives no answer that none of its checks has.
-first-lacks : (r : Refusal) (ks : List Check) (p : Plan) → T (lacks r ks) → first ks p ≡ Verdict.Refused r → ⊥
-unfolding first
-first-lacks r [] p no-one e = impossible (cc)
-first-lacks r (k ∷ ks) p no-one e =
-    by-cases (k .given?)
-    (λ given. differs r k ks no-one .0 (answer-of (k .answer) r (sym (if-pos (k .given?) given _ _) ∙ e)))
-    (λ out. first-lacks r ks p (differs r k ks no-one .1) (sym (if-neg (k .given?) out _ _) ∙ e))
+-- ---- answers, told by their numbers
 
--- The law of such lists.
-pub first-exactly :
-    (before : List Check) (k : Check) (after : List Check) (p : Plan) →
-    T (lacks (k .answer) before) →
-    T (lacks (k .answer) after) →
-    (first (before ++ k ∷ after) p ≡ Verdict.Refused (k .answer)) ↔ (None before × k .Given)
-unfolding None first
-first-exactly [] k after p b a = (
-  λ e.
-      by-cases (k .given?) (λ given. (tt, given))
-      (λ out. absurd (first-lacks (k .answer) after p a (sym (if-neg (k .given?) out _ _) ∙ e))),
-  λ g. if-pos (k .given?) (g .1) _ _,
-)
-first-exactly (x ∷ xs) k after p b a =
-    let d = differs (k .answer) x xs b in
-    let rest = first-exactly xs k after p (d .1) a in (
-      λ e.
-          by-cases (x .given?)
-          (λ given. absurd (d .0 (answer-of (x .answer) (k .answer) (sym (if-pos (x .given?) given _ _) ∙ e))))
-          (λ out. let r = rest .0 (sym (if-neg (x .given?) out _ _) ∙ e) in ((out, r .0), r .1)),
-      λ g. if-neg (x .given?) (g .0 .0) _ _ ∙ rest .1 (g .0 .1, g .1),
-    )
+first-of : (r s : Refusal) (ss : List Refusal) → refusalNumber s ≡ refusalNumber r → T (has r (s ∷ ss))
+first-of r s ss same = rw (eq-eqb _ _ same) tt
 
--- No two checks of the list have one answer: each of them is then the only one that has its own.
-abbrev distinct : List Check → Bool
+later : (r s : Refusal) (ss : List Refusal) → T (has r ss) → T (has r (s ∷ ss))
+later r s ss there = by-test (eqb (refusalNumber s) (refusalNumber r))
+  where
+    by-test : (t : Bool) → T (t || has r ss)
+    by-test true = tt
+    by-test false = there
+
+-- An answer of a list that keeps the order of another is one of the other.
+pub of-order : (r : Refusal) (rs order : List Refusal) → T (keepsOrder rs order) → T (has r rs) → T (has r order)
+of-order r [] order keeps there = absurd there
+of-order r (x ∷ xs) [] keeps there = absurd keeps
+of-order r (x ∷ xs) (y ∷ ys) keeps there =
+    by-test (of-order r xs ys) (of-order r (x ∷ xs) ys) (eqb (refusalNumber x) (refusalNumber y)) refl
+    (eqb (refusalNumber x) (refusalNumber r)) refl keeps there
+  where
+    by-test :
+        (T (keepsOrder xs ys) → T (has r xs) → T (has r ys)) →
+        (T (keepsOrder (x ∷ xs) ys) → T (has r (x ∷ xs)) → T (has r ys)) →
+        (same : Bool) → eqb (refusalNumber x) (refusalNumber y) ≡ same →
+        (this : Bool) → eqb (refusalNumber x) (refusalNumber r) ≡ this →
+        T (cond same (keepsOrder xs ys) (keepsOrder (x ∷ xs) ys)) → T (this || has r xs) → T (has r (y ∷ ys))
+    by-test both others true same true is keeps there = first-of r y ys (sym (eqb-true _ _ same) ∙ eqb-true _ _ is)
+    by-test both others true same false is keeps there = later r y ys (both keeps there)
+    by-test both others false other true is keeps there = later r y ys (others keeps (first-of r x xs (eqb-true _ _ is)))
+    by-test both others false other false is keeps there = later r y ys (others keeps (later r x xs there))
+
+-- No answer of a list is there twice, and so none of a list that keeps its order.
+abbrev distinct : List Refusal → Bool
 distinct [] = true
-distinct (k ∷ ks) = lacks (k .answer) ks && distinct ks
+distinct (r ∷ rs) = not (has r rs) && distinct rs
 
 both : (a b : Bool) → T (a && b) → T a × T b
 both true true h = (tt, tt)
 both true false h = absurd h
 both false b h = absurd h
 
-only-one :
-    (before : List Check) (k : Check) (after : List Check) →
-    T (distinct (before ++ k ∷ after)) → T (lacks (k .answer) before) × T (lacks (k .answer) after)
-only-one [] k after d = (tt, both (lacks (k .answer) after) (distinct after) d .0)
-only-one (x ∷ xs) k after d =
-    let h = both (lacks (x .answer) (xs ++ k ∷ after)) (distinct (xs ++ k ∷ after)) d in
-    let rest = only-one xs k after (h .1) in
-    let other = ne-eqb (refusalNumber (x .answer)) (refusalNumber (k .answer)) (λ same. further xs (sym same) (h .0)) in
-    (rw other (rest .0), rest .1)
+and : (a b : Bool) → T a → T b → T (a && b)
+and true true p q = tt
+and true false p q = q
+and false b p q = p
+
+same-there : (r s : Refusal) (ss : List Refusal) → refusalNumber r ≡ refusalNumber s → T (has r ss) → T (has s ss)
+same-there r s ss same there = subst (λ (n : ℕ). T (hasNumber n ss)) same there
+
+kept-distinct : (rs order : List Refusal) → T (keepsOrder rs order) → T (distinct order) → T (distinct rs)
+kept-distinct [] order keeps d = tt
+kept-distinct (x ∷ xs) [] keeps d = absurd keeps
+kept-distinct (x ∷ xs) (y ∷ ys) keeps d =
+    by-test (kept-distinct xs ys) (kept-distinct (x ∷ xs) ys) (eqb (refusalNumber x) (refusalNumber y)) refl keeps d
   where
-    further : (ys : List Check) → refusalNumber (k .answer) ≡ refusalNumber (x .answer) → T (lacks (x .answer) (ys ++ k ∷ after)) → ⊥
-    further [] same l = rw (eq-eqb _ _ same) at l
-    further (y ∷ ys) same l = further ys same (differs (x .answer) y (ys ++ k ∷ after) l .1)
+    by-test :
+        (T (keepsOrder xs ys) → T (distinct ys) → T (distinct xs)) →
+        (T (keepsOrder (x ∷ xs) ys) → T (distinct ys) → T (distinct (x ∷ xs))) →
+        (same : Bool) → eqb (refusalNumber x) (refusalNumber y) ≡ same →
+        T (cond same (keepsOrder xs ys) (keepsOrder (x ∷ xs) ys)) → T (distinct (y ∷ ys)) → T (distinct (x ∷ xs))
+    by-test on others true same keeps d =
+        let h = both (not (has y ys)) (distinct ys) d in
+        and (not (has x xs)) (distinct xs)
+        (not-T (has x xs) (λ there. T-not (has y ys) (h .0) (same-there x y ys (eqb-true _ _ same) (of-order x xs ys keeps there))))
+        (on keeps (h .1))
+    by-test on others false other keeps d = others keeps (both (not (has y ys)) (distinct ys) d .1)
 
-distinct-exactly :
-    (ks before : List Check) (k : Check) (after : List Check) (p : Plan) → T (distinct ks) → ks ≡ before ++ k ∷ after →
-    (first ks p ≡ Verdict.Refused (k .answer)) ↔ (None before × k .Given)
-distinct-exactly ks before k after p d is =
-    let one = only-one before k after (rw is at d) in
-    rw is (first-exactly before k after p (one .0) (one .1))
+-- ---- the first check that is given
 
--- Every row of the table of 10 to 19, wherever it stands: its answer is given exactly in its case, where no earlier row's is.
-pub each-number :
+has-answer : (k : Check) (ks : List Check) (r : Refusal) → k .answer ≡ r → T (has r (answersOf (k ∷ ks)))
+has-answer k ks r is = first-of r (k .answer) (answersOf ks) (ap refusalNumber is)
+
+-- A list gives no answer that none of its checks has.
+first-lacks : (r : Refusal) (ks : List Check) (p : Plan) → (T (has r (answersOf ks)) → ⊥) → first ks p ≡ Verdict.Refused r → ⊥
+first-lacks r [] p lacks e = impossible (cc (done p))
+first-lacks r (k ∷ ks) p lacks e =
+    by-cases (k .given?)
+    (λ given. lacks (has-answer k ks r (answer-of (k .answer) r (sym (stop k ks p given) ∙ e))))
+    (λ out. first-lacks r ks p (λ there. lacks (later r (k .answer) (answersOf ks) there)) (sym (skip k ks p out) ∙ e))
+
+-- An answer that is given is one of the list's.
+pub first-has : (r : Refusal) (ks : List Check) (p : Plan) → first ks p ≡ Verdict.Refused r → T (has r (answersOf ks))
+first-has r [] p e = absurd (impossible (cc (done p)))
+first-has r (k ∷ ks) p e =
+    by-cases (k .given?) (λ given. has-answer k ks r (answer-of (k .answer) r (sym (stop k ks p given) ∙ e)))
+    (λ out. later r (k .answer) (answersOf ks) (first-has r ks p (sym (skip k ks p out) ∙ e)))
+
+here : (before : List Check) (k : Check) (after : List Check) → T (has (k .answer) (answersOf (before ++ k ∷ after)))
+here [] k after = has-answer k after (k .answer) refl
+here (x ∷ xs) k after = later (k .answer) (x .answer) (answersOf (xs ++ k ∷ after)) (here xs k after)
+
+first-exactly :
+    (before : List Check) (k : Check) (after : List Check) (p : Plan) → T (distinct (answersOf (before ++ k ∷ after))) →
+    (first (before ++ k ∷ after) p ≡ Verdict.Refused (k .answer)) ↔ (None before × k .Given)
+unfolding None
+first-exactly [] k after p d = (
+  λ e.
+      by-cases (k .given?) (λ given. (tt, given))
+      (λ out.
+      absurd
+      (first-lacks (k .answer) after p (T-not (has (k .answer) (answersOf after)) (both (not (has (k .answer) (answersOf after))) (distinct (answersOf after)) d .0))
+      (sym (skip k after p out) ∙ e))),
+  λ g. stop k after p (g .1),
+)
+first-exactly (x ∷ xs) k after p d =
+    let ks = xs ++ k ∷ after in
+    let h = both (not (has (x .answer) (answersOf ks))) (distinct (answersOf ks)) d in
+    let rest = first-exactly xs k after p (h .1) in
+    let other : x .answer ≡ k .answer → ⊥ =
+    λ same. T-not (has (x .answer) (answersOf ks)) (h .0) (subst (λ (r : Refusal). T (has r (answersOf ks))) (sym same) (here xs k after)) in (
+      λ e.
+          by-cases (x .given?)
+          (λ given. absurd (other (answer-of (x .answer) (k .answer) (sym (stop x ks p given) ∙ e))))
+          (λ out. let r = rest .0 (sym (skip x ks p out) ∙ e) in ((out, r .0), r .1)),
+      λ g. skip x ks p (g .0 .0) ∙ rest .1 (g .0 .1, g .1),
+    )
+
+-- ---- the verdict
+
+distinct-answers : (a : Asked) → T (distinct (answersOf (checks a)))
+distinct-answers a = kept-distinct (answersOf (checks a)) (inOrder rows) (in-the-papers-order a) tt
+
+-- Of every check that a request is asked, wherever it stands: its answer is given exactly in its case, where no earlier one's is.
+pub given-in-its-case :
     (a : Asked) (before : List Check) (k : Check) (after : List Check) → checks a ≡ before ++ k ∷ after →
     (verdict a ≡ Verdict.Refused (k .answer)) ↔ (None before × k .Given)
 unfolding verdict
-each-number a before k after is = distinct-exactly (checks a) before k after _ tt is
+given-in-its-case a before k after is =
+    let d = subst (λ (ks : List Check). T (distinct (answersOf ks))) is (distinct-answers a) in
+    rw is (first-exactly before k after _ d)
 
--- The ten rows.
-pub exactly-10 : (a : Asked) → (verdict a ≡ Verdict.Refused Refusal.CommandUnknown) ↔ (None (take 0 (checks a)) × given10 a)
-exactly-10 a = each-number a (take 0 (checks a)) _ _ refl
+-- A refusal is one before transfer; so is the answer of every check.
+pub refused-before-transfer : (a : Asked) (r : Refusal) → verdict a ≡ Verdict.Refused r → BeforeTransfer r
+unfolding verdict
+refused-before-transfer a r e =
+    of-order r (answersOf (checks a)) (inOrder rows) (in-the-papers-order a) (first-has r (checks a) _ e)
 
-pub exactly-11 : (a : Asked) → (verdict a ≡ Verdict.Refused Refusal.NotInitialized) ↔ (None (take 1 (checks a)) × given11 a)
-exactly-11 a = each-number a (take 1 (checks a)) _ _ refl
-
-pub exactly-12 : (a : Asked) → (verdict a ≡ Verdict.Refused Refusal.UibMisplaced) ↔ (None (take 2 (checks a)) × given12 a)
-exactly-12 a = each-number a (take 2 (checks a)) _ _ refl
-
-pub exactly-13 : (a : Asked) → (verdict a ≡ Verdict.Refused Refusal.UibOutsideLimits) ↔ (None (take 3 (checks a)) × given13 a)
-exactly-13 a = each-number a (take 3 (checks a)) _ _ refl
-
-pub exactly-14 : (a : Asked) → (verdict a ≡ Verdict.Refused Refusal.VolumeAbsent) ↔ (None (take 4 (checks a)) × given14 a)
-exactly-14 a = each-number a (take 4 (checks a)) _ _ refl
-
-pub exactly-15 : (a : Asked) → (verdict a ≡ Verdict.Refused Refusal.CountZero) ↔ (None (take 5 (checks a)) × given15 a)
-exactly-15 a = each-number a (take 5 (checks a)) _ _ refl
-
-pub exactly-16 : (a : Asked) → (verdict a ≡ Verdict.Refused Refusal.SectorOutside) ↔ (None (take 6 (checks a)) × given16 a)
-exactly-16 a = each-number a (take 6 (checks a)) _ _ refl
-
-pub exactly-17 : (a : Asked) → (verdict a ≡ Verdict.Refused Refusal.ImageShort) ↔ (None (take 7 (checks a)) × given17 a)
-exactly-17 a = each-number a (take 7 (checks a)) _ _ refl
-
-pub exactly-18 : (a : Asked) → (verdict a ≡ Verdict.Refused Refusal.ListBad) ↔ (None (take 8 (checks a)) × given18 a)
-exactly-18 a = each-number a (take 8 (checks a)) _ _ refl
-
-pub exactly-19 : (a : Asked) → (verdict a ≡ Verdict.Refused Refusal.DataMisplaced) ↔ (None (take 9 (checks a)) × given19 a)
-exactly-19 a = each-number a (take 9 (checks a)) _ _ refl
+pub check-before-transfer :
+    (a : Asked) (before : List Check) (k : Check) (after : List Check) → checks a ≡ before ++ k ∷ after → BeforeTransfer (k .answer)
+check-before-transfer a before k after is =
+    of-order (k .answer) (answersOf (checks a)) (inOrder rows) (in-the-papers-order a)
+    (subst (λ (ks : List Check). T (has (k .answer) (answersOf ks))) (sym is) (here before k after))

@@ -1,59 +1,61 @@
--- The first check that is given, of any list of checks: what comes before it is not given, and it gives the answer.
--- Checks that are not given are passed over one by one; from there on the rest of the list decides.
-use Prim.Native.Nat.{ℕ, zero, suc}
-use mathlib.Core.List.{List, [], _∷_}
-use mathlib.Core.Logic.{if-neg, if-pos}
+-- The first check that is given, of any list of checks: those before it are passed over one by one, and it gives the answer.
+-- Checks of which one is given decide by themselves, whatever comes after them.
+use mathlib.Core.List.{List, [], _∷_, _++_}
+use mathlib.Core.Logic.{Dec·and, Dec·not, by-cases, if-neg, if-pos}
 use mathlib.Core.Path.{_≡_, refl, sym, _∙_}
-use lib.ListN.{drop, take}
 use Rattle.judge.specs.declared.Plan.{Plan}
 use Rattle.judge.specs.declared.Verdict.{Verdict}
+use Rattle.judge.specs.Asks.{firstChecks, planOf}
 use Rattle.judge.specs.Checks.{Check, None, first}
 use Rattle.judge.specs.Given.{Asked}
-use Rattle.judge.specs.Verdict.{checks, from, planOf, verdict}
+use Rattle.judge.specs.Verdict.{byItsOwn, verdict}
 
-pub first-after : (i : ℕ) (ks : List Check) (p : Plan) → None (take i ks) → first ks p ≡ first (drop i ks) p
-unfolding None first
-first-after zero ks p none = refl
-first-after (suc i) [] p none = refl
-first-after (suc i) (k ∷ ks) p none = if-neg (k .given?) (none .0) _ _ ∙ first-after i ks p (none .1)
-
-pub first-none : (ks : List Check) (p : Plan) → None ks → first ks p ≡ Verdict.Do p
-unfolding None first
-first-none [] p none = refl
-first-none (k ∷ ks) p none = if-neg (k .given?) (none .0) _ _ ∙ first-none ks p (none .1)
-
-pub first-given : (k : Check) (ks : List Check) (p : Plan) → k .Given → first (k ∷ ks) p ≡ Verdict.Refused (k .answer)
+pub skip : (k : Check) (ks : List Check) (p : Plan) → (k .Given → ⊥) → first (k ∷ ks) p ≡ first ks p
 unfolding first
-first-given k ks p given = if-pos (k .given?) given _ _
+skip k ks p out = if-neg (k .given?) out _ _
+
+pub stop : (k : Check) (ks : List Check) (p : Plan) → k .Given → first (k ∷ ks) p ≡ Verdict.Refused (k .answer)
+unfolding first
+stop k ks p given = if-pos (k .given?) given _ _
+
+pub done : (p : Plan) → first [] p ≡ Verdict.Do p
+unfolding first
+done p = refl
+
+pub pass : (ks ls : List Check) (p : Plan) → None ks → first (ks ++ ls) p ≡ first ls p
+unfolding None
+pass [] ls p none = refl
+pass (k ∷ ks) ls p none = skip k (ks ++ ls) p (none .0) ∙ pass ks ls p (none .1)
+
+pub none-of-parts : (ks ls : List Check) → None (ks ++ ls) → None ks × None ls
+unfolding None
+none-of-parts [] ls none = (tt, none)
+none-of-parts (k ∷ ks) ls none = let rest = none-of-parts ks ls (none .1) in ((none .0, rest .0), rest .1)
+
+pub none-of-all : (ks ls : List Check) → None ks → None ls → None (ks ++ ls)
+unfolding None
+none-of-all [] ls none more = more
+none-of-all (k ∷ ks) ls none more = (none .0, none-of-all ks ls (none .1) more)
+
+pub none? : (ks : List Check) → Dec (None ks)
+unfolding None
+none? [] = yes tt
+none? (k ∷ ks) = Dec·and (Dec·not (k .given?)) (none? ks)
+
+-- Where one of some checks is given, what follows them does not matter.
+pub early : (ks ls ms : List Check) (p q : Plan) → (None ks → ⊥) → first (ks ++ ls) p ≡ first (ks ++ ms) q
+unfolding None
+early [] ls ms p q some = absurd (some tt)
+early (k ∷ ks) ls ms p q some =
+    by-cases (k .given?) (λ given. stop k _ p given ∙ sym (stop k _ q given))
+    (λ out. skip k _ p out ∙ early ks ls ms p q (λ none. some (out, none)) ∙ sym (skip k _ q out))
 
 -- ---- the verdict
 
 pub never : ⊥ → ⊥
 never x = x
 
--- The first i checks are not given: the rest decides.
-pub passed : (i : ℕ) (a : Asked) → None (take i (checks a)) → verdict a ≡ from i a
-unfolding verdict from
-passed i a none = first-after i (checks a) _ none
-
--- From the i-th check on, the next j are not given.
-pub from-after : (i j : ℕ) (a : Asked) → None (take j (drop i (checks a))) → from i a ≡ first (drop j (drop i (checks a))) (planOf (a .unit) (a .task))
-unfolding from
-from-after i j a none = first-after j (drop i (checks a)) _ none
-
-pub refused-from : (i : ℕ) (a : Asked) (k : Check) (ks : List Check) → drop i (checks a) ≡ k ∷ ks → k .Given → from i a ≡ Verdict.Refused (k .answer)
-unfolding from
-refused-from i a k ks is given = rw is (first-given k ks _ given)
-
-pub refused-at :
-    (i : ℕ) (a : Asked) (k : Check) (ks : List Check) →
-    drop i (checks a) ≡ k ∷ ks → None (take i (checks a)) → k .Given → verdict a ≡ Verdict.Refused (k .answer)
-refused-at i a k ks is none given = passed i a none ∙ refused-from i a k ks is given
-
-pub accepted-from : (i : ℕ) (a : Asked) → None (drop i (checks a)) → from i a ≡ Verdict.Do (planOf (a .unit) (a .task))
-unfolding from
-accepted-from i a none = first-none (drop i (checks a)) _ none
-
-pub accepted-whole : (a : Asked) → None (checks a) → verdict a ≡ Verdict.Do (planOf (a .unit) (a .task))
-unfolding verdict
-accepted-whole a none = first-none (checks a) _ none
+-- A command that passes what all are asked first is judged by its own checks.
+pub on-its-own : (a : Asked) → None (firstChecks a) → verdict a ≡ byItsOwn a
+unfolding verdict byItsOwn
+on-its-own a none = pass (firstChecks a) _ _ none

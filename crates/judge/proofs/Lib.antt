@@ -4,4 +4,5 @@ pub mod First
 pub mod Locality
 pub mod Outcomes
 pub mod Sectors
+pub mod Table
 pub mod Tasks

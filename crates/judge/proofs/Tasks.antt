@@ -1,9 +1,10 @@
 -- The verdict on each kind of task, case by case, from what is known of its checks.
--- A task passes over the checks that are not for it, and the first of the others that is given refuses it.
+-- Those that are not given are passed over, and the first that is refuses the task.
 use Prim.Native.Nat.{ℕ, _+_, _*_, _<_, _≤_}
 use mathlib.Core.List.{List}
 use mathlib.Core.Path.{_≡_, refl, _∙_}
 use native.Mathlib.Omega.{arith}
+use lib.Dec.{T}
 use Rattle.answers.specs.declared.Refusal.{Refusal}
 use Rattle.geometry.specs.declared.Geometry.{Geometry}
 use Rattle.geometry.specs.declared.Number.{Number}
@@ -23,10 +24,11 @@ use Rattle.wire.specs.Memory.{InMemory}
 use Rattle.judge.specs.declared.Plan.{Plan}
 use Rattle.judge.specs.declared.Standing.{Standing}
 use Rattle.judge.specs.declared.Verdict.{Verdict}
+use Rattle.judge.specs.Asks.{jobOf, ofUnit, unlisted}
 use Rattle.judge.specs.Checks.{None, first}
-use Rattle.judge.specs.Given.{Asked, BadList, BadRange, Covers, HasTrack, asked, numberOf}
-use Rattle.judge.specs.Verdict.{Begins, from, jobOf, verdict}
-use Rattle.judge.proofs.First.{accepted-from, accepted-whole, first-after, from-after, never, passed, refused-at, refused-from}
+use Rattle.judge.specs.Given.{Asked, Covers, HasTrack, asked, beginsAt}
+use Rattle.judge.specs.Verdict.{byItsOwn, fromBuffer, fromSectors, verdict}
+use Rattle.judge.proofs.First.{done, never, on-its-own, pass, skip, stop}
 
 module _ (s : Standing) (host : List ℕ) where
   abbrev u : Record
@@ -35,44 +37,43 @@ module _ (s : Standing) (host : List ℕ) where
   abbrev g : Geometry
   g = u .geometry
 
-  pub unknown : verdict (asked Task.Unknown s host) ≡ Verdict.Refused Refusal.CommandUnknown
+  -- A listed command passes what all are asked first.
+  pub own : (t : Task) → (T (unlisted t) → ⊥) → verdict (asked t s host) ≡ byItsOwn (asked t s host)
   unfolding None
-  unknown = refused-at 0 _ _ _ refl tt tt
+  own t listed = on-its-own (asked t s host) (listed, tt)
+
+  pub unknown : verdict (asked Task.Unknown s host) ≡ Verdict.Refused Refusal.CommandUnknown
+  unfolding verdict
+  unknown = stop _ _ _ tt
 
   pub handshake : verdict (asked Task.Handshake s host) ≡ Verdict.Do Plan.Report
-  unfolding None
-  handshake = accepted-whole _ (never, (never, (never, (never, (never, (never, (never, (never, (never, (never, tt))))))))))
+  unfolding verdict
+  handshake = skip _ _ _ never ∙ done _
 
   -- ---- 87
 
-  pub shape-misplaced : verdict (asked (Task.Initialize Shape.Misplaced) s host) ≡ Verdict.Refused Refusal.UibMisplaced
-  unfolding None
-  shape-misplaced = refused-at 2 _ _ _ refl (never, (never, tt)) tt
+  pub shape-misplaced : byItsOwn (asked (Task.Initialize Shape.Misplaced) s host) ≡ Verdict.Refused Refusal.UibMisplaced
+  unfolding byItsOwn
+  shape-misplaced = stop _ _ _ tt
 
-  pub shape-outside :
-      (x : Geometry) → (Within x → ⊥) →
-      verdict (asked (Task.Initialize (Shape.Given x)) s host) ≡ Verdict.Refused Refusal.UibOutsideLimits
-  unfolding None
-  shape-outside x out = refused-at 3 _ _ _ refl (never, (never, (never, tt))) out
+  module _ (x : Geometry) where
+    pub shape-outside : (Within x → ⊥) → byItsOwn (asked (Task.Initialize (Shape.Given x)) s host) ≡ Verdict.Refused Refusal.UibOutsideLimits
+    unfolding byItsOwn
+    shape-outside out = skip _ _ _ never ∙ stop _ _ _ out
 
-  pub shape-given :
-      (x : Geometry) → Within x → verdict (asked (Task.Initialize (Shape.Given x)) s host) ≡ Verdict.Do (Plan.Initialize x)
-  unfolding None
-  shape-given x within =
-      accepted-whole _
-      (never, (never, (never, (λ n. n within, (never, (never, (never, (never, (never, (never, tt))))))))))
+    pub shape-given : Within x → byItsOwn (asked (Task.Initialize (Shape.Given x)) s host) ≡ Verdict.Do (Plan.Initialize x)
+    unfolding byItsOwn
+    shape-given within = skip _ _ _ never ∙ skip _ _ _ (λ n. n within) ∙ done _
 
   -- ---- 89
 
-  pub restore-refused : (CountsAsInitialized u → ⊥) → verdict (asked Task.Restore s host) ≡ Verdict.Refused Refusal.NotInitialized
-  unfolding None
-  restore-refused not-it = refused-at 1 _ _ _ refl (never, tt) not-it
+  pub restore-refused : (CountsAsInitialized u → ⊥) → byItsOwn (asked Task.Restore s host) ≡ Verdict.Refused Refusal.NotInitialized
+  unfolding byItsOwn
+  restore-refused not-it = stop _ _ _ not-it
 
-  pub restore-done : CountsAsInitialized u → verdict (asked Task.Restore s host) ≡ Verdict.Do (Plan.Heads 0)
-  unfolding None
-  restore-done counts =
-      accepted-whole _
-      (never, (λ n. n counts, (never, (never, (never, (never, (never, (never, (never, (never, tt))))))))))
+  pub restore-done : CountsAsInitialized u → byItsOwn (asked Task.Restore s host) ≡ Verdict.Do (Plan.Heads 0)
+  unfolding byItsOwn
+  restore-done counts = skip _ _ _ (λ n. n counts) ∙ done _
 
   -- ---- 8A
 
@@ -80,50 +81,35 @@ module _ (s : Standing) (host : List ℕ) where
     abbrev seek : Asked
     seek = asked (Task.Seek t) s host
 
-    pub seek-11 : (CountsAsInitialized u → ⊥) → verdict seek ≡ Verdict.Refused Refusal.NotInitialized
-    unfolding None
-    seek-11 not-it = refused-at 1 seek _ _ refl (never, tt) not-it
-
-    pub seek-14 :
-        CountsAsInitialized u → (Present (volume g (t .volume)) → ⊥) → verdict seek ≡ Verdict.Refused Refusal.VolumeAbsent
-    unfolding None
-    seek-14 counts absent = refused-at 4 seek _ _ refl (never, (λ n. n counts, (never, (never, tt)))) absent
-
     abbrev at : Number
-    at = numberOf u (t .volume) (t .start)
+    at = beginsAt u t
 
-    pub seek-16 :
-        CountsAsInitialized u → Present (volume g (t .volume)) → (Covers u (t .volume) at 1 → ⊥) →
-        verdict seek ≡ Verdict.Refused Refusal.SectorOutside
-    unfolding None
-    seek-16 counts present out =
-        refused-at 6 seek _ _ refl (never, (λ n. n counts, (never, (never, (λ n. n present, (never, tt)))))) out
+    pub seek-11 : (CountsAsInitialized u → ⊥) → byItsOwn seek ≡ Verdict.Refused Refusal.NotInitialized
+    unfolding byItsOwn
+    seek-11 not-it = stop _ _ _ not-it
 
-    module _ (counts : CountsAsInitialized u) (present : Present (volume g (t .volume))) where
-      pub seek-past :
-          (n : ℕ) → at ≡ Number.Is n → volumeSectors g (t .volume) ≤ n → verdict seek ≡ Verdict.Refused Refusal.SectorOutside
-      seek-past n is past =
-          seek-16 counts present (λ covers. let c : Covers u (t .volume) (Number.Is n) 1 = rw is at covers in omega arith)
+    module _ (counts : CountsAsInitialized u) where
+      pub seek-14 : (Present (volume g (t .volume)) → ⊥) → byItsOwn seek ≡ Verdict.Refused Refusal.VolumeAbsent
+      unfolding byItsOwn
+      seek-14 absent = skip _ _ _ (λ n. n counts) ∙ stop _ _ _ absent
 
-      pub seek-nowhere : at ≡ Number.Outside → verdict seek ≡ Verdict.Refused Refusal.SectorOutside
-      seek-nowhere is = seek-16 counts present (λ covers. rw is at covers)
+      module _ (present : Present (volume g (t .volume))) where
+        pub seek-16 : (Covers u (t .volume) at 1 → ⊥) → byItsOwn seek ≡ Verdict.Refused Refusal.SectorOutside
+        unfolding byItsOwn
+        seek-16 out = skip _ _ _ (λ n. n counts) ∙ skip _ _ _ (λ n. n present) ∙ stop _ _ _ out
 
-    pub seek-done :
-        (n : ℕ) → CountsAsInitialized u → Present (volume g (t .volume)) → at ≡ Number.Is n → Covers u (t .volume) (Number.Is n) 1 →
-        verdict seek ≡ Verdict.Do (Plan.Heads (spotOf u (t .volume) n .cylinder))
-    unfolding None
-    seek-done n counts present is inside =
-        accepted-whole seek (
-          never,
-          (
-            λ x. x counts,
-            (
-              never,
-              (never, (λ x. x present, (never, (λ x. x (rw is inside), (never, (never, (never, tt))))))),
-            ),
-          ),
-        )
-        ∙ rw is
+        pub seek-past : (n : ℕ) → at ≡ Number.Is n → volumeSectors g (t .volume) ≤ n → byItsOwn seek ≡ Verdict.Refused Refusal.SectorOutside
+        seek-past n is past = seek-16 (λ covers. let c : Covers u (t .volume) (Number.Is n) 1 = rw is at covers in omega arith)
+
+        pub seek-nowhere : at ≡ Number.Outside → byItsOwn seek ≡ Verdict.Refused Refusal.SectorOutside
+        seek-nowhere is = seek-16 (λ covers. rw is at covers)
+
+        pub seek-done :
+            (n : ℕ) → at ≡ Number.Is n → Covers u (t .volume) (Number.Is n) 1 →
+            byItsOwn seek ≡ Verdict.Do (Plan.Heads (spotOf u (t .volume) n .cylinder))
+        unfolding byItsOwn
+        seek-done n is inside =
+            skip _ _ _ (λ x. x counts) ∙ skip _ _ _ (λ x. x present) ∙ skip _ _ _ (λ x. x (rw is inside)) ∙ done _ ∙ rw is
 
   -- ---- 8C
 
@@ -131,39 +117,32 @@ module _ (s : Standing) (host : List ℕ) where
     abbrev format : Asked
     format = asked (Task.Format k) s host
 
-    pub format-11 : (CountsAsInitialized u → ⊥) → verdict format ≡ Verdict.Refused Refusal.NotInitialized
-    unfolding None
-    format-11 not-it = refused-at 1 format _ _ refl (never, tt) not-it
+    pub format-11 : (CountsAsInitialized u → ⊥) → byItsOwn format ≡ Verdict.Refused Refusal.NotInitialized
+    unfolding byItsOwn
+    format-11 not-it = stop _ _ _ not-it
 
-    pub format-16 : CountsAsInitialized u → (HasTrack u k → ⊥) → verdict format ≡ Verdict.Refused Refusal.SectorOutside
-    unfolding None
-    format-16 counts out =
-        refused-at 6 format _ _ refl (never, (λ n. n counts, (never, (never, (never, (never, tt)))))) out
+    module _ (counts : CountsAsInitialized u) where
+      pub format-16 : (HasTrack u k → ⊥) → byItsOwn format ≡ Verdict.Refused Refusal.SectorOutside
+      unfolding byItsOwn
+      format-16 out = skip _ _ _ (λ n. n counts) ∙ stop _ _ _ out
 
-    pub format-17 :
-        CountsAsInitialized u → HasTrack u k → s .image < need g → verdict format ≡ Verdict.Refused Refusal.ImageShort
-    unfolding None
-    format-17 counts has short =
-        refused-at 7 format _ _ refl (never, (λ n. n counts, (never, (never, (never, (never, (λ n. n has, tt))))))) short
+      module _ (has : HasTrack u k) where
+        pub format-17 : s .image < need g → byItsOwn format ≡ Verdict.Refused Refusal.ImageShort
+        unfolding byItsOwn
+        format-17 short = skip _ _ _ (λ n. n counts) ∙ skip _ _ _ (λ n. n has) ∙ stop _ _ _ short
 
-    pub format-19 :
-        CountsAsInitialized u → HasTrack u k → need g ≤ s .image → (InMemory host (k .buffer) (B g) → ⊥) →
-        verdict format ≡ Verdict.Refused Refusal.DataMisplaced
-    unfolding None
-    format-19 counts has long out =
-        refused-at 9 format _ _ refl
-        (never, (λ n. n counts, (never, (never, (never, (never, (λ n. n has, (λ n. omega arith, (never, tt)))))))))
-        out
+        module _ (long : need g ≤ s .image) where
+          pub format-19 : (InMemory host (k .buffer) (B g) → ⊥) → byItsOwn format ≡ Verdict.Refused Refusal.DataMisplaced
+          unfolding byItsOwn
+          format-19 out =
+              skip _ _ _ (λ n. n counts) ∙ skip _ _ _ (λ n. n has) ∙ skip _ _ _ (λ n. omega arith) ∙ stop _ _ _ out
 
-    pub format-done :
-        CountsAsInitialized u → HasTrack u k → need g ≤ s .image → InMemory host (k .buffer) (B g) →
-        verdict format ≡ Verdict.Do (Plan.Format (trackOf u (k .cylinder) (k .head)) (k .buffer))
-    unfolding None
-    format-done counts has long held =
-        accepted-whole format (
-          never,
-          (λ n. n counts, (never, (never, (never, (never, (λ n. n has, (λ n. omega arith, (never, (λ n. n held, tt))))))))),
-        )
+          pub format-done :
+              InMemory host (k .buffer) (B g) →
+              byItsOwn format ≡ Verdict.Do (Plan.Format (trackOf u (k .cylinder) (k .head)) (k .buffer))
+          unfolding byItsOwn
+          format-done held =
+              skip _ _ _ (λ n. n counts) ∙ skip _ _ _ (λ n. n has) ∙ skip _ _ _ (λ n. omega arith) ∙ skip _ _ _ (λ n. n held) ∙ done _
 
   -- ---- 81 82 A1 A2
 
@@ -175,44 +154,45 @@ module _ (s : Standing) (host : List ℕ) where
     bytes = m .count * B g
 
     abbrev begins : Number
-    begins = numberOf u (m .target .volume) (m .target .start)
+    begins = beginsAt u (m .target)
 
-    pub move-11 : (CountsAsInitialized u → ⊥) → verdict moves ≡ Verdict.Refused Refusal.NotInitialized
-    unfolding None
-    move-11 not-it = refused-at 1 moves _ _ refl (never, tt) not-it
+    pub move-11 : (CountsAsInitialized u → ⊥) → byItsOwn moves ≡ Verdict.Refused Refusal.NotInitialized
+    unfolding byItsOwn
+    move-11 not-it = stop _ _ _ not-it
 
-    pub move-14 :
-        CountsAsInitialized u → (Present (volume g (m .target .volume)) → ⊥) →
-        verdict moves ≡ Verdict.Refused Refusal.VolumeAbsent
-    unfolding None
-    move-14 counts absent = refused-at 4 moves _ _ refl (never, (λ n. n counts, (never, (never, tt)))) absent
+    module _ (counts : CountsAsInitialized u) where
+      pub move-14 : (Present (volume g (m .target .volume)) → ⊥) → byItsOwn moves ≡ Verdict.Refused Refusal.VolumeAbsent
+      unfolding byItsOwn
+      move-14 absent = skip _ _ _ (λ n. n counts) ∙ stop _ _ _ absent
 
-    module _ (counts : CountsAsInitialized u) (present : Present (volume g (m .target .volume))) where
-      pub move-15 : m .count ≡ 0 → verdict moves ≡ Verdict.Refused Refusal.CountZero
-      unfolding None
-      move-15 none =
-          refused-at 5 moves _ _ refl (never, (λ n. n counts, (never, (never, (λ n. n present, tt))))) none
+      module _ (present : Present (volume g (m .target .volume))) where
+        pub move-15 : m .count ≡ 0 → byItsOwn moves ≡ Verdict.Refused Refusal.CountZero
+        unfolding byItsOwn
+        move-15 none = skip _ _ _ (λ n. n counts) ∙ skip _ _ _ (λ n. n present) ∙ stop _ _ _ none
 
-      pub move-on : (m .count ≡ 0 → ⊥) → verdict moves ≡ from 6 moves
-      unfolding None
-      move-on some = passed 6 moves (never, (λ n. n counts, (never, (never, (λ n. n present, (some, tt))))))
+        module _ (some : m .count ≡ 0 → ⊥) where
+          pub move-on : byItsOwn moves ≡ fromSectors moves m
+          unfolding byItsOwn fromSectors None
+          move-on = pass (ofUnit moves m) _ _ (λ n. n counts, (λ n. n present, (some, tt)))
 
-      pub move-nowhere :
-          (m .count ≡ 0 → ⊥) → begins ≡ Number.Outside → verdict moves ≡ Verdict.Refused Refusal.SectorOutside
-      move-nowhere some is = move-on some ∙ refused-from 6 moves _ _ refl (λ covers. rw is at covers)
+          pub move-nowhere : begins ≡ Number.Outside → byItsOwn moves ≡ Verdict.Refused Refusal.SectorOutside
+          unfolding fromSectors
+          move-nowhere is = move-on ∙ stop _ _ _ (λ covers. rw is at covers)
 
-    pub span-16 : (Covers u (m .target .volume) begins (m .count) → ⊥) → from 6 moves ≡ Verdict.Refused Refusal.SectorOutside
-    span-16 out = refused-from 6 moves _ _ refl out
+    module _ (out : Covers u (m .target .volume) begins (m .count) → ⊥) where
+      pub span-16 : fromSectors moves m ≡ Verdict.Refused Refusal.SectorOutside
+      unfolding fromSectors
+      span-16 = stop _ _ _ out
 
     module _ (n : ℕ) (is : begins ≡ Number.Is n) where
-      pub span-first : volumeSectors g (m .target .volume) ≤ n → from 6 moves ≡ Verdict.Refused Refusal.SectorOutside
+      pub span-first : volumeSectors g (m .target .volume) ≤ n → fromSectors moves m ≡ Verdict.Refused Refusal.SectorOutside
       span-first past =
           span-16
           (λ covers. let c : Covers u (m .target .volume) (Number.Is n) (m .count) = rw is at covers in omega arith)
 
       pub span-last :
           0 < m .count → volumeSectors g (m .target .volume) < n + m .count →
-          from 6 moves ≡ Verdict.Refused Refusal.SectorOutside
+          fromSectors moves m ≡ Verdict.Refused Refusal.SectorOutside
       span-last some past =
           span-16
           (λ covers. let c : Covers u (m .target .volume) (Number.Is n) (m .count) = rw is at covers in omega arith)
@@ -222,46 +202,36 @@ module _ (s : Standing) (host : List ℕ) where
       span-covers some fits = let c : Covers u (m .target .volume) (Number.Is n) (m .count) = omega arith in rw is c
 
     module _ (covers : Covers u (m .target .volume) begins (m .count)) where
-      pub span-17 : s .image < need g → from 6 moves ≡ Verdict.Refused Refusal.ImageShort
-      unfolding None from
-      span-17 short = from-after 6 1 moves (λ n. n covers, tt) ∙ refused-from 7 moves _ _ refl short
+      pub span-17 : s .image < need g → fromSectors moves m ≡ Verdict.Refused Refusal.ImageShort
+      unfolding fromSectors
+      span-17 short = skip _ _ _ (λ n. n covers) ∙ stop _ _ _ short
 
-      pub span-on : need g ≤ s .image → from 6 moves ≡ from 8 moves
-      unfolding None from
-      span-on long = from-after 6 2 moves (λ n. n covers, (λ n. omega arith, tt))
+      pub span-on : need g ≤ s .image → fromSectors moves m ≡ fromBuffer moves m
+      unfolding fromSectors fromBuffer
+      span-on long = skip _ _ _ (λ n. n covers) ∙ skip _ _ _ (λ n. omega arith)
 
-    pub buffer-18 : BadList host (m .buffer) bytes → from 8 moves ≡ Verdict.Refused Refusal.ListBad
-    buffer-18 bad = refused-from 8 moves _ _ refl bad
-
-    pub buffer-19 :
-        (BadList host (m .buffer) bytes → ⊥) → BadRange host (m .buffer) bytes →
-        from 8 moves ≡ Verdict.Refused Refusal.DataMisplaced
-    unfolding None from
-    buffer-19 good bad = from-after 8 1 moves (good, tt) ∙ refused-from 9 moves _ _ refl bad
-
-    pub buffer-done :
-        (n : ℕ) → begins ≡ Number.Is n → (BadList host (m .buffer) bytes → ⊥) → (BadRange host (m .buffer) bytes → ⊥) →
-        from 8 moves ≡ Verdict.Do (Plan.Move (jobOf m n))
-    unfolding None
-    buffer-done n is good held = accepted-from 8 moves (good, (held, tt)) ∙ rw is
-
+    -- A buffer in one piece, and one that is a list.
     module _ (at : ℕ) (is : m .buffer ≡ Buffer.Piece at) where
-      pub piece-19 : (InMemory host at bytes → ⊥) → from 8 moves ≡ Verdict.Refused Refusal.DataMisplaced
-      piece-19 out = buffer-19 (λ bad. rw is at bad) (rw is out)
+      pub piece-19 : (InMemory host at bytes → ⊥) → fromBuffer moves m ≡ Verdict.Refused Refusal.DataMisplaced
+      unfolding fromBuffer
+      piece-19 out = rw is (stop _ _ _ out)
 
       pub piece-done :
-          (n : ℕ) → begins ≡ Number.Is n → InMemory host at bytes → from 8 moves ≡ Verdict.Do (Plan.Move (jobOf m n))
-      piece-done n starts held = buffer-done n starts (λ bad. rw is at bad) (λ bad. (rw is at bad) held)
+          (n : ℕ) → begins ≡ Number.Is n → InMemory host at bytes → fromBuffer moves m ≡ Verdict.Do (Plan.Move (jobOf m n))
+      unfolding fromBuffer
+      piece-done n starts held = rw (is, starts) (skip _ _ _ (λ n. n held) ∙ done _)
 
     module _ (at k : ℕ) (is : m .buffer ≡ Buffer.List at k) where
-      pub list-18 : (ListGood host at k bytes → ⊥) → from 8 moves ≡ Verdict.Refused Refusal.ListBad
-      list-18 bad = buffer-18 (rw is bad)
+      pub list-18 : (ListGood host at k bytes → ⊥) → fromBuffer moves m ≡ Verdict.Refused Refusal.ListBad
+      unfolding fromBuffer
+      list-18 bad = rw is (stop _ _ _ bad)
 
-      pub list-19 :
-          ListGood host at k bytes → (Ranges host at k → ⊥) → from 8 moves ≡ Verdict.Refused Refusal.DataMisplaced
-      list-19 good out = buffer-19 (λ bad. (rw is at bad) good) (rw is out)
+      module _ (good : ListGood host at k bytes) where
+        pub list-19 : (Ranges host at k → ⊥) → fromBuffer moves m ≡ Verdict.Refused Refusal.DataMisplaced
+        unfolding fromBuffer
+        list-19 out = rw is (skip _ _ _ (λ n. n good) ∙ stop _ _ _ out)
 
-      pub list-done :
-          (n : ℕ) → begins ≡ Number.Is n → ListGood host at k bytes → Ranges host at k →
-          from 8 moves ≡ Verdict.Do (Plan.Move (jobOf m n))
-      list-done n starts good held = buffer-done n starts (λ bad. (rw is at bad) good) (λ bad. (rw is at bad) held)
+        pub list-done :
+            (n : ℕ) → begins ≡ Number.Is n → Ranges host at k → fromBuffer moves m ≡ Verdict.Do (Plan.Move (jobOf m n))
+        unfolding fromBuffer
+        list-done n starts held = rw (is, starts) (skip _ _ _ (λ n. n good) ∙ skip _ _ _ (λ n. n held) ∙ done _)

@@ -1,37 +1,34 @@
--- The host bytes that the judgement reads (01, One run: "a list of 1 to 64 elements that lies at an even address and in memory,
--- once checks 10 to 17 are passed"). A list of 65, or one that an earlier check spares, is not read; one refused for its sum is.
+-- The host bytes that judging a request reads (01, One run: "Host bytes read, for demand 3"), beside those of the block itself.
 use Prim.Native.Nat.{ℕ, _*_, _≤_}
-use mathlib.Core.List.{List}
-use mathlib.Core.Logic.{_⊎_}
-use lib.ListN.{take}
+use mathlib.Core.Path.{_≡_}
 use Rattle.wire.specs.Memory.{Among, InMemory}
-use Rattle.iopb.specs.declared.Block.{Block}
-use Rattle.iopb.specs.Ask.{taskOf}
-use Rattle.iopb.specs.Reads.{InUib}
-use Rattle.request.specs.declared.Buffer.{Buffer}
-use Rattle.request.specs.declared.Buffer.the-variants.{Piece, List as Elements}
-use Rattle.unit.specs.declared.Record.{Record}
-use Rattle.judge.specs.Checks.{None}
-use Rattle.judge.specs.Given.{Asked, row}
-use Rattle.judge.specs.Verdict.{checks}
+use Rattle.answers.specs.declared.Refusal.the-variants.{ListBad, UibOutsideLimits}
+use Rattle.request.specs.declared.Buffer.the-variants.{List as Elements}
+use Rattle.request.specs.declared.Move.{Move}
+use Rattle.request.specs.declared.Shape.{Shape}
+use Rattle.request.specs.declared.Task.the-variants.{Move as Moves, Initialize}
+use Rattle.judge.specs.Asks.{checks}
+use Rattle.judge.specs.Checks.{None, before}
+use Rattle.judge.specs.Given.{Asked}
 
--- A byte of a list that is read.
-pub record InList (a : Asked) (at n x : ℕ) : Type 0 where
-  pub passed : None (take 8 (checks a))
-  pub some : 1 ≤ n
-  pub most : n ≤ 64
-  pub place : InMemory (a .host) at (8 * n)
-  pub among : Among at (8 * n) x
+-- "a UIB that passed check 12": of an 87 that no check before 13 refuses, so many bytes at the UIB's address. Both numbers are those of the
+-- block that asks.
+pub record InUib (a : Asked) (at bytes x : ℕ) : Type 0 where
+  pub shape : Shape
+  pub asks : a .task ≡ Initialize shape
+  pub passed : None (before UibOutsideLimits (checks a))
+  pub among : Among at bytes x
 
-abbrev pub InBuffer : Asked → Buffer → ℕ → Type 0
-InBuffer a (Piece at) x = ⊥
-InBuffer a (Elements at n) x = InList a at n x
-
--- The bytes that are read: those of the list of an A1 or A2, and no others.
-abbrev pub Read : Asked → ℕ → Type 0
-Read a x = row (a .task) ⊥ (λ m. InBuffer a (m .buffer) x) ⊥ (λ s. ⊥) ⊥ (λ t. ⊥) (λ k. ⊥)
-
--- A byte that judging a block reads beside the block's own: of its UIB, or of its list.
-abbrev pub ReadFor : Block → Record → ℕ → List ℕ → ℕ → Type 0
-ReadFor b u image host x =
-    InUib host b x ⊎ Read (record { task = taskOf host b; unit = u; image = image; host = host }) x
+-- "a list of 1 to 64 elements that lies at an even address and in memory, once checks 10 to 17 are passed": of an A1 or A2 that no check
+-- before 18 refuses. A list of 65, or one that an earlier check spares, is not read; one refused for its sum is.
+pub record InList (a : Asked) (x : ℕ) : Type 0 where
+  pub move : Move
+  pub asks : a .task ≡ Moves move
+  pub at : ℕ
+  pub elements : ℕ
+  pub buffer : move .buffer ≡ Elements at elements
+  pub passed : None (before ListBad (checks a))
+  pub some : 1 ≤ elements
+  pub most : elements ≤ 64
+  pub place : InMemory (a .host) at (8 * elements)
+  pub among : Among at (8 * elements) x

@@ -24,7 +24,8 @@ ghost use Prim.Native.Nat.{_<_};
 ghost use Rattle.geometry.specs.Drive.{B, need, volume, volumeSectors};
 ghost use Rattle.geometry.specs.Limits.{Present};
 ghost use Rattle.judge.specs.Given.{asked, numberOf};
-ghost use Rattle.judge.specs.Verdict.{Begins, from, jobOf, verdict};
+ghost use Rattle.judge.specs.Asks.{jobOf};
+ghost use Rattle.judge.specs.Verdict.{Begins, byItsOwn, fromBuffer, fromSectors, verdict};
 ghost use Rattle.judge.specs.declared.Plan.{Plan};
 ghost use Rattle.judge.specs.declared.Verdict.{Verdict};
 ghost use Rattle.request.specs.declared.Task.{Task};
@@ -77,7 +78,7 @@ pub fn judge(r: Request, standing: Standing, host: &[u8]) -> Verdict
 }
 
 fn judge_shape(s: Shape, standing: Standing, host: &[u8]) -> Verdict
-    ensures { λ v. ⌜ v ≡ verdict (asked (Task.Initialize s) standing (now (host .entry))) ⌝ }
+    ensures { λ v. ⌜ v ≡ byItsOwn (asked (Task.Initialize s) standing (now (host .entry))) ⌝ }
 {
     match s {
         Shape::Misplaced => Verdict::Refused(Refusal::UibMisplaced),
@@ -92,7 +93,7 @@ fn judge_shape(s: Shape, standing: Standing, host: &[u8]) -> Verdict
 }
 
 fn judge_restore(standing: Standing, host: &[u8]) -> Verdict
-    ensures { λ v. ⌜ v ≡ verdict (asked Task.Restore standing (now (host .entry))) ⌝ }
+    ensures { λ v. ⌜ v ≡ byItsOwn (asked Task.Restore standing (now (host .entry))) ⌝ }
 {
     let u = standing.record;
     if u.counts_as_initialized() {
@@ -143,7 +144,7 @@ fn number(u: Record, v: VolumeNumber, start: Start) -> Number
 }
 
 fn judge_seek(t: Target, standing: Standing, host: &[u8]) -> Verdict
-    ensures { λ v. ⌜ v ≡ verdict (asked (Task.Seek t) standing (now (host .entry))) ⌝ }
+    ensures { λ v. ⌜ v ≡ byItsOwn (asked (Task.Seek t) standing (now (host .entry))) ⌝ }
 {
     let u = standing.record;
     let volume = t.volume;
@@ -164,7 +165,7 @@ fn judge_seek(t: Target, standing: Standing, host: &[u8]) -> Verdict
 }
 
 fn judge_format(k: Track, standing: Standing, host: &[u8]) -> Verdict
-    ensures { λ v. ⌜ v ≡ verdict (asked (Task.Format k) standing (now (host .entry))) ⌝ }
+    ensures { λ v. ⌜ v ≡ byItsOwn (asked (Task.Format k) standing (now (host .entry))) ⌝ }
 {
     let u = standing.record;
     if !u.counts_as_initialized() {
@@ -186,7 +187,7 @@ fn judge_format(k: Track, standing: Standing, host: &[u8]) -> Verdict
 
 // Checks 11, 14 and 15 of a transfer, and whether it begins anywhere.
 fn judge_move(m: Move, standing: Standing, host: &[u8]) -> Verdict
-    ensures { λ v. ⌜ v ≡ verdict (asked (Task.Move m) standing (now (host .entry))) ⌝ }
+    ensures { λ v. ⌜ v ≡ byItsOwn (asked (Task.Move m) standing (now (host .entry))) ⌝ }
 {
     let u = standing.record;
     let target = m.target;
@@ -210,7 +211,7 @@ fn judge_move(m: Move, standing: Standing, host: &[u8]) -> Verdict
 // Checks 16 and 17 of a transfer that begins at a number: the last sector is compared by what the volume has left.
 fn judge_span(m: Move, n: u64, standing: Standing, host: &[u8]) -> Verdict
     requires { ⌜ Begins (asked (Task.Move m) standing (now host)) m n ⌝ }
-    ensures { λ v. ⌜ v ≡ from 6 (asked (Task.Move m) standing (now (host .entry))) ⌝ }
+    ensures { λ v. ⌜ v ≡ fromSectors (asked (Task.Move m) standing (now (host .entry))) m ⌝ }
 {
     let u = standing.record;
     let target = m.target;
@@ -231,7 +232,7 @@ fn judge_span(m: Move, n: u64, standing: Standing, host: &[u8]) -> Verdict
 // Checks 18 and 19 of a transfer.
 fn judge_buffer(m: Move, n: u64, standing: Standing, host: &[u8]) -> Verdict
     requires { ⌜ Begins (asked (Task.Move m) standing (now host)) m n ⌝ }
-    ensures { λ v. ⌜ v ≡ from 8 (asked (Task.Move m) standing (now (host .entry))) ⌝ }
+    ensures { λ v. ⌜ v ≡ fromBuffer (asked (Task.Move m) standing (now (host .entry))) m ⌝ }
 {
     let u = standing.record;
     let bytes = (m.count as u64) * sector_bytes(u);

@@ -8,20 +8,23 @@ use mathlib.Core.Path.{_≡_, refl, sym, ap, _∙_}
 use native.Mathlib.Omega.{arith}
 use lib.ListN.{length}
 use Rattle.wire.specs.Memory.{Among, InMemory}
+use Rattle.wire.proofs.Promises.{never as impossible}
 use Rattle.answers.specs.declared.BlockAnswer.{BlockAnswer}
 use Rattle.answers.specs.declared.BlockAnswer.the-variants.{Ended, Failed}
 use Rattle.answers.specs.declared.Refusal.{Refusal}
 use Rattle.iopb.specs.Ask.{taskOf}
 use Rattle.judge.specs.declared.Plan.{Plan}
 use Rattle.judge.specs.declared.Verdict.{Verdict}
-use Rattle.judge.specs.Reads.{ReadFor}
-use Rattle.judge.specs.Verdict.{jobOf}
+use Rattle.judge.specs.Given.{Asked}
+use Rattle.judge.specs.Reads.{InList, InUib}
+use Rattle.judge.specs.Asks.{jobOf}
 use Rattle.judge.proofs.Tasks.{handshake}
 use Rattle.block.specs.Block.{reported}
 use Rattle.iopb.specs.declared.Block.{Block}
+use Rattle.request.specs.declared.Buffer.{Buffer}
 use Rattle.request.specs.declared.Move.{Move}
 use Rattle.request.specs.declared.Task.{Task}
-use Rattle.demands.specs.Footprint.{HostWritten, RunNames, RunWrites, namedDrive, names, verdictOf}
+use Rattle.demands.specs.Footprint.{HostWritten, RunNames, RunWrites, askedOf, namedDrive, names, verdictOf}
 use Rattle.demands.specs.Visits.{Passes, Visit, blockOf, effectOf}
 use Rattle.demands.proofs.Written.{effect-is}
 use Rattle.independence.specs.Chains.{Both, First, Second, Which, eventsOf, told, worldFor}
@@ -81,7 +84,7 @@ module _ (t : Which) (s : Both) (at : ℕ) (passes : Passes at 1 (worldFor t s))
 
   module _ (verd : Verdict) (is : verdictOf v ≡ verd) (rs ws : List (ℕ × ℕ)) where
     pub alone :
-        ((x : ℕ) → ReadFor (blockOf v) (namedDrive v .unit) (length (namedDrive v .image)) (v .world .host) x → In rs x) →
+        ((x : ℕ) → InUib (askedOf v) (blockOf v .address) 18 x ⊎ InList (askedOf v) x → In rs x) →
         ((x : ℕ) → DataBy v verd false x → In rs x) →
         ((x : ℕ) → blockOf v .command ≡ 0x86 → Among (v .at + 4) 12 x → In ws x) →
         ((x : ℕ) → DataBy v verd true x → In ws x) →
@@ -96,20 +99,29 @@ module _ (t : Which) (s : Both) (at : ℕ) (passes : Passes at 1 (worldFor t s))
 
 -- ---- a transfer of the pairs
 
-task-number : Task → ℕ
+abbrev pub task-number : Task → ℕ
 task-number (Task.Move m) = 0
-task-number Task.Handshake = 1
 task-number (Task.Initialize x) = 1
-task-number Task.Unknown = 2
-task-number Task.Restore = 2
-task-number (Task.Seek x) = 2
-task-number (Task.Format x) = 2
+task-number Task.Handshake = 2
+task-number Task.Unknown = 3
+task-number Task.Restore = 3
+task-number (Task.Seek x) = 3
+task-number (Task.Format x) = 3
 
--- A block that asks for a transfer is neither a handshake nor an initialize.
-no-other : (host : List ℕ) (b : Block) (m : Move) → taskOf host b ≡ Task.Move m → (b .command ≡ 0x86) ⊎ (b .command ≡ 0x87) → ⊥
-unfolding taskOf task-number
-no-other host b m task (inl is) = omega (arith, ap task-number (rw is at task))
-no-other host b m task (inr is) = omega (arith, ap task-number (rw is at task))
+-- Only an initialize has a UIB that is read, and only a transfer a list.
+pub no-uib : (a : Asked) (at bytes x : ℕ) → (task-number (a .task) ≡ 1 → ⊥) → InUib a at bytes x → ⊥
+no-uib a at bytes x other uib = other (ap task-number (uib .asks))
+
+pub no-list-of-a-piece : (a : Asked) (m : Move) (at x : ℕ) → a .task ≡ Task.Move m → m .buffer ≡ Buffer.Piece at → InList a x → ⊥
+no-list-of-a-piece a m at x asks piece list = impossible (cc (list .asks, list .buffer))
+
+pub no-list : (a : Asked) (x : ℕ) → (task-number (a .task) ≡ 0 → ⊥) → InList a x → ⊥
+no-list a x other list = other (ap task-number (list .asks))
+
+-- A block that asks for a transfer is no handshake.
+no-handshake : (host : List ℕ) (b : Block) (m : Move) → taskOf host b ≡ Task.Move m → b .command ≡ 0x86 → ⊥
+unfolding taskOf
+no-handshake host b m task is = omega (arith, ap task-number (rw is at task))
 
 abbrev pub carries : Bool → ℕ → ℕ → Verdict
 carries to-host count buffer = Verdict.Do (Plan.Move (jobOf (moveOf to-host 0 count buffer) 0))
@@ -140,9 +152,9 @@ module _
     judged-so : verdictOf b ≡ carries to-host count buffer
     judged-so = rw (task, same) (move-passes (s .host) 0 (omega arith) to-host 0 count buffer some (omega arith) held)
 
-    judged-alone : (x : ℕ) → ReadFor (blockOf b) (namedDrive b .unit) (length (namedDrive b .image)) (s .host) x → ⊥
-    judged-alone x (inl uib) = no-other (s .host) (blockOf b) _ task (inr (uib .initialize))
-    judged-alone x (inr listed) = rw task at listed
+    judged-alone : (x : ℕ) → InUib (askedOf b) (blockOf b .address) 18 x ⊎ InList (askedOf b) x → ⊥
+    judged-alone x (inl uib) = no-uib (askedOf b) _ _ x (λ is. omega (arith, ap task-number task)) uib
+    judged-alone x (inr list) = no-list-of-a-piece (askedOf b) _ buffer x task refl list
 
     module _ (n : ℕ) (moved : effectOf b .sectors ≡ n) where
       there : (way : Bool) (x : ℕ) → DataBy b (carries to-host count buffer) way x → Among buffer (n * 64) x
@@ -170,7 +182,7 @@ module _
           footprint =
               alone t s at passes _ judged-so (going (not to-host) (buffer, n * 64)) (going to-host (buffer, n * 64))
               (λ x j. absurd (judged-alone x j)) (λ x d. ranged n moved to-host false x (λ same. there n moved false x d) (d .0))
-              (λ x report among. absurd (no-other (s .host) (blockOf b) _ task (inl report)))
+              (λ x report among. absurd (no-handshake (s .host) (blockOf b) _ task report))
               (λ x d. ranged n moved to-host true x (λ same. there n moved true x d) (d .0));
         }
 

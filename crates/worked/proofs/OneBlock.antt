@@ -5,7 +5,6 @@ use mathlib.Core.Bool.{Bool, true, false}
 use mathlib.Core.List.{List, [], _∷_}
 use mathlib.Core.Logic.{_⊎_, inl, inr, if-pos}
 use mathlib.Core.Path.{_≡_, refl, sym, ap, subst, _∙_}
-use lib.ListN.{length}
 use Rattle.wire.specs.Memory.{Among}
 use Rattle.answers.specs.declared.BlockAnswer.{BlockAnswer}
 use Rattle.answers.specs.declared.BlockAnswer.the-variants.{Ended, Failed}
@@ -17,13 +16,13 @@ use Rattle.judge.specs.declared.Plan.{Plan}
 use Rattle.judge.specs.declared.Plan.the-variants.{Report, Initialize, Heads, Format, Move}
 use Rattle.judge.specs.declared.Verdict.{Verdict}
 use Rattle.judge.specs.declared.Verdict.the-variants.{Refused, Do}
-use Rattle.judge.specs.Reads.{ReadFor}
+use Rattle.judge.specs.Reads.{InList, InUib}
 use Rattle.transfer.specs.Data.{Transfer}
 use Rattle.block.specs.Block.{dataByte}
 use Rattle.block.specs.World.{World}
 use Rattle.board.specs.Chain.{Ending, Tally, ends, follows, nothing, ran}
 use Rattle.board.proofs.Runs.{ran-chain}
-use Rattle.demands.specs.Footprint.{HostData, HostWritten, Makes, Some, makes, namedDrive, verdictOf}
+use Rattle.demands.specs.Footprint.{HostData, HostWritten, Makes, Some, askedOf, makes, namedDrive, verdictOf}
 use Rattle.demands.specs.Visits.{Passes, Visit, blockOf, effectOf, fetchedBy, onwards, passes?, visits, worldLeft}
 use Rattle.demands.proofs.Endings.{fetched-step, visits-step}
 use Rattle.independence.specs.Reads.{HostRead}
@@ -118,7 +117,7 @@ module _ (v : Visit) (verd : Verdict) (is : verdictOf v ≡ verd) (rs : List (�
 
   -- Beside its own 28 bytes it reads those that it is judged by and the data that it moves to the disk.
   pub reads-in :
-      (ReadFor (blockOf v) (namedDrive v .unit) (length (namedDrive v .image)) (v .world .host) x → In rs x) →
+      (InUib (askedOf v) (blockOf v .address) 18 x ⊎ InList (askedOf v) x → In rs x) →
       (DataBy v verd false x → In rs x) → HostRead v x → In ((v .at, 28) ∷ rs) x
   reads-in judged moved (inl own) = inl own
   reads-in judged moved (inr (inl judging)) = inr (judged judging)

@@ -9,9 +9,10 @@ use Rattle.geometry.specs.declared.VolumeNumber.{VolumeNumber}
 use Rattle.geometry.specs.declared.VolumeNumber.the-variants.{Zero, One}
 use Rattle.geometry.specs.Sectors.Inside.{firstByte-is}
 use Rattle.judge.specs.declared.Standing.{Standing}
-use Rattle.judge.specs.Given.{BadList, BadRange, Covers}
-use Rattle.judge.specs.Verdict.{from, verdict}
-use Rattle.judge.proofs.Tasks.{buffer-18, buffer-done, move-on, span-17, span-last, span-on}
+use Rattle.judge.specs.Given.{Covers}
+use Rattle.judge.specs.Verdict.{fromBuffer, fromSectors, verdict}
+use Rattle.judge.proofs.First.{never}
+use Rattle.judge.proofs.Tasks.{list-18, list-done, move-on, own, piece-done, span-17, span-last, span-on}
 use Rattle.request.specs.declared.Buffer.{Buffer}
 use Rattle.request.specs.declared.Move.{Move}
 use Rattle.worked.specs.SmallDrive.{All, Holds, Judged, asking, drive, host, move, starred, unit}
@@ -34,42 +35,42 @@ module _ (n count image : ℕ) (b : Buffer) where
   abbrev s : Standing
   s = record { «record» = unit; image = image }
 
-  -- The checks before 16 let it pass, and those from 16 on decide.
-  from-16-on : 0 < count → verdict (asking m image) ≡ from 6 (asking m image)
-  from-16-on some = move-on s host m counts present (λ none. omega arith)
+  -- It passes what it is asked of the unit; its sectors decide, and then its buffer.
+  by-its-sectors : 0 < count → verdict (asking m image) ≡ fromSectors (asking m image) m
+  by-its-sectors some = own s host _ never ∙ move-on s host m counts present (λ none. omega arith)
 
   outside-is-16 : (0 < count) × (80 < n + count) → Judged m n image (refused SectorOutside)
-  outside-is-16 is = from-16-on (is .0) ∙ span-last s host m n refl (is .0) (omega (arith, sectors-80))
+  outside-is-16 is = by-its-sectors (is .0) ∙ span-last s host m n refl (is .0) (omega (arith, sectors-80))
 
   covered : (0 < count) × (n + count ≤ 80) → Covers unit Zero (Number.Is n) count
   covered is = omega (arith, sectors-80)
 
   short-is-17 : (0 < count) × (n + count ≤ 80) × (image < 7800) → Judged m n image (refused ImageShort)
-  short-is-17 is = from-16-on (is .0) ∙ span-17 s host m (covered (omega arith)) (omega (arith, need-7800))
+  short-is-17 is = by-its-sectors (is .0) ∙ span-17 s host m (covered (omega arith)) (omega (arith, need-7800))
 
-  module _ (is : (0 < count) × (n + count ≤ 80) × (7800 ≤ image)) where
-    from-18-on : verdict (asking m image) ≡ from 8 (asking m image)
-    from-18-on = from-16-on (is .0) ∙ span-on s host m (covered (omega arith)) (omega (arith, need-7800))
-
-    bad-list-is-18 : BadList host b (count * 64) → Judged m n image (refused ListBad)
-    bad-list-is-18 bad = from-18-on ∙ buffer-18 s host m bad
-
-    good-buffer-passes :
-        (BadList host b (count * 64) → ⊥) → (BadRange host b (count * 64) → ⊥) → Judged m n image passes
-    good-buffer-passes listed held = from-18-on ∙ buffer-done s host m n refl listed held
+  by-its-buffer : (0 < count) × (n + count ≤ 80) × (7800 ≤ image) → verdict (asking m image) ≡ fromBuffer (asking m image) m
+  by-its-buffer is = by-its-sectors (is .0) ∙ span-on s host m (covered (omega arith)) (omega (arith, need-7800))
 
 -- ---- by its buffer
 
 read-passes :
     (n count image : ℕ) → (0 < count) × (n + count ≤ 80) × (7800 ≤ image) → Holds (reads n count image passes)
 read-passes n count image is =
-    good-buffer-passes n count image _ is (λ none. none) (λ out. out (piece-good (count * 64) (omega arith)))
+    let b = Buffer.Piece 512 in
+    by-its-buffer n count image b is
+    ∙ piece-done (s n count image b) host (m n count image b) 512 refl n refl (piece-good (count * 64) (omega arith))
 
 list-of-64-passes : Holds (scatters 64 passes)
-list-of-64-passes = good-buffer-passes 0 64 7800 _ (omega arith) (λ bad. bad list-good) (λ out. out ranges-good)
+list-of-64-passes =
+    let b = Buffer.List 0 64 in
+    by-its-buffer 0 64 7800 b (omega arith)
+    ∙ list-done (s 0 64 7800 b) host (m 0 64 7800 b) 0 64 refl list-good 0 refl ranges-good
 
 list-over-64-is-18 : (k : ℕ) → (64 < k) × (k ≤ 80) → Holds (scatters k (refused ListBad))
-list-over-64-is-18 k over = bad-list-is-18 0 k 7800 _ (omega arith) (λ good. omega (arith, good .most))
+list-over-64-is-18 k over =
+    let b = Buffer.List 0 k in
+    by-its-buffer 0 k 7800 b (omega arith)
+    ∙ list-18 (s 0 k 7800 b) host (m 0 k 7800 b) 0 k refl (λ good. omega (arith, good .most))
 
 -- ---- the table
 

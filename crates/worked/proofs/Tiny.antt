@@ -22,8 +22,10 @@ use Rattle.judge.specs.declared.Plan.{Plan}
 use Rattle.judge.specs.declared.Standing.{Standing}
 use Rattle.judge.specs.declared.Verdict.{Verdict}
 use Rattle.judge.specs.Given.{asked}
-use Rattle.judge.specs.Verdict.{jobOf, verdict}
-use Rattle.judge.proofs.Tasks.{buffer-done, move-on, span-covers, span-on}
+use Rattle.judge.specs.Asks.{jobOf}
+use Rattle.judge.specs.Verdict.{verdict}
+use Rattle.judge.proofs.First.{never}
+use Rattle.judge.proofs.Tasks.{move-on, own, piece-done, span-covers, span-on}
 use Rattle.request.specs.declared.Buffer.{Buffer}
 use Rattle.request.specs.declared.Move.{Move}
 use Rattle.request.specs.declared.Start.{Start}
@@ -105,9 +107,10 @@ module _ (host : List ℕ) (c : ℕ) (heads : c < 2) where
   move-passes to-host n count at some fits held =
       let m = moveOf to-host n count at in
       let s = standing c 130 in
+      own s host _ never ∙
       move-on s host m (counts c heads) present (λ none. omega arith) ∙
       span-on s host m (span-covers s host m n refl some (omega (arith, sectors-2))) (omega (arith, need-130)) ∙
-      buffer-done s host m n refl (λ none. none) (λ out. out held)
+      piece-done s host m at refl n refl held
 
 -- ---- a sector's fate
 

@@ -18,8 +18,10 @@ use Rattle.iopb.proofs.Answers.{shapeAt-inside}
 use Rattle.geometry.specs.Limits.{Present, Within}
 use Rattle.judge.specs.declared.Plan.{Plan}
 use Rattle.judge.specs.declared.Verdict.{Verdict}
-use Rattle.judge.specs.Verdict.{jobOf}
-use Rattle.judge.proofs.Tasks.{handshake, move-11, restore-done, restore-refused, shape-given, shape-outside}
+use Rattle.judge.specs.Asks.{jobOf}
+use Rattle.judge.specs.Checks.{None}
+use Rattle.judge.proofs.First.{never}
+use Rattle.judge.proofs.Tasks.{handshake, move-11, own, restore-done, restore-refused, shape-given, shape-outside}
 use Rattle.unit.specs.Standing.{CountsAsInitialized}
 use Rattle.transfer.specs.Stores.{after, bytesFrom}
 use Rattle.block.specs.World.{World, buffersOf, changed}
@@ -40,7 +42,7 @@ use Rattle.independence.proofs.Demand3.{run-local}
 use Rattle.independence.proofs.Steps.{unnoticed}
 use Rattle.request.specs.declared.UnitNumber.the-variants.{Zero, One}
 use Rattle.worked.specs.TwoChains.{adjacent, come, driveWith, newDrive, ofFirst, ofSecond, one, readByOther, refusedData, sharedUnit, stoppedRead, tiny, two, writtenTwice, Met, Fails}
-use Rattle.worked.proofs.Carried.{Alone, Carried, alone, differ, met, no-unit, no-way, none-read, none-twice, passes-at, read-carried, read-stopped-carried, v, write-carried}
+use Rattle.worked.proofs.Carried.{Alone, Carried, alone, differ, met, no-list, no-list-of-a-piece, no-uib, no-unit, no-way, none-read, none-twice, passes-at, read-carried, read-stopped-carried, v, write-carried}
 use Rattle.worked.proofs.OneBlock.{by-block, done, failed, leaves}
 use Rattle.worked.proofs.Tiny.{counts, moveOf, place-is, unit}
 
@@ -89,13 +91,13 @@ refused-pass = both-pass refusedData refl refl (omega arith)
 
 refused-write : verdictOf (first-of refusedData) ≡ Verdict.Refused Refusal.NotInitialized
 unfolding word taskOf
-refused-write = move-11 (record { «record» = newDrive .unit; image = 0 }) (refusedData .host) (moveOf false 0 1 28) not-ready
+refused-write = own _ _ _ never ∙ move-11 (record { «record» = newDrive .unit; image = 0 }) (refusedData .host) (moveOf false 0 1 28) not-ready
 
 refused-first : Alone First 0 refusedData Zero ((0, 28) ∷ []) ((2, 2) ∷ [])
 unfolding word taskOf
 refused-first =
     alone First refusedData 0 (refused-pass .0) _ refused-write [] []
-    (λ x j. ⊎-elim (λ uib. omega (arith, uib .initialize)) (λ none. none) j) (λ x d. d) (λ x report among. omega (arith, report))
+    (λ x j. ⊎-elim (λ uib. absurd (no-uib _ _ _ x (λ is. omega arith) uib)) (λ list. absurd (no-list-of-a-piece _ (moveOf false 0 1 28) 28 x refl refl list)) j) (λ x d. d) (λ x report among. omega (arith, report))
     (λ x d. d)
 
 refused-read : Carried Second refusedData 28 true 56 1 1 Ended
@@ -242,24 +244,24 @@ shared-initialize : verdictOf (first-of sharedUnit) ≡ Verdict.Do (Plan.Initial
 unfolding word taskOf
 shared-initialize =
     rw (shapeAt-inside (sharedUnit .host) 32 (omega arith))
-    (shape-given (record { «record» = newDrive .unit; image = 0 }) (sharedUnit .host) tiny within-tiny)
+    (own _ _ _ never ∙ shape-given (record { «record» = newDrive .unit; image = 0 }) (sharedUnit .host) tiny within-tiny)
 
 shared-restore : verdictOf (second-of sharedUnit) ≡ Verdict.Refused Refusal.NotInitialized
 unfolding word taskOf
-shared-restore = restore-refused (record { «record» = newDrive .unit; image = 0 }) (sharedUnit .host) not-ready
+shared-restore = own _ _ _ never ∙ restore-refused (record { «record» = newDrive .unit; image = 0 }) (sharedUnit .host) not-ready
 
 shared-first : Alone First 0 sharedUnit Zero ((0, 28) ∷ (32, 18) ∷ []) ((2, 2) ∷ [])
 unfolding word taskOf
 shared-first =
     alone First sharedUnit 0 (shared-pass .0) _ shared-initialize ((32, 18) ∷ []) []
-    (λ x j. ⊎-elim (λ uib. inl (uib .among)) (λ none. absurd none) j) (λ x d. absurd d)
+    (λ x j. ⊎-elim (λ uib. inl (uib .among)) (λ list. absurd (no-list _ x (λ is. omega arith) list)) j) (λ x d. absurd d)
     (λ x report among. absurd (omega (arith, report))) (λ x d. d)
 
 shared-second : Alone Second 28 sharedUnit Zero ((28, 28) ∷ []) ((30, 2) ∷ [])
 unfolding word taskOf
 shared-second =
     alone Second sharedUnit 28 (shared-pass .1) _ shared-restore [] []
-    (λ x j. ⊎-elim (λ uib. absurd (omega (arith, uib .initialize))) (λ none. none) j) (λ x d. d)
+    (λ x j. ⊎-elim (λ uib. absurd (no-uib _ _ _ x (λ is. omega arith) uib)) (λ list. absurd (no-list _ x (λ is. omega arith) list)) j) (λ x d. d)
     (λ x report among. absurd (omega (arith, report))) (λ x d. d)
 
 -- What the initialize leaves, and the restore after it.
@@ -284,7 +286,7 @@ then-passes = passes-at Second then-shared 28 refl refl (omega arith)
 
 then-restore : verdictOf (second-of then-shared) ≡ Verdict.Do (Plan.Heads 0)
 unfolding word taskOf after bytesFrom
-then-restore = restore-done (record { «record» = unit 0; image = 0 }) (then-shared .host) (counts 0 (omega arith))
+then-restore = own _ _ _ never ∙ restore-done (record { «record» = unit 0; image = 0 }) (then-shared .host) (counts 0 (omega arith))
 
 then-comes : ofSecond then-shared ≡ come RunAnswer.Done 0 0
 unfolding after bytesFrom
@@ -326,20 +328,20 @@ read-initialize : verdictOf (second-of readByOther) ≡ Verdict.Do (Plan.Initial
 unfolding word taskOf
 read-initialize =
     rw (shapeAt-inside (readByOther .host) 4 (omega arith))
-    (shape-given (record { «record» = newDrive .unit; image = 0 }) (readByOther .host) tiny within-tiny)
+    (own _ _ _ never ∙ shape-given (record { «record» = newDrive .unit; image = 0 }) (readByOther .host) tiny within-tiny)
 
 read-first : Alone First 0 readByOther Zero ((0, 28) ∷ []) ((2, 2) ∷ (4, 12) ∷ [])
 unfolding word taskOf
 read-first =
     alone First readByOther 0 (read-pass .0) _ read-report [] ((4, 12) ∷ [])
-    (λ x j. ⊎-elim (λ uib. absurd (omega (arith, uib .initialize))) (λ none. none) j) (λ x d. d) (λ x report among. inl among)
+    (λ x j. ⊎-elim (λ uib. absurd (no-uib _ _ _ x (λ is. omega arith) uib)) (λ list. absurd (no-list _ x (λ is. omega arith) list)) j) (λ x d. d) (λ x report among. inl among)
     (λ x d. absurd d)
 
 read-second : Alone Second 28 readByOther One ((28, 28) ∷ (4, 18) ∷ []) ((30, 2) ∷ [])
 unfolding word taskOf
 read-second =
     alone Second readByOther 28 (read-pass .1) _ read-initialize ((4, 18) ∷ []) []
-    (λ x j. ⊎-elim (λ uib. inl (uib .among)) (λ none. absurd none) j) (λ x d. absurd d)
+    (λ x j. ⊎-elim (λ uib. inl (uib .among)) (λ list. absurd (no-list _ x (λ is. omega arith) list)) j) (λ x d. absurd d)
     (λ x report among. absurd (omega (arith, report))) (λ x d. d)
 
 abbrev reported-world : World
@@ -366,7 +368,7 @@ then-outside : verdictOf (second-of then-read) ≡ Verdict.Refused Refusal.UibOu
 unfolding word taskOf after bytesFrom Present
 then-outside =
     rw (shapeAt-inside (then-read .host) 4 (omega arith))
-    (shape-outside (record { «record» = newDrive .unit; image = 0 }) (then-read .host) (uibAt (then-read .host) 4)
+    (own _ _ _ never ∙ shape-outside (record { «record» = newDrive .unit; image = 0 }) (then-read .host) (uibAt (then-read .host) 4)
     (λ within. let one-head : 0 < 0 = within .volumes .one-head in omega arith))
 
 then-read-comes : ofSecond then-read ≡ come RunAnswer.BlockFailed 13 0
@@ -387,12 +389,12 @@ read-differs e =
 read-by-other :
     (NoByteReadByOther one two readByOther → ⊥) ×
     (NoUnitInCommon one two readByOther × (NoByteWrittenByBoth one two readByOther × (EitherWay one two readByOther → ⊥)))
-unfolding word
+unfolding word taskOf None
 read-by-other = (
   λ none.
       none 4 .0 (by-block 0 _ (read-pass .0) (λ v. HostWritten v 4) (inr (inl (refl, omega arith))))
       (by-block 28 _ (read-pass .1) (λ v. HostRead v 4)
-      (inr (inl (inl (record { initialize = refl; place = omega arith; among = omega arith }))))),
+      (inr (inl (inl (record { shape = _; asks = refl; passed = (never, (λ bad. rw (shapeAt-inside (readByOther .host) 4 (omega arith)) at bad, tt)); among = omega arith }))))),
   (no-unit read-first read-second differ, (none-twice read-first read-second (omega arith), read-differs)),
 )
 

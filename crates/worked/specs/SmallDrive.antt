@@ -12,7 +12,8 @@ use Rattle.geometry.specs.Sectors.{firstByte}
 use Rattle.judge.specs.declared.Plan.{Plan}
 use Rattle.judge.specs.declared.Verdict.{Verdict}
 use Rattle.judge.specs.Given.{Asked}
-use Rattle.judge.specs.Verdict.{jobOf, verdict}
+use Rattle.judge.specs.Asks.{jobOf}
+use Rattle.judge.specs.Verdict.{verdict}
 use Rattle.request.specs.declared.Buffer.{Buffer}
 use Rattle.request.specs.declared.Move.{Move}
 use Rattle.request.specs.declared.Start.{Start}

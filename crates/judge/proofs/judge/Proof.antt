@@ -1,8 +1,9 @@
 -- The task's kind decides which function judges it.
--- Each promises the verdict on its own kind.
-use mathlib.Core.Path.{sym}
+-- Each promises the verdict by its kind's own checks, and a listed command passes what all are asked first.
+use mathlib.Core.Path.{sym, _∙_}
 use borrow.Author.Needs.{needs}
-use Rattle.judge.proofs.Tasks.{handshake, unknown}
+use Rattle.judge.proofs.First.{never}
+use Rattle.judge.proofs.Tasks.{handshake, own, unknown}
 use Rattle.judge.proofs.judge.Statement.{statement}
 use Rattle.judge.proofs.judge.Tie as tie
 
@@ -46,22 +47,22 @@ returns : tie.Need-returns
 returns c = rw (c .enum-told .given .1) (sym (unknown _ _))
 
 returns-2 : tie.Need-returns-2
-returns-2 c = rw (c .before .before .task .given .1) (c .judge-move .ensures)
+returns-2 c = rw (c .before .before .task .given .1) (c .judge-move .ensures ∙ sym (own _ _ _ never))
 
 returns-3 : tie.Need-returns-3
 returns-3 c = rw (c .enum-told2 .given .1) (sym (handshake _ _))
 
 returns-4 : tie.Need-returns-4
-returns-4 c = rw (c .before .before .task2 .given .1) (c .judge-shape .ensures)
+returns-4 c = rw (c .before .before .task2 .given .1) (c .judge-shape .ensures ∙ sym (own _ _ _ never))
 
 returns-5 : tie.Need-returns-5
-returns-5 c = rw (c .before .enum-told3 .given .1) (c .judge-restore .ensures)
+returns-5 c = rw (c .before .enum-told3 .given .1) (c .judge-restore .ensures ∙ sym (own _ _ _ never))
 
 returns-6 : tie.Need-returns-6
-returns-6 c = rw (c .before .before .task3 .given .1) (c .judge-seek .ensures)
+returns-6 c = rw (c .before .before .task3 .given .1) (c .judge-seek .ensures ∙ sym (own _ _ _ never))
 
 returns-7 : tie.Need-returns-7
-returns-7 c = rw (c .before .before .task4 .given .1) (c .judge-format .ensures)
+returns-7 c = rw (c .before .before .task4 .given .1) (c .judge-format .ensures ∙ sym (own _ _ _ never))
 
 pub judge-spec : {M : Type 1} → statement M
 judge-spec =

@@ -71,7 +71,7 @@ returns-3 c =
     let found = rw (c .before .before .before .before .before .before .before .sector-bytes .ensures .0, c .before .enum-told .given .1) at (c .before .before .before .list .ensures) in
     c .accepted2 .ensures
     ∙ sym
-    (list-done (a .standing) (a .host .now) (a .m) (is .0 .0) (is .0 .1 .0) (is .1) (a .n) (c .before .before .before .before .before .before .before .before .before .before .before .pre .starts) (found .0) (found .1))
+    (list-done (a .standing) (a .host .now) (a .m) (is .0 .0) (is .0 .1 .0) (is .1) (found .0) (a .n) (c .before .before .before .before .before .before .before .before .before .before .before .pre .starts) (found .1))
 
 returns-4 : tie.Need-returns-4
 returns-4 c =

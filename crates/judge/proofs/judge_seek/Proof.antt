@@ -57,8 +57,9 @@ returns-3 c =
     let landed = at-landing (a .standing .record) (a .t .volume) n spot (sym (c .before .before .before .land .ensures) ∙ c .before .spot .given .1) in
     ap (λ (x : Spot). Verdict.Do (Plan.Heads (x .cylinder))) (landed .1)
     ∙ sym
-    (seek-done (a .standing) (a .host .now) (a .t) n (granted (u .result) _ (c .before .before .before .before .before .before .before .before .before .before .if1 .left) (u .ensures))
+    (seek-done (a .standing) (a .host .now) (a .t) (granted (u .result) _ (c .before .before .before .before .before .before .before .before .before .before .if1 .left) (u .ensures))
     (granted (v .result) _ (c .before .before .before .before .before .before .before .before .if2 .left) (v .ensures))
+    n
     (sym (c .before .before .before .before .before .before .before .number .ensures) ∙ c .before .before .before .before .before .n .given .1)
     (omega (arith, landed)))
 

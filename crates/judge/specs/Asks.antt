@@ -1,0 +1,169 @@
+-- What each command is asked, in the order of the answers (01, Answer numbers), and what it does where no check refuses it. Whatever
+-- goes by command stands here; Table compares it with the paper's rows.
+use Prim.Native.Nat.{ℕ, _*_, _<_}
+use mathlib.Core.Bool.{Bool, true, false}
+use mathlib.Core.List.{List, [], _∷_, _++_}
+use mathlib.Core.Logic.{Dec·not}
+use mathlib.Core.Path.{_≡_}
+use native.Mathlib.Decide.{decLt, ℕ-discrete}
+use lib.Dec.{T}
+use Rattle.answers.specs.declared.Refusal.the-variants.{CommandUnknown, NotInitialized, UibMisplaced, UibOutsideLimits, VolumeAbsent, CountZero, SectorOutside, ImageShort, ListBad, DataMisplaced}
+use Rattle.geometry.specs.declared.Number.{Number}
+use Rattle.geometry.specs.declared.Number.the-variants.{Is, Outside}
+use Rattle.geometry.specs.declared.VolumeNumber.{VolumeNumber}
+use Rattle.geometry.specs.Drive.{B, need, volume}
+use Rattle.geometry.specs.Limits.{Present}
+use Rattle.geometry.specs.Sectors.{address, onDrive?}
+use Rattle.geometry.proofs.Decided.{present?}
+use Rattle.memory.specs.Lists.{ListGood, Ranges}
+use Rattle.memory.proofs.Decided.{listGood?, ranges?}
+use Rattle.request.specs.declared.Buffer.{Buffer}
+use Rattle.request.specs.declared.Buffer.the-variants.{Piece, List as Elements}
+use Rattle.request.specs.declared.Move.{Move}
+use Rattle.request.specs.declared.Shape.{Shape}
+use Rattle.request.specs.declared.Shape.the-variants.{Misplaced, Given as Uib}
+use Rattle.request.specs.declared.Target.{Target}
+use Rattle.request.specs.declared.Task.{Task}
+use Rattle.request.specs.declared.Task.the-variants.{Unknown, Move as Moves, Handshake, Initialize, Restore, Seek, Format}
+use Rattle.request.specs.declared.Track.{Track}
+use Rattle.unit.specs.declared.Record.{Record}
+use Rattle.unit.specs.Landing.{spotOf, trackOf}
+use Rattle.unit.specs.Standing.{CountsAsInitialized}
+use Rattle.unit.proofs.Decided.{counts?}
+use Rattle.wire.specs.Memory.{InMemory, inMemory?}
+use Rattle.judge.specs.declared.Job.{Job}
+use Rattle.judge.specs.declared.Plan.{Plan}
+use Rattle.judge.specs.Checks.{Check, check}
+use Rattle.judge.specs.Decided.{badPlace?, badShape?, covers?, test?}
+use Rattle.judge.specs.Given.{Asked, BadPlace, BadShape, Covers, HasTrack, beginsAt}
+
+-- "command not listed"
+abbrev pub unlisted : Task → Bool
+unlisted Unknown = true
+unlisted (Moves m) = false
+unlisted Handshake = false
+unlisted (Initialize s) = false
+unlisted Restore = false
+unlisted (Seek t) = false
+unlisted (Format k) = false
+
+module _ (a : Asked) where
+  -- ---- the checks, each an answer with its case
+
+  abbrev pub commandUnknown : Check
+  commandUnknown = check CommandUnknown (T (unlisted (a .task))) (test? (unlisted (a .task)))
+
+  -- "unit not initialized"
+  abbrev pub notInitialized : Check
+  notInitialized = check NotInitialized (CountsAsInitialized (a .unit) → ⊥) (Dec·not (counts? (a .unit)))
+
+  -- "UIB address odd or UIB not wholly in host memory", which the shape of a request says (iopb, shapeAt)
+  abbrev pub uibMisplaced : Shape → Check
+  uibMisplaced s = check UibMisplaced (BadPlace s) (badPlace? s)
+
+  -- "UIB outside the geometry's limits"
+  abbrev pub uibOutsideLimits : Shape → Check
+  uibOutsideLimits s = check UibOutsideLimits (BadShape s) (badShape? s)
+
+  -- "volume absent"
+  abbrev pub volumeAbsent : VolumeNumber → Check
+  volumeAbsent v =
+      check VolumeAbsent (Present (volume (a .unit .geometry) v) → ⊥) (Dec·not (present? (volume (a .unit .geometry) v)))
+
+  -- "count 0"
+  abbrev pub countZero : ℕ → Check
+  countZero count = check CountZero (count ≡ 0) (ℕ-discrete count 0)
+
+  -- "first sector outside the volume, or the last; .. 8A: the one address only"
+  abbrev pub sectorOutside : Target → ℕ → Check
+  sectorOutside t count =
+      let begin = beginsAt (a .unit) t in
+      check SectorOutside (Covers (a .unit) (t .volume) begin count → ⊥) (Dec·not (covers? (a .unit) (t .volume) begin count))
+
+  -- "8C: track outside the drive"
+  abbrev pub trackOutside : Track → Check
+  trackOutside k =
+      check SectorOutside (HasTrack (a .unit) k → ⊥) (Dec·not (onDrive? (a .unit .geometry) (address (k .cylinder) (k .head) 0)))
+
+  -- "image shorter than the geometry needs"
+  abbrev pub imageShort : Check
+  imageShort = check ImageShort (a .image < need (a .unit .geometry)) (decLt (a .image) (need (a .unit .geometry)))
+
+  -- "list: 0 or over 64 elements, .. or the sum not count × B"
+  abbrev pub listBad : ℕ → ℕ → ℕ → Check
+  listBad at n bytes = check ListBad (ListGood (a .host) at n bytes → ⊥) (Dec·not (listGood? (a .host) at n bytes))
+
+  -- "a data address odd or its range not in host memory", of one range and of a list's
+  abbrev pub dataMisplaced : ℕ → ℕ → Check
+  dataMisplaced at bytes = check DataMisplaced (InMemory (a .host) at bytes → ⊥) (Dec·not (inMemory? (a .host) at bytes))
+
+  abbrev pub elementMisplaced : ℕ → ℕ → Check
+  elementMisplaced at n = check DataMisplaced (Ranges (a .host) at n → ⊥) (Dec·not (ranges? (a .host) at n))
+
+  -- ---- what is asked, in order
+
+  -- What every command is asked first: a later answer that is for nearly all of them comes in here.
+  abbrev pub firstChecks : List Check
+  firstChecks = commandUnknown ∷ []
+
+  -- What 81, 82, A1 and A2 are asked of the unit, of their sectors, and of the buffer, which may be a list.
+  abbrev pub ofUnit : Move → List Check
+  ofUnit m = notInitialized ∷ volumeAbsent (m .target .volume) ∷ countZero (m .count) ∷ []
+
+  abbrev pub ofSectors : Move → List Check
+  ofSectors m = sectorOutside (m .target) (m .count) ∷ imageShort ∷ []
+
+  abbrev pub beforeBuffer : Move → List Check
+  beforeBuffer m = ofUnit m ++ ofSectors m
+
+  abbrev pub ofBuffer : Buffer → ℕ → List Check
+  ofBuffer (Piece at) bytes = dataMisplaced at bytes ∷ []
+  ofBuffer (Elements at n) bytes = listBad at n bytes ∷ elementMisplaced at n ∷ []
+
+  abbrev pub bytesOf : Move → ℕ
+  bytesOf m = m .count * B (a .unit .geometry)
+
+  -- What each command is asked then.
+  abbrev pub ownChecks : Task → List Check
+  ownChecks Unknown = []
+  ownChecks (Moves m) = beforeBuffer m ++ ofBuffer (m .buffer) (bytesOf m)
+  ownChecks Handshake = []
+  ownChecks (Initialize s) = uibMisplaced s ∷ uibOutsideLimits s ∷ []
+  ownChecks Restore = notInitialized ∷ []
+  ownChecks (Seek t) = notInitialized ∷ volumeAbsent (t .volume) ∷ sectorOutside t 1 ∷ []
+  ownChecks (Format k) = notInitialized ∷ trackOutside k ∷ imageShort ∷ dataMisplaced (k .buffer) (B (a .unit .geometry)) ∷ []
+
+  abbrev pub checks : List Check
+  checks = firstChecks ++ ownChecks (a .task)
+
+-- ---- what is done
+
+-- A number that a check has found: the one of the start, and 0 where there is none, which check 16 refuses.
+abbrev pub found : Number → ℕ
+found (Is n) = n
+found Outside = 0
+
+-- A transfer from a number on.
+abbrev pub jobOf : Move → ℕ → Job
+jobOf m n =
+    record {
+      «to_host» = m .«to_host»;
+      «past_marks» = m .«past_marks»;
+      volume = m .target .volume;
+      first = n;
+      count = m .count;
+      buffer = m .buffer;
+    }
+
+-- What is to be done, of a task that no check refuses. A task that some check always refuses has no plan: what stands for it
+-- here is never asked for.
+abbrev pub planOf : Record → Task → Plan
+planOf u Unknown = Plan.Report
+planOf u (Moves m) = Plan.Move (jobOf m (found (beginsAt u (m .target))))
+planOf u Handshake = Plan.Report
+planOf u (Initialize Misplaced) = Plan.Report
+planOf u (Initialize (Uib g)) = Plan.Initialize g
+-- "89 goes to cylinder 0", "8A goes to the address given"
+planOf u Restore = Plan.Heads 0
+planOf u (Seek t) = Plan.Heads (spotOf u (t .volume) (found (beginsAt u t)) .cylinder)
+planOf u (Format k) = Plan.Format (trackOf u (k .cylinder) (k .head)) (k .buffer)
