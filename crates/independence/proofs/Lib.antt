@@ -2,7 +2,6 @@ pub mod Alike
 pub mod Blocks
 pub mod Demand3
 pub mod Followed
-pub mod Former
 pub mod Meets
 pub mod OneBlock
 pub mod Sources
