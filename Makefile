@@ -1,7 +1,7 @@
 # make run: proves and builds the session program and plays the paper's example. make test: the one test; the witnesses come first, then
-# `rt ci`, whose last line is the verdict; a look at its logs follows in silence. make agree N=..: more worlds. rt waits for each batch of
-# checks to end; a batch of four leaves neither of two cores idle while the longest one ends.
-.PHONY: run test audit agree
+# `rt ci`, whose last line is the verdict; a look at its logs follows in silence. make agree N=..: more worlds. make bench: what a run
+# costs. rt waits for each batch of checks to end; a batch of four leaves neither of two cores idle while the longest one ends.
+.PHONY: run test audit agree bench
 
 N ?= 1000000
 
@@ -22,3 +22,6 @@ audit:
 agree:
 	@sh tools/build library rust
 	@build/rust/release/agree --worlds $(N)
+
+bench:
+	@sh tools/bench
