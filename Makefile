@@ -1,6 +1,6 @@
-# make run: proves and builds the session program and plays the paper's example. make test: the one test; the witnesses come first, then
-# `rt ci`, whose last line is the verdict; a look at its logs follows in silence. make agree N=..: more worlds. make bench: what a run
-# costs. rt waits for each batch of checks to end; a batch of four leaves neither of two cores idle while the longest one ends.
+# make run: proves and builds the session program and plays the paper's example. make test: the one test; the audit, then `rt ci`, then the
+# look at its logs and the witnesses on what it proved, so that no crate but the library abi is proved twice; the last line is the verdict
+# of rt ci, held back until all else is through. make agree N=..: more worlds. make bench: what a run costs.
 .PHONY: run test audit agree bench
 
 N ?= 1000000
@@ -11,9 +11,7 @@ run:
 	@sh tests/c/x86-64.sh run build/bin/session <build/session.bin
 
 test: audit
-	@sh tools/witnesses
-	@RT_JOBS=4 rt ci
-	@sh tools/after-ci
+	@sh tools/gate
 
 audit:
 	@rt version
