@@ -1,80 +1,70 @@
 // The inspection of one sector.
-use crate::bytes::at;
-use crate::bytes::fill;
-use crate::places::both;
-use crate::places::units;
-use crate::show::decimal;
+use crate::drives::record;
 use crate::show::line;
 use crate::show::text;
 use board::Units;
-use request::UnitNumber;
 
-// Which part of which image it is.
-fn where_from(name: &[u8], part: board::Part) {
-    text(name);
-    let unit = part.unit;
-    match unit {
-        UnitNumber::Zero => {
-            text(b": image 0");
-        }
-        UnitNumber::One => {
-            text(b": image 1");
-        }
+// Both units are small drives, the second one initialized or not.
+fn units(one: bool) -> Units {
+    Units {
+        zero: record(true),
+        one: record(one),
     }
-    decimal(b" from byte ", part.at as u64);
-    line(b" length ", part.bytes as u64);
 }
 
-// The part, and the bytes at the two ends of what is lent, where anything is.
+fn end(name: &[u8], byte: u8) {
+    line(name, byte as u64);
+}
+
+// How many bytes are lent, and those at the two ends. Which part of which image they are an inspection through the library tells too.
 fn inspected<'a>(
     name: &[u8],
     image0: &'a [u8],
     image1: &'a [u8],
-    units: Units,
+    one: bool,
     unit: u32,
     place: u64,
 ) {
-    let part = board::part_of(units, image0.len(), image1.len(), unit, place);
-    where_from(name, part);
-    let lent = board::inspect(image0, image1, units, unit, place);
-    line(b"  lent ", lent.len() as u64);
+    let lent = board::inspect(image0, image1, units(one), unit, place);
+    line(name, lent.len() as u64);
     if lent.len() == 64 {
-        line(b"  first byte ", at(lent, 0, 0) as u64);
-        line(b"  last byte ", at(lent, 0, 63) as u64);
+        end(b"  first byte ", lent[0]);
+        end(b"  last byte ", lent[63]);
     }
 }
 
 fn lent<'a>(image0: &'a [u8], image1: &'a [u8]) {
-    inspected(b"unit 0 place 12", image0, image1, both(), 0, 12);
-    inspected(b"unit 1 place 12", image0, image1, both(), 1, 12);
+    inspected(b"unit 0 place 12 lends ", image0, image1, true, 0, 12);
+    inspected(b"unit 1 place 12 lends ", image0, image1, true, 1, 12);
 }
 
 fn refused<'a>(image0: &'a [u8], image1: &'a [u8]) {
-    inspected(b"unit 0 place 120", image0, image1, both(), 0, 120);
-    inspected(b"unit 2 place 12", image0, image1, both(), 2, 12);
+    inspected(b"unit 0 place 120 lends ", image0, image1, true, 0, 120);
+    inspected(b"unit 2 place 12 lends ", image0, image1, true, 2, 12);
     inspected(
-        b"unit 1 not initialized, place 12",
+        b"unit 1 not initialized, place 12 lends ",
         image0,
         image1,
-        units(0),
+        false,
         1,
         12,
     );
 }
 
 fn short<'a>(image1: &'a [u8]) {
-    let image0 = [7u8; 7799];
+    let image0 = [5u8; 7799];
     inspected(
-        b"unit 0 with 7799 bytes, place 12",
+        b"unit 0 with 7799 bytes, place 12 lends ",
         &image0,
         image1,
-        both(),
+        true,
         0,
         12,
     );
 }
 
-// The two images differ in every byte of sector 12, so that the ends of what is lent tell which of them it is.
+// Sector 12 is the bytes 768 to 831. Its ends differ from the bytes around them and from the other image's, so that the ends of what is
+// lent tell which part of which image it is.
 pub(crate) fn inspection() {
     text(b"inspection\n");
     text(b"paper: The sector is handed back as that part of the right unit's image.\n");
@@ -82,11 +72,14 @@ pub(crate) fn inspection() {
         b"paper: Unit over 1, not initialized, place too large or image too short as in 17 give a part of length 0 at the start of unit 0's image.\n",
     );
     text(
-        b"both units are small drives; byte x of image 0 is x mod 251, every byte of image 1 is 7\n",
+        b"both units are small drives; bytes 768 and 831 are 1 and 2 in image 0, 3 and 4 in image 1, and 5 elsewhere\n",
     );
-    let mut image0 = [0u8; 7800];
-    fill(&mut image0, 7680);
-    let image1 = [7u8; 7800];
+    let mut image0 = [5u8; 7800];
+    image0[768] = 1;
+    image0[831] = 2;
+    let mut image1 = [5u8; 7800];
+    image1[768] = 3;
+    image1[831] = 4;
     lent(&image0, &image1);
     refused(&image0, &image1);
     short(&image1);

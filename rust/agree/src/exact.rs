@@ -289,16 +289,34 @@ fn images_and_lists(sheet: &mut Sheet) {
 }
 
 fn two_sector_read(sheet: &mut Sheet) {
-    let case = with_block(300, &logical(0x81, 0, 7, 2, 100));
-    let mut want = unchanged(&case, 0, 0, 1, 2);
-    want.moved(0, 448, 100, 64);
-    want.moved(0, 768, 164, 64);
-    want.records[0][15] = 1;
-    want.ended(1, 0, 0x80, 0x00, 1);
+    let mut case = with_block(300, &logical(0x81, 0, 7, 2, 100));
+    let whole = |case: &Case| {
+        let mut want = unchanged(case, 0, 0, 1, 2);
+        want.moved(0, 448, 100, 64);
+        want.moved(0, 768, 164, 64);
+        want.records[0][15] = 1;
+        want.ended(1, 0, 0x80, 0x00, 1);
+        want
+    };
     sheet.expect(
-        "read of 2 from logical 7, travel 1 from cylinder 0",
+        "read of 2 from logical 7",
         &case,
-        &want,
+        &whole(&case),
+    );
+
+    // One sector, and the heads are on the cylinder of the one that stopped it.
+    case.images[0][MARKS + 12] = 1;
+    let mut want = unchanged(&case, 4, 20, 1, 1);
+    want.moved(0, 448, 100, 64);
+    want.records[0][15] = 1;
+    want.ended(1, 0, 0x82, 0x13, 1);
+    sheet.expect("read of 2 where place 12 is unreadable", &case, &want);
+
+    case.host[1] |= DE;
+    sheet.expect(
+        "read of 2 where place 12 is unreadable, with DE",
+        &case,
+        &whole(&case),
     );
 }
 
@@ -313,11 +331,14 @@ fn own_word_1(sheet: &mut Sheet) {
 }
 
 fn links(sheet: &mut Sheet) {
+    // A restore from cylinder 5: the first of the three has that way to go.
     let mut case = with_block(28, &block(0x89, LK));
+    case.records[0][15] = 5;
     case.allowance = 3;
     let mut want = unchanged(&case, 6, 0, 3, 0);
-    for k in 1..=3 {
-        want.ended(k, 0, 0x80, 0x00, 0);
+    want.records[0] = SMALL_RECORD;
+    for (k, travel) in [(1, -5), (2, 0), (3, 0)] {
+        want.ended(k, 0, 0x80, 0x00, travel);
     }
     sheet.expect("block linked to itself, allowance 3", &case, &want);
 
@@ -695,6 +716,12 @@ fn inspections(sheet: &mut Sheet) {
         &case,
         &want,
     );
+
+    case.records[1] = [0; 16];
+    case.inspections = vec![own(0, 12), own(1, 12)];
+    let mut want = unchanged(&case, 2, 0, 0, 0);
+    want.parts = vec![sector(0, 768), nothing];
+    sheet.expect("inspection of a unit not initialized", &case, &want);
 
     // The largest drive there is, as numbers alone.
     let most = Geometry {

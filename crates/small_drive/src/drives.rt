@@ -2,7 +2,6 @@
 use crate::show::decimal;
 use crate::show::line;
 use crate::show::text;
-use board::Units;
 use geometry::Geometry;
 use geometry::Sector;
 use geometry::Volume;
@@ -15,39 +14,9 @@ fn small() -> Geometry {
     Geometry::new(10, 4, 64, Volume::new(0, 2), Volume::new(2, 1))
 }
 
-// The small drive with its heads on a cylinder.
-fn ready(cylinder: u16) -> Record {
-    Record::new(true, small(), cylinder)
-}
-
-// A unit that nothing has initialized. Its geometry is none, so that whatever works after an initialize works by the UIB.
-fn blank() -> Record {
-    let none = Volume::new(0, 0);
-    Record::new(false, Geometry::new(0, 0, 0, none, none), 0)
-}
-
-// Unit 0 is the small drive; unit 1 is not initialized.
-pub(crate) fn units(cylinder: u16) -> Units {
-    Units {
-        zero: ready(cylinder),
-        one: blank(),
-    }
-}
-
-// Both units are small drives.
-pub(crate) fn both() -> Units {
-    Units {
-        zero: ready(0),
-        one: ready(0),
-    }
-}
-
-// Nothing has initialized either unit.
-pub(crate) fn neither() -> Units {
-    Units {
-        zero: blank(),
-        one: blank(),
-    }
+// The record of the small drive, initialized or not.
+pub(crate) fn record(initialized: bool) -> Record {
+    Record::new(initialized, small(), 0)
 }
 
 fn byte(place: u64) {
@@ -64,7 +33,7 @@ fn byte(place: u64) {
 
 fn landing(name: &[u8], volume: VolumeNumber, number: u64) {
     decimal(name, number);
-    let unit = ready(0);
+    let unit = record(true);
     match unit.land(volume, number) {
         Landing::At(spot) => {
             line(b" place ", spot.place);
