@@ -298,11 +298,7 @@ fn two_sector_read(sheet: &mut Sheet) {
         want.ended(1, 0, 0x80, 0x00, 1);
         want
     };
-    sheet.expect(
-        "read of 2 from logical 7",
-        &case,
-        &whole(&case),
-    );
+    sheet.expect("read of 2 from logical 7", &case, &whole(&case));
 
     // One sector, and the heads are on the cylinder of the one that stopped it.
     case.images[0][MARKS + 12] = 1;
