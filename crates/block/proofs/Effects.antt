@@ -1,10 +1,9 @@
--- The stores of a block in their segments: 81 00 in word 1, what comes between, and the finish.
--- Bytes stored in a row are written into one buffer; segments follow one another.
+-- The stores of a block in their movements: what performing stores, and then the finish.
+-- Bytes stored in a row are written into one buffer; rows follow one another.
 use Prim.Native.Nat.{ℕ, _+_, _*_}
 use mathlib.Core.List.{List, [], _∷_, _++_}
 use mathlib.Core.Path.{_≡_, sym, ap, _∙_}
 use lib.IntN.{ℤ}
-use lib.ListN.{length}
 use Rattle.answers.specs.declared.BlockAnswer.{BlockAnswer}
 use Rattle.answers.specs.Numbers.{statusOf}
 use Rattle.judge.specs.declared.Verdict.{Verdict}
@@ -16,7 +15,7 @@ use Rattle.iopb.specs.Errors.{errorByte}
 use Rattle.transfer.specs.Stores.{Buffers, Store, after, bytesFrom, eventByte, hostByte}
 use Rattle.transfer.proofs.Stays.{event-bytes-stored, host-bytes-stored}
 use Rattle.transfer.proofs.Stores.{after-append}
-use Rattle.block.specs.Block.{effectOn, finish, judged, staged}
+use Rattle.block.specs.Block.{asking, effectOn, finish, finished, judged}
 use Rattle.block.specs.Events.{entry}
 use Rattle.block.specs.Steps.{three, written}
 use Rattle.block.specs.World.{Drive}
@@ -35,11 +34,11 @@ events-written ns host image events at = event-bytes-stored ns at (three host im
 
 module _ (b : Block) (at i : ℕ) (answer : BlockAnswer) (travel : ℤ) where
   -- The finish writes word 1 and the event entry.
-  pub finished :
+  pub finish-leaves :
       (host image events : List ℕ) →
       after (finish b at i answer travel) (three host image events) ≡
       three (written host (at + 2) (statusOf answer ∷ errorByte answer ∷ [])) image (written events (8 * i) (entry b answer travel))
-  finished host image events =
+  finish-leaves host image events =
       after-append (bytesFrom hostByte (at + 2) (statusOf answer ∷ errorByte answer ∷ []))
       (bytesFrom eventByte (8 * i) (entry b answer travel))
       (three host image events)
@@ -53,29 +52,16 @@ module _ (b : Block) (at i : ℕ) (answer : BlockAnswer) (travel : ℤ) where
       host′ ≡ written host (at + 2) (statusOf answer ∷ errorByte answer ∷ []) →
       events′ ≡ written events (8 * i) (entry b answer travel) →
       three host′ image events′ ≡ after (finish b at i answer travel) (three host image events)
-  finish-made host image events host′ events′ h e = (λ t. three (h t) image (e t)) ∙ sym (finished host image events)
-
-  -- The stages of an accepted block: 81 00, what comes between, the finish.
-  pub stages-made :
-      (between : List Store) (host image events : List ℕ) (m m′ : Buffers) →
-      after between (three (written host (at + 2) (0x81 ∷ 0x00 ∷ [])) image events) ≡ m →
-      m′ ≡ after (finish b at i answer travel) m →
-      m′ ≡ after (staged b at i between answer travel) (three host image events)
-  stages-made between host image events m m′ is done =
-      let begin = bytesFrom hostByte (at + 2) (0x81 ∷ 0x00 ∷ []) in
-      done
-      ∙ sym
-      (after-append (begin ++ between) (finish b at i answer travel) (three host image events)
-      ∙ ap (λ (x : Buffers). after (finish b at i answer travel) x)
-      (after-append begin between (three host image events)
-      ∙ ap (λ (x : Buffers). after between x) (host-written (0x81 ∷ 0x00 ∷ []) host image events (at + 2))
-      ∙ is))
+  finish-made host image events host′ events′ h e = (λ t. three (h t) image (e t)) ∙ sym (finish-leaves host image events)
 
 -- The effect of a block whose verdict is known.
 pub effect-judged :
-    (host : List ℕ) (d : Drive) (at i : ℕ) (b : Block) (v : Verdict) → b ≡ blockAt host at →
-    verdict (record { task = taskOf host b; unit = d .unit; image = length (d .image); host = host }) ≡ v →
-    effectOn host d at i ≡ judged b at i host d v
+    (host : List ℕ) (d : Drive) (at i : ℕ) (b : Block) (v : Verdict) → b ≡ blockAt host at → verdict (asking (taskOf host b) d host) ≡ v →
+    effectOn host d at i ≡ finished b at i (judged host d at v)
 unfolding effectOn
-effect-judged host d at i b v is judgement =
-    rw (← judgement, is)
+effect-judged host d at i b v is judgement = rw (← judgement, is)
+
+-- Two rows of stores, made one after the other.
+pub then-made :
+    (ss ts : List Store) (m m′ m″ : Buffers) → m′ ≡ after ss m → m″ ≡ after ts m′ → m″ ≡ after (ss ++ ts) m
+then-made ss ts m m′ m″ one two = two ∙ ap (λ (x : Buffers). after ts x) one ∙ sym (after-append ss ts m)

@@ -1,7 +1,7 @@
--- The pieces of a buffer that was let through: they fit, and byte k of them is byte k of the block's data.
+-- The pieces of a job that fits: they fit too, and byte k of them is byte k of the block's data.
 -- One piece is a list of one; a list's pieces are its elements, as they were copied out.
 use Prim.Native.Nat.{ℕ, zero, suc, _+_, _*_, _≤_, _<_}
-use mathlib.Core.List.{List, [], _∷_}
+use mathlib.Core.List.{List, [], _∷_, _++_}
 use mathlib.Core.Logic.{if-pos}
 use mathlib.Core.Path.{_≡_, refl, sym, ap, _∙_}
 use native.Mathlib.Nat.{mul-le-mul-right, zero-add}
@@ -10,53 +10,55 @@ use lib.ListN.{getD, length, take}
 use lib.Seq.{getD-take, length-take-le}
 use Rattle.wire.specs.Memory.{InMemory}
 use Rattle.geometry.specs.Drive.{B}
-use Rattle.iopb.specs.declared.Block.{Block}
 use Rattle.memory.specs.Lists.{ListGood, Ranges, elementOf, total}
 use Rattle.memory.specs.Pieces.{addressesOf, filled, lengthsOf, piecesOf}
 use Rattle.memory.specs.Readable.{listPlace?}
 use Rattle.memory.proofs.Slots.{address-slot, addresses-long, length-slot, lengths-long}
-use Rattle.iopb.specs.Ask.{taskOf}
 use Rattle.judge.specs.declared.Job.{Job}
-use Rattle.judge.specs.declared.Plan.{Plan}
-use Rattle.judge.proofs.LetThrough.{MoveAccepted, format-let-through, move-let-through}
+use Rattle.judge.specs.declared.Moving.{Moving}
+use Rattle.judge.specs.Fits.{JobGood, TrackGood}
 use Rattle.request.specs.declared.Buffer.{Buffer}
 use Rattle.unit.specs.declared.Record.{Record}
 use Rattle.unit.specs.declared.Spot.{Spot}
-use Rattle.unit.specs.Landing.{spotOf}
-use Rattle.transfer.specs.Data.{dataOn, moveAt, progressOn}
+use Rattle.transfer.specs.declared.Moved.{Moved}
+use Rattle.transfer.specs.Data.{Transfer, dataOn, moveAt, progressOn}
 use Rattle.transfer.specs.Pieces.{joined, sum}
-use Rattle.transfer.specs.Progress.{fateAt, lastTried}
+use Rattle.transfer.specs.Progress.{fateAt}
 use Rattle.transfer.specs.Data.{placeFrom}
 use Rattle.transfer.specs.Runs.{PiecesFit, pieceByte}
-use Rattle.transfer.specs.Stores.{Store}
+use Rattle.transfer.specs.Stores.{Store, after}
 use Rattle.transfer.proofs.Joined.{joined-one, joined-same, sum-same}
 use Rattle.transfer.proofs.Progress.{progress-most}
 use Rattle.transfer.proofs.Stores.{upTo-same}
 use Rattle.transfer.specs.Whole.{SectorsFit, TrackFits}
-use Rattle.block.specs.Steps.{LetThrough, spanOf}
-use Rattle.block.specs.Block.{dataByte, headed, moved, transferOf}
+use Rattle.block.specs.Block.{begun, dataByte, transferWith}
+use Rattle.block.specs.Steps.{Made, three}
 
--- Two ways to say where the data lies that agree on all bytes of the job are one effect.
-module _ (image : List ℕ) (u : Record) (j : Job) (f g : ℕ → ℕ) (same : (k : ℕ) → k < j .count * B (u .geometry) → f k ≡ g k) where
-  come : progressOn image (transferOf u j f) .sectors ≤ j .count
+-- Two ways to say where the data of a job lies that agree on all its bytes are one transfer.
+module _ (image : List ℕ) (u : Record) (j : Job) (f g : ℕ → ℕ) (same : (k : ℕ) → k < j .span .count * B (u .geometry) → f k ≡ g k) where
+  abbrev with : (ℕ → ℕ) → Transfer
+  with h = transferWith u (Moving.Sectors j) h
+
+  come : progressOn image (with f) .sectors ≤ j .span .count
   come =
       rw zero-add at
-      (progress-most (λ x. fateAt image (u .geometry) (transferOf u j f .heeds) (placeFrom u (j .volume) (j .first) x)) 0 (j .count))
+      (progress-most (λ x. fateAt image (u .geometry) (with f .heeds) (placeFrom u (j .span .volume) (j .span .first) x)) 0 (j .span .count))
 
-  data-same : dataOn image (transferOf u j f) ≡ dataOn image (transferOf u j g)
+  pub data-same : dataOn image (with f) ≡ dataOn image (with g)
   unfolding dataOn
   data-same =
-      upTo-same (progressOn image (transferOf u j f) .sectors * B (u .geometry)) _ _
+      upTo-same (progressOn image (with f) .sectors * B (u .geometry)) _ _
       (λ k h.
-      ap (λ (x : ℕ). moveAt (transferOf u j (λ y. x)) k)
+      ap (λ (x : ℕ). moveAt (with (λ y. x)) k)
       (same k (omega (arith, h, mul-le-mul-right (B (u .geometry)) come))))
 
-  pub moved-same : (b : Block) (at i : ℕ) → moved b at i image u j f ≡ moved b at i image u j g
-  moved-same b at i =
-      ap (λ (between : List Store).
-      let p = progressOn image (transferOf u j f) in
-      headed b at i between (p .answer) u (spotOf u (j .volume) (j .first + lastTried (p .sectors) (j .count)) .cylinder) (p .sectors))
-      data-same
+  pub made-same :
+      (at : ℕ) (host host′ image′ : List ℕ) (m : Moved) → Made (with f) at host image host′ image′ m → Made (with g) at host image host′ image′ m
+  made-same at host host′ image′ m made =
+      record {
+        result = made .result;
+        stored = λ events. made .stored events ∙ ap (λ (ss : List Store). after (begun at ++ ss) (three host image events)) data-same;
+      }
 
 -- ---- one piece
 
@@ -121,38 +123,34 @@ module _ (host : List ℕ) (at n bytes : ℕ) (good : ListGood host at n bytes) 
       ap (λ (x : ℕ). joined (λ i. getD lengths i 0) (λ i. getD addresses i 0) x 0 k) many
       ∙ joined-same _ _ _ _ n 0 k (λ t h. rw zero-add (slots t h))
 
--- ---- a job that was let through
+-- ---- a job that fits
 
-module _ (host image : List ℕ) (u : Record) (b : Block) (j : Job) (through : LetThrough host image u b (Plan.Move j)) where
-  known : MoveAccepted (record { task = taskOf host b; unit = u; image = length image; host = host }) j
-  known = move-let-through (record { task = taskOf host b; unit = u; image = length image; host = host }) j through
-
-  fits-with : (lengths addresses : List ℕ) → PiecesFit (length host) (j .count * B (u .geometry)) lengths addresses → SectorsFit u (spanOf j) lengths addresses (length host)
-  fits-with lengths addresses pieces = record { some = known .some; inside = known .sectors; pieces = pieces }
+module _ (host image : List ℕ) (u : Record) (j : Job) (good : JobGood u (length image) host j) where
+  fits-with :
+      (lengths addresses : List ℕ) → PiecesFit (length host) (j .span .count * B (u .geometry)) lengths addresses →
+      SectorsFit u (j .span) lengths addresses (length host)
+  fits-with lengths addresses pieces = record { some = good .span .some; inside = good .span .inside; pieces = pieces }
 
   pub piece-fits :
-      (at : ℕ) → j .buffer ≡ Buffer.Piece at → SectorsFit u (spanOf j) (j .count * B (u .geometry) ∷ []) (at ∷ []) (length host)
-  piece-fits at is = fits-with _ _ (one-piece-fits host at (j .count * B (u .geometry)) (rw is at (known .buffer)))
+      (at : ℕ) → j .buffer ≡ Buffer.Piece at → SectorsFit u (j .span) (j .span .count * B (u .geometry) ∷ []) (at ∷ []) (length host)
+  piece-fits at is = fits-with _ _ (one-piece-fits host at (j .span .count * B (u .geometry)) (rw is at (good .buffer)))
 
   module _ (at n : ℕ) (is : j .buffer ≡ Buffer.List at n) where
-    pub list-good : ListGood host at n (j .count * B (u .geometry))
-    list-good = (rw is at (known .buffer)) .0
+    pub list-good : ListGood host at n (j .span .count * B (u .geometry))
+    list-good = (rw is at (good .buffer)) .0
 
     -- The elements are copied out as they stand.
     pub copied-out : piecesOf host at n ≡ filled host at n
     unfolding piecesOf
     copied-out = if-pos (listPlace? host at n) (record { most = list-good .most; place = list-good .place }) _ _
 
-    pub elements-fit : SectorsFit u (spanOf j) (take n (lengthsOf host at n)) (take n (addressesOf host at n)) (length host)
-    elements-fit = fits-with _ _ (list-fits host at n (j .count * B (u .geometry)) list-good ((rw is at (known .buffer)) .1))
+    pub elements-fit : SectorsFit u (j .span) (take n (lengthsOf host at n)) (take n (addressesOf host at n)) (length host)
+    elements-fit = fits-with _ _ (list-fits host at n (j .span .count * B (u .geometry)) list-good ((rw is at (good .buffer)) .1))
 
     pub slots-enough : (n ≤ length (lengthsOf host at n)) × (n ≤ length (addressesOf host at n))
     slots-enough = (omega (arith, list-good .most, lengths-long host at n), omega (arith, list-good .most, addresses-long host at n))
 
--- A format that was let through.
-pub track-let-through :
-    (host image : List ℕ) (u : Record) (b : Block) (spot : Spot) (at : ℕ) →
-    LetThrough host image u b (Plan.Format spot at) → TrackFits u spot at (length host)
-track-let-through host image u b spot at through =
-    let known = format-let-through (record { task = taskOf host b; unit = u; image = length image; host = host }) spot at through in
-    record { some = known .initialized .within .sizes .sectors .0; inside = known .track; memory = known .buffer .inside }
+-- A track that fits.
+pub track-fits :
+    (host : List ℕ) (image : ℕ) (u : Record) (spot : Spot) (at : ℕ) → TrackGood u image host spot at → TrackFits u spot at (length host)
+track-fits host image u spot at good = record { some = good .some; inside = good .track; memory = good .buffer .inside }

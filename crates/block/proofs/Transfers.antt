@@ -1,22 +1,20 @@
 -- A block that makes a transfer: its data leave the event buffer alone, so they are what the transfer says of host and image.
--- Marked before and finished after, that is the block's effect.
+-- The 81 00 comes before.
 use Prim.Native.Nat.{ℕ, zero, suc, _+_}
 use mathlib.Core.Bool.{Bool, true, false}
-use mathlib.Core.List.{List, [], _∷_}
+use mathlib.Core.List.{List, [], _∷_, _++_}
 use mathlib.Core.Path.{_≡_, refl, sym, ap, _∙_}
-use Rattle.iopb.specs.declared.Block.{Block}
-use Rattle.transfer.specs.declared.Moved.{Moved}
-use Rattle.transfer.specs.Data.{Transfer, dataOn, move, progressOn}
+use native.Mathlib.Nat.{zero-mul}
+use Rattle.transfer.specs.Data.{Transfer, dataOn, move}
+use Rattle.transfer.specs.Progress.{progress}
 use Rattle.transfer.specs.Runs.{lent}
 use Rattle.transfer.specs.Stores.{Buffers, Store, after, upTo}
-use Rattle.transfer.specs.Whole.{movedOn}
 use Rattle.transfer.proofs.Stores.{after-more}
 use Rattle.unit.specs.declared.Record.{Record}
-use Rattle.block.specs.declared.Done.{Done}
-use Rattle.block.specs.Block.{finish, transferred}
-use Rattle.block.specs.Events.{travelTo}
-use Rattle.block.specs.Steps.{Did, concluded, three, written}
-use Rattle.block.proofs.Effects.{stages-made}
+use Rattle.judge.specs.declared.Moving.{Moving}
+use Rattle.block.specs.Block.{begun, transferWith}
+use Rattle.block.specs.Steps.{Stores, three, written}
+use Rattle.block.proofs.Effects.{host-written, then-made}
 
 abbrev beside : Buffers → List ℕ → Buffers
 beside m events = three (m .host) (m .image) events
@@ -45,18 +43,20 @@ unfolding dataOn
 data-made t of host image events host′ image′ is =
     moves-beside _ (t .to-host) _ _ host image events ∙ ap (λ (m : Buffers). beside m events) (sym is)
 
-pub transfer-made :
-    (b : Block) (at i : ℕ) (u : Record) (t : Transfer) (cylinder : ℕ) (host image events host′ image′ : List ℕ) (m : Moved) (after-it : Buffers) (d : Done) →
-    m ≡ movedOn image t cylinder →
+-- A transfer that was made on a block's marked memory: 81 00 and then its data, whatever the event buffer holds.
+pub begun-made :
+    (t : Transfer) (at : ℕ) (host image host′ image′ : List ℕ) →
     lent host′ image′ ≡ after (dataOn image t) (lent (written host (at + 2) (0x81 ∷ 0x00 ∷ [])) image) →
-    d ≡ concluded u m →
-    after-it ≡ after (finish b at i (m .answer) (travelTo (u .cylinder) (m .cylinder))) (three host′ image′ events) →
-    Did (transferred b at i image u t cylinder) (three host image events) after-it d
-transfer-made b at i u t cylinder host image events host′ image′ m after-it d moved bytes result done =
-    record {
-      result = result ∙ ap (λ (x : Moved). concluded u x) moved;
-      stored =
-          stages-made b at i (progressOn image t .answer) (travelTo (u .cylinder) cylinder) (dataOn image t) host image events _ after-it
-          (data-made t image (written host (at + 2) (0x81 ∷ 0x00 ∷ [])) image events host′ image′ bytes)
-          (rw moved at done);
-    }
+    Stores (begun at ++ dataOn image t) host image host′ image′
+begun-made t at host image host′ image′ is events =
+    then-made (begun at) (dataOn image t) (three host image events) _ _ (sym (host-written (0x81 ∷ 0x00 ∷ []) host image events (at + 2)))
+    (sym (data-made t image (written host (at + 2) (0x81 ∷ 0x00 ∷ [])) image events host′ image′ is))
+
+-- One of no sectors stores no data.
+pub nothing-made :
+    (u : Record) (at : ℕ) (host image : List ℕ) (data-byte : ℕ → ℕ) →
+    Stores (begun at ++ dataOn image (transferWith u Moving.Nothing data-byte)) host image (written host (at + 2) (0x81 ∷ 0x00 ∷ [])) image
+unfolding after dataOn progress upTo
+nothing-made u at host image data-byte events =
+    then-made (begun at) (dataOn image (transferWith u Moving.Nothing data-byte)) (three host image events) _ _
+    (sym (host-written (0x81 ∷ 0x00 ∷ []) host image events (at + 2))) (rw zero-mul refl)

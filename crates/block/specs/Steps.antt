@@ -1,22 +1,19 @@
 -- What the functions of one block promise, between the code and the definitions of Block.
 use Prim.Native.Nat.{ℕ, _+_, _*_, _≤_}
-use mathlib.Core.List.{List}
+use mathlib.Core.List.{List, _++_}
 use mathlib.Core.Path.{_≡_}
 use lib.ListN.{length}
 use lib.Seq.{sets}
-use Rattle.iopb.specs.declared.Block.{Block}
-use Rattle.iopb.specs.Ask.{taskOf}
-use Rattle.judge.specs.declared.Job.{Job}
-use Rattle.judge.specs.declared.Plan.{Plan}
-use Rattle.judge.specs.declared.Verdict.{Verdict}
-use Rattle.judge.specs.Verdict.{verdict}
+use Rattle.judge.specs.declared.Moving.{Moving}
+use Rattle.judge.specs.declared.Moving.the-variants.{Nothing, Sectors, Track}
 use Rattle.transfer.specs.declared.Moved.{Moved}
-use Rattle.transfer.specs.declared.Span.{Span}
-use Rattle.transfer.specs.Stores.{Buffers, after}
+use Rattle.transfer.specs.Data.{Transfer, dataOn}
+use Rattle.transfer.specs.Stores.{Buffers, Store, after}
+use Rattle.transfer.specs.Whole.{SectorsFit, TrackFits, movedOn}
 use Rattle.unit.specs.declared.Record.{Record}
-use Rattle.unit.specs.Standing.{recordOf}
 use Rattle.block.specs.declared.Done.{Done}
-use Rattle.block.specs.Block.{Effect}
+use Rattle.block.specs.declared.Performed.{Performed}
+use Rattle.block.specs.Block.{Effect, Performance, begun}
 use Rattle.block.specs.World.{Drive}
 
 -- Bytes once some numbers are stored in them one after the other, from an index on.
@@ -35,6 +32,29 @@ pub record Room (host events : List ℕ) (at i : ℕ) : Type 0 where
 abbrev pub driveWith : Record → List ℕ → Drive
 driveWith u image = record { unit = u; image = image }
 
+-- Some stores were made on host memory and an image, whatever the event buffer beside them holds.
+abbrev pub Stores : List Store → (host image host′ image′ : List ℕ) → Type 0
+Stores ss host image host′ image′ = (events : List ℕ) → three host′ image′ events ≡ after ss (three host image events)
+
+-- What is to be moved fits, to or from these pieces.
+abbrev pub Ready : Record → Moving → (lengths addresses : List ℕ) → ℕ → Type 0
+Ready u Nothing lengths addresses long = Unit {0}
+Ready u (Sectors j) lengths addresses long = SectorsFit u (j .span) lengths addresses long
+Ready u (Track spot at) lengths addresses long = TrackFits u spot at long
+
+-- A block was marked as running and a transfer made: what it came to, and every byte.
+pub record Made (t : Transfer) (at : ℕ) (host image host′ image′ : List ℕ) (m : Moved) : Type 0 where
+  pub result : m ≡ movedOn image t
+  pub stored : Stores (begun at ++ dataOn image t) host image host′ image′
+
+-- A block was performed.
+abbrev pub performedOf : Performance → Performed
+performedOf p = record { unit = p .unit; answer = p .answer; sectors = p .sectors; travel = p .travel }
+
+pub record Performs (p : Performance) (host image host′ image′ : List ℕ) (d : Performed) : Type 0 where
+  pub result : d ≡ performedOf p
+  pub stored : Stores (p .stores) host image host′ image′
+
 abbrev pub doneOf : Effect → Done
 doneOf e = record { unit = e .unit; answer = e .answer; sectors = e .sectors }
 
@@ -42,17 +62,3 @@ doneOf e = record { unit = e .unit; answer = e .answer; sectors = e .sectors }
 pub record Did (e : Effect) (m m′ : Buffers) (d : Done) : Type 0 where
   pub result : d ≡ doneOf e
   pub stored : m′ ≡ after (e .stores) m
-
--- What a transfer leaves: the heads on its cylinder.
-abbrev pub concluded : Record → Moved → Done
-concluded u m =
-    record { unit = recordOf (u .initialized) (u .geometry) (m .cylinder); answer = m .answer; sectors = m .sectors }
-
--- The sectors of a job.
-abbrev pub spanOf : Job → Span
-spanOf j = record { volume = j .volume; first = j .first; count = j .count }
-
--- The judgement let the block through, with what is to be done.
-abbrev pub LetThrough : List ℕ → List ℕ → Record → Block → Plan → Type 0
-LetThrough host image u b plan =
-    verdict (record { task = taskOf host b; unit = u; image = length image; host = host }) ≡ Verdict.Do plan

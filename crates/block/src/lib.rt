@@ -1,39 +1,41 @@
-// One block: judged, marked as running, carried out, and finished with its status and its event entry.
+// One block in three movements: it is judged, performed, and finished with its status and its event entry.
 // It works on the record and the image of the unit that the block names, whichever that is, and on host memory and the event buffer.
 // It follows no link and counts no blocks: which block comes next is the chain's.
 use answers::BlockAnswer;
 use answers::Refusal;
 use events::put_event;
 use events::travel;
-use geometry::Geometry;
 use iopb::Block;
 use judge::Job;
+use judge::Leaving;
+use judge::Moving;
 use judge::Plan;
+use judge::Report;
 use judge::Standing;
 use judge::Verdict;
 use request::Buffer;
+use request::Request;
 use transfer::Moved;
-use transfer::Span;
+use unit::Landing;
 use unit::Record;
-use unit::Spot;
-ghost use mathlib.Core.List.{[], _∷_};
+use unit::Span;
+ghost use mathlib.Core.List.{List, [], _∷_};
 ghost use mathlib.Core.Path.{_≡_};
-ghost use Prim.Native.Nat.{_+_, _*_, _≤_};
+ghost use Prim.Native.Nat.{ℕ, _+_, _*_, _≤_, _<_, min};
 ghost use lib.ListN.{length};
-ghost use Rattle.answers.specs.Numbers.{statusOf};
-ghost use Rattle.answers.specs.declared.BlockAnswer.{BlockAnswer};
-ghost use Rattle.iopb.specs.Errors.{errorByte};
+ghost use Rattle.iopb.specs.Ask.{requestOf};
 ghost use Rattle.iopb.specs.Identity.{identityBytes};
 ghost use Rattle.iopb.specs.Layout.{blockAt};
 ghost use Rattle.geometry.specs.Drive.{B};
-ghost use Rattle.judge.specs.declared.Plan.{Plan};
+ghost use Rattle.judge.specs.declared.Moving.{Moving};
+ghost use Rattle.judge.specs.Fits.{JobGood, LeavingFits, MovingFits, PlanFits, SpanGood};
 ghost use Rattle.request.specs.declared.Buffer.{Buffer};
-ghost use Rattle.block.specs.Block.{dataByte, effectOn, finish, formatted, headed, initialized, moved, performed, refused, reported};
-ghost use Rattle.block.specs.Events.{entry, travelTo};
-ghost use Rattle.block.specs.Steps.{Did, LetThrough, Room, concluded, driveWith, spanOf, three, written};
+ghost use Rattle.block.specs.Block.{effectOn, finish, leftBy, performed, refused, transferOf, transferWith, travelled, wordsOf};
+ghost use Rattle.block.specs.Steps.{Did, Made, Performs, Ready, Room, Stores, driveWith, performedOf, three, written};
+ghost use Rattle.transfer.specs.Progress.{lastTried};
 ghost use Rattle.transfer.specs.Runs.{pieceByte};
 ghost use Rattle.transfer.specs.Stores.{after};
-ghost use Rattle.transfer.specs.Whole.{SectorsFit, TrackFits};
+ghost use Rattle.unit.specs.Landing.{spotOf};
 
 mod events;
 
@@ -42,6 +44,14 @@ pub struct Done {
     pub unit: Record,
     pub answer: BlockAnswer,
     pub sectors: u16,
+}
+
+// What performing a block came to: what it leaves of the record, and what is left to be told of it.
+struct Performed {
+    unit: Record,
+    answer: BlockAnswer,
+    sectors: u16,
+    travel: i32,
 }
 
 // Word 1 of the block at an address.
@@ -62,297 +72,133 @@ fn put_identity(host: &mut [u8], at: usize)
     wire::copy(&words, 0, host, at + 4, 12);
 }
 
-// The final status and error, and the event entry.
-fn finish(
-    host: &mut [u8],
-    events: &mut [u8],
-    b: Block,
-    at: usize,
-    i: usize,
-    answer: BlockAnswer,
-    travel: i32,
-)
-    requires { ⌜ Room (now host) (now events) at i ⌝ }
-    ensures block { λ _. ⌜ now (host .exit) ≡ written (now (host .entry)) (at + 2) (statusOf answer ∷ errorByte answer ∷ []) ⌝ }
-    ensures entry { λ _. ⌜ now (events .exit) ≡ written (now (events .entry)) (8 * i) (entry b answer travel) ⌝ }
+// The words that a block reports.
+fn put_report(host: &mut [u8], at: usize, report: Report)
+    requires { ⌜ at + 28 ≤ length (now host) ⌝ }
+    ensures { λ _. ⌜ now (host .exit) ≡ written (now (host .entry)) (at + wordsOf report .from) (wordsOf report .bytes) ⌝ }
 {
-    put_status(host, at, answer.status(), iopb::error_byte(answer));
-    put_event(events, i, b, answer, travel);
-}
-
-// A block that is refused before a transfer.
-fn refuse(
-    host: &mut [u8],
-    image: &mut [u8],
-    events: &mut [u8],
-    u: Record,
-    b: Block,
-    at: usize,
-    i: usize,
-    r: Refusal,
-) -> Done
-    requires { ⌜ Room (now host) (now events) at i ⌝ }
-    ensures { λ d. ⌜ Did (refused b at i u r) (three (now (host .entry)) (now (image .entry)) (now (events .entry))) (three (now (host .exit)) (now (image .exit)) (now (events .exit))) d ⌝ }
-{
-    let answer = BlockAnswer::Failed(r);
-    finish(host, events, b, at, i, answer, 0);
-    Done {
-        unit: u,
-        answer,
-        sectors: 0,
+    match report {
+        Report::Nothing => {}
+        Report::Identity => put_identity(host, at),
     }
 }
 
-// A block that only moves the heads.
-fn heads(
+// Marks the block as running, and moves what is to be moved, to or from pieces that were found before: the block's own status word may
+// lie under its list.
+fn begin(
     host: &mut [u8],
     image: &mut [u8],
-    events: &mut [u8],
     u: Record,
-    b: Block,
     at: usize,
-    i: usize,
-    cylinder: u16,
-) -> Done
-    requires { ⌜ Room (now host) (now events) at i ⌝ }
-    ensures { λ d. ⌜ Did (headed b at i [] BlockAnswer.Ended u cylinder 0) (three (now (host .entry)) (now (image .entry)) (now (events .entry))) (three (now (host .exit)) (now (image .exit)) (now (events .exit))) d ⌝ }
-{
-    put_status(host, at, 0x81, 0x00);
-    finish(
-        host,
-        events,
-        b,
-        at,
-        i,
-        BlockAnswer::Ended,
-        travel(u.cylinder(), cylinder),
-    );
-    Done {
-        unit: u.moved_to(cylinder),
-        answer: BlockAnswer::Ended,
-        sectors: 0,
-    }
-}
-
-// A handshake: the block's words 2 to 7 say what the board is.
-fn report(
-    host: &mut [u8],
-    image: &mut [u8],
-    events: &mut [u8],
-    u: Record,
-    b: Block,
-    at: usize,
-    i: usize,
-) -> Done
-    requires { ⌜ Room (now host) (now events) at i ⌝ }
-    ensures { λ d. ⌜ Did (reported b at i u) (three (now (host .entry)) (now (image .entry)) (now (events .entry))) (three (now (host .exit)) (now (image .exit)) (now (events .exit))) d ⌝ }
-{
-    put_status(host, at, 0x81, 0x00);
-    put_identity(host, at);
-    finish(host, events, b, at, i, BlockAnswer::Ended, 0);
-    Done {
-        unit: u,
-        answer: BlockAnswer::Ended,
-        sectors: 0,
-    }
-}
-
-// An initialize: the record is a new one.
-fn initialize(
-    host: &mut [u8],
-    image: &mut [u8],
-    events: &mut [u8],
-    u: Record,
-    b: Block,
-    at: usize,
-    i: usize,
-    g: Geometry,
-) -> Done
-    requires { ⌜ Room (now host) (now events) at i ⌝ }
-    ensures { λ d. ⌜ Did (initialized b at i g) (three (now (host .entry)) (now (image .entry)) (now (events .entry))) (three (now (host .exit)) (now (image .exit)) (now (events .exit))) d ⌝ }
-{
-    put_status(host, at, 0x81, 0x00);
-    finish(host, events, b, at, i, BlockAnswer::Ended, 0);
-    Done {
-        unit: Record::new(true, g, 0),
-        answer: BlockAnswer::Ended,
-        sectors: 0,
-    }
-}
-
-// What is left of a transfer once its bytes are moved.
-fn conclude(
-    host: &mut [u8],
-    image: &mut [u8],
-    events: &mut [u8],
-    u: Record,
-    b: Block,
-    at: usize,
-    i: usize,
-    m: Moved,
-) -> Done
-    requires { ⌜ Room (now host) (now events) at i ⌝ }
-    ensures result { λ d. ⌜ d ≡ concluded u m ⌝ }
-    ensures stored { λ _. ⌜ three (now (host .exit)) (now (image .exit)) (now (events .exit)) ≡ after (finish b at i (m .answer) (travelTo (u .cylinder) (m .cylinder))) (three (now (host .entry)) (now (image .entry)) (now (events .entry))) ⌝ }
-{
-    let answer = m.answer;
-    finish(
-        host,
-        events,
-        b,
-        at,
-        i,
-        answer,
-        travel(u.cylinder(), m.cylinder),
-    );
-    Done {
-        unit: u.moved_to(m.cylinder),
-        answer,
-        sectors: m.sectors,
-    }
-}
-
-// A format: the block is marked, the track filled, the block finished.
-fn format(
-    host: &mut [u8],
-    image: &mut [u8],
-    events: &mut [u8],
-    u: Record,
-    b: Block,
-    at: usize,
-    i: usize,
-    spot: Spot,
-    buffer: u32,
-) -> Done
-    requires { ⌜ Room (now host) (now events) at i × TrackFits u spot buffer (length (now host)) ⌝ }
-    ensures { λ d. ⌜ Did (formatted b at i (now (image .entry)) u spot buffer) (three (now (host .entry)) (now (image .entry)) (now (events .entry))) (three (now (host .exit)) (now (image .exit)) (now (events .exit))) d ⌝ }
-{
-    put_status(host, at, 0x81, 0x00);
-    let m = transfer::format_track(host, image, u, spot, buffer);
-    conclude(host, image, events, u, b, at, i, m)
-}
-
-// A transfer to or from pieces that were found before the block was marked.
-fn transfer_pieces(
-    host: &mut [u8],
-    image: &mut [u8],
-    events: &mut [u8],
-    u: Record,
-    b: Block,
-    at: usize,
-    i: usize,
-    job: Job,
+    moving: Moving,
     lengths: &[u32],
     addresses: &[u32],
-) -> Done
-    requires { ⌜ Room (now host) (now events) at i × SectorsFit u (spanOf job) (now lengths) (now addresses) (length (now host)) ⌝ }
-    ensures { λ d. ⌜ Did (moved b at i (now (image .entry)) u job (pieceByte (now (lengths .entry)) (now (addresses .entry)))) (three (now (host .entry)) (now (image .entry)) (now (events .entry))) (three (now (host .exit)) (now (image .exit)) (now (events .exit))) d ⌝ }
+) -> Moved
+    requires { ⌜ (at + 28 ≤ length (now host)) × Ready u moving (now lengths) (now addresses) (length (now host)) ⌝ }
+    ensures { λ m. ⌜ Made (transferWith u moving (pieceByte (now (lengths .entry)) (now (addresses .entry)))) at (now (host .entry)) (now (image .entry)) (now (host .exit)) (now (image .exit)) m ⌝ }
 {
     put_status(host, at, 0x81, 0x00);
-    let volume = job.volume;
-    let span = Span {
-        volume,
-        first: job.first,
-        count: job.count,
-    };
-    let m = transfer::move_sectors(
-        host,
-        image,
-        u,
-        span,
-        job.to_host,
-        job.past_marks,
-        lengths,
-        addresses,
-    );
-    conclude(host, image, events, u, b, at, i, m)
+    match moving {
+        Moving::Nothing => Moved {
+            sectors: 0,
+            answer: BlockAnswer::Ended,
+        },
+        Moving::Sectors(job) => {
+            let span = job.span;
+            transfer::move_sectors(
+                host,
+                image,
+                u,
+                span,
+                job.to_host,
+                job.past_marks,
+                lengths,
+                addresses,
+            )
+        }
+        Moving::Track(spot, buffer) => transfer::format_track(host, image, u, spot, buffer),
+    }
+}
+
+fn sector_bytes(u: Record) -> u32
+    ensures { λ r. ⌜ (r ≡ B (u .geometry)) × (r < 65536) ⌝ }
+{
+    u.geometry().bytes_a_sector() as u32
 }
 
 // The bytes of a job's sectors, all in one piece: an element's byte count would be too narrow for them.
-fn job_bytes(u: Record, job: Job) -> u32
-    ensures { λ r. ⌜ r ≡ job .count * B (u .geometry) ⌝ }
+fn job_bytes(u: Record, span: Span) -> u32
+    ensures { λ r. ⌜ r ≡ span .count * B (u .geometry) ⌝ }
 {
-    (job.count as u32) * (u.geometry().bytes_a_sector() as u32)
+    (span.count as u32) * sector_bytes(u)
 }
 
-// A transfer to or from one piece.
-fn transfer_piece(
+// A job whose data lies in one piece.
+fn in_one_piece(
     host: &mut [u8],
     image: &mut [u8],
-    events: &mut [u8],
     u: Record,
-    b: Block,
     at: usize,
-    i: usize,
     job: Job,
     address: u32,
-) -> Done
-    requires { ⌜ Room (now host) (now events) at i × ((job .buffer ≡ Buffer.Piece address) × LetThrough (now host) (now image) u b (Plan.Move job)) ⌝ }
-    ensures { λ d. ⌜ Did (moved b at i (now (image .entry)) u job (dataByte (now (host .entry)) (job .buffer))) (three (now (host .entry)) (now (image .entry)) (now (events .entry))) (three (now (host .exit)) (now (image .exit)) (now (events .exit))) d ⌝ }
+) -> Moved
+    requires { ⌜ (at + 28 ≤ length (now host)) × ((job .buffer ≡ Buffer.Piece address) × JobGood u (length (now image)) (now host) job) ⌝ }
+    ensures { λ m. ⌜ Made (transferOf (now (host .entry)) u (Moving.Sectors job)) at (now (host .entry)) (now (image .entry)) (now (host .exit)) (now (image .exit)) m ⌝ }
 {
-    let lengths = [job_bytes(u, job)];
+    let span = job.span;
+    let lengths = [job_bytes(u, span)];
     let addresses = [address];
-    transfer_pieces(host, image, events, u, b, at, i, job, &lengths, &addresses)
+    begin(
+        host,
+        image,
+        u,
+        at,
+        Moving::Sectors(job),
+        &lengths,
+        &addresses,
+    )
 }
 
-// A transfer through a list. Its elements are copied out before anything is stored: the block's own status word may lie under it.
-fn transfer_list(
+// A job whose data lies in the elements of a list. They are copied out before anything is stored.
+fn through_list(
     host: &mut [u8],
     image: &mut [u8],
-    events: &mut [u8],
     u: Record,
-    b: Block,
     at: usize,
-    i: usize,
     job: Job,
     address: u32,
     elements: u8,
-) -> Done
-    requires { ⌜ Room (now host) (now events) at i × ((job .buffer ≡ Buffer.List address elements) × LetThrough (now host) (now image) u b (Plan.Move job)) ⌝ }
-    ensures { λ d. ⌜ Did (moved b at i (now (image .entry)) u job (dataByte (now (host .entry)) (job .buffer))) (three (now (host .entry)) (now (image .entry)) (now (events .entry))) (three (now (host .exit)) (now (image .exit)) (now (events .exit))) d ⌝ }
+) -> Moved
+    requires { ⌜ (at + 28 ≤ length (now host)) × ((job .buffer ≡ Buffer.List address elements) × JobGood u (length (now image)) (now host) job) ⌝ }
+    ensures { λ m. ⌜ Made (transferOf (now (host .entry)) u (Moving.Sectors job)) at (now (host .entry)) (now (image .entry)) (now (host .exit)) (now (image .exit)) m ⌝ }
 {
     let pieces = memory::copy_out(host, address, elements);
     let n = elements as usize;
     let lengths = pieces.lengths;
     let addresses = pieces.addresses;
-    transfer_pieces(
+    begin(
         host,
         image,
-        events,
         u,
-        b,
         at,
-        i,
-        job,
+        Moving::Sectors(job),
         &lengths[..n],
         &addresses[..n],
     )
 }
 
-fn transfer(
-    host: &mut [u8],
-    image: &mut [u8],
-    events: &mut [u8],
-    u: Record,
-    b: Block,
-    at: usize,
-    i: usize,
-    job: Job,
-) -> Done
-    requires { ⌜ Room (now host) (now events) at i × LetThrough (now host) (now image) u b (Plan.Move job) ⌝ }
-    ensures { λ d. ⌜ Did (moved b at i (now (image .entry)) u job (dataByte (now (host .entry)) (job .buffer))) (three (now (host .entry)) (now (image .entry)) (now (events .entry))) (three (now (host .exit)) (now (image .exit)) (now (events .exit))) d ⌝ }
+fn carry_job(host: &mut [u8], image: &mut [u8], u: Record, at: usize, job: Job) -> Moved
+    requires { ⌜ (at + 28 ≤ length (now host)) × JobGood u (length (now image)) (now host) job ⌝ }
+    ensures { λ m. ⌜ Made (transferOf (now (host .entry)) u (Moving.Sectors job)) at (now (host .entry)) (now (image .entry)) (now (host .exit)) (now (image .exit)) m ⌝ }
 {
     let buffer = job.buffer;
     match buffer {
-        Buffer::Piece(address) => transfer_piece(host, image, events, u, b, at, i, job, address),
-        Buffer::List { at: list, elements } => transfer_list(
+        Buffer::Piece(address) => in_one_piece(host, image, u, at, job, address),
+        Buffer::List { at: list, elements } => through_list(
             host,
             image,
-            events,
             u,
-            b,
             at,
-            i,
             job,
             list,
             elements,
@@ -360,25 +206,119 @@ fn transfer(
     }
 }
 
-fn accept(
-    host: &mut [u8],
-    image: &mut [u8],
-    events: &mut [u8],
-    u: Record,
-    b: Block,
-    at: usize,
-    i: usize,
-    plan: Plan,
-) -> Done
-    requires { ⌜ Room (now host) (now events) at i × LetThrough (now host) (now image) u b plan ⌝ }
-    ensures { λ d. ⌜ Did (performed b at i (now (host .entry)) (driveWith u (now (image .entry))) plan) (three (now (host .entry)) (now (image .entry)) (now (events .entry))) (three (now (host .exit)) (now (image .exit)) (now (events .exit))) d ⌝ }
+// What needs no pieces: nothing to be moved, or a track, which is told by an address.
+fn without_pieces(host: &mut [u8], image: &mut [u8], u: Record, at: usize, moving: Moving) -> Moved
+    requires { ⌜ (at + 28 ≤ length (now host)) × Ready u moving (0 ∷ []) (0 ∷ []) (length (now host)) ⌝ }
+    ensures { λ m. ⌜ Made (transferWith u moving (pieceByte (0 ∷ []) (0 ∷ []))) at (now (host .entry)) (now (image .entry)) (now (host .exit)) (now (image .exit)) m ⌝ }
 {
-    match plan {
-        Plan::Report => report(host, image, events, u, b, at, i),
-        Plan::Initialize(g) => initialize(host, image, events, u, b, at, i, g),
-        Plan::Heads(cylinder) => heads(host, image, events, u, b, at, i, cylinder),
-        Plan::Format(spot, buffer) => format(host, image, events, u, b, at, i, spot, buffer),
-        Plan::Move(job) => transfer(host, image, events, u, b, at, i, job),
+    let none = [0u32];
+    begin(host, image, u, at, moving, &none, &none)
+}
+
+// Finds the pieces of what is to be moved, marks the block, and moves it.
+fn carry(host: &mut [u8], image: &mut [u8], u: Record, at: usize, moving: Moving) -> Moved
+    requires { ⌜ (at + 28 ≤ length (now host)) × MovingFits u (length (now image)) (now host) moving ⌝ }
+    ensures { λ m. ⌜ Made (transferOf (now (host .entry)) u moving) at (now (host .entry)) (now (image .entry)) (now (host .exit)) (now (image .exit)) m ⌝ }
+{
+    match moving {
+        Moving::Nothing => without_pieces(host, image, u, at, moving),
+        Moving::Sectors(job) => carry_job(host, image, u, at, job),
+        Moving::Track(_, _) => without_pieces(host, image, u, at, moving),
+    }
+}
+
+fn lesser(a: u16, b: u16) -> u16
+    ensures { λ r. ⌜ r ≡ min a b ⌝ }
+{
+    if a <= b { a } else { b }
+}
+
+// The cylinder of the last sector tried of a span, of which so many sectors came.
+fn last_tried(u: Record, span: Span, sectors: u16) -> u16
+    requires { ⌜ SpanGood u span ⌝ }
+    ensures { λ r. ⌜ r ≡ spotOf u (span .volume) (span .first + lastTried sectors (span .count)) .cylinder ⌝ }
+{
+    let volume = span.volume;
+    // a volume's sectors are counted in 64 bits, so the sum below is too
+    let _all = u.geometry().volume_sectors(volume);
+    let last = lesser(sectors, span.count - 1) as u64;
+    let Landing::At(spot) = u.land(volume, span.first + last) else {
+        return 0;
+    };
+    spot.cylinder
+}
+
+// The unit's record once so many sectors are moved.
+fn left(u: Record, leaving: Leaving, sectors: u16) -> Record
+    requires { ⌜ LeavingFits u leaving ⌝ }
+    ensures { λ r. ⌜ r ≡ leftBy u sectors leaving ⌝ }
+{
+    match leaving {
+        Leaving::AsItWas => u,
+        Leaving::HeadsAt(cylinder) => u.moved_to(cylinder),
+        Leaving::HeadsAtLastTried(span) => u.moved_to(last_tried(u, span, sectors)),
+        Leaving::Fresh(g) => Record::new(true, g, 0),
+    }
+}
+
+// How far the heads went: a new record's are where they are.
+fn gone(u: Record, leaving: Leaving, new: Record) -> i32
+    ensures { λ r. ⌜ r ≡ travelled u leaving new ⌝ }
+{
+    match leaving {
+        Leaving::AsItWas => 0,
+        Leaving::HeadsAt(_) => travel(u.cylinder(), new.cylinder()),
+        Leaving::HeadsAtLastTried(_) => travel(u.cylinder(), new.cylinder()),
+        Leaving::Fresh(_) => 0,
+    }
+}
+
+// What an accepted block does: it knows no events, and not how many blocks came before.
+fn perform(host: &mut [u8], image: &mut [u8], u: Record, at: usize, plan: Plan) -> Performed
+    requires { ⌜ (at + 28 ≤ length (now host)) × PlanFits u (length (now image)) (now host) plan ⌝ }
+    ensures { λ p. ⌜ Performs (performed (now (host .entry)) (driveWith u (now (image .entry))) at plan) (now (host .entry)) (now (image .entry)) (now (host .exit)) (now (image .exit)) p ⌝ }
+{
+    let moving = plan.moving;
+    let leaving = plan.leaving;
+    let report = plan.report;
+    let m = carry(host, image, u, at, moving);
+    put_report(host, at, report);
+    let unit = left(u, leaving, m.sectors);
+    let answer = m.answer;
+    Performed {
+        unit,
+        answer,
+        sectors: m.sectors,
+        travel: gone(u, leaving, unit),
+    }
+}
+
+// A block that is refused before a transfer.
+fn refuse(u: Record, r: Refusal) -> Performed
+    ensures { λ p. ⌜ p ≡ performedOf (refused (driveWith u []) r) ⌝ }
+{
+    Performed {
+        unit: u,
+        answer: BlockAnswer::Failed(r),
+        sectors: 0,
+        travel: 0,
+    }
+}
+
+// The one end of every block: the final status and error, and the event entry.
+fn finish(host: &mut [u8], events: &mut [u8], b: Block, at: usize, i: usize, p: Performed) -> Done
+    requires { ⌜ Room (now host) (now events) at i ⌝ }
+    ensures result { λ d. ⌜ d ≡ record { unit = p .unit; answer = p .answer; sectors = p .sectors } ⌝ }
+    ensures stored { λ _. ⌜ ((image : List ℕ) → three (now (host .exit)) image (now (events .exit)) ≡ after (finish b at i (p .answer) (p .travel)) (three (now (host .entry)) image (now (events .entry)))) ⌝ }
+{
+    let answer = p.answer;
+    let unit = p.unit;
+    put_status(host, at, answer.status(), iopb::error_byte(answer));
+    put_event(events, i, b, answer, p.travel);
+    Done {
+        unit,
+        answer,
+        sectors: p.sectors,
     }
 }
 
@@ -388,20 +328,23 @@ pub fn run_block(
     image: &mut [u8],
     events: &mut [u8],
     u: Record,
+    request: Request,
     b: Block,
     at: usize,
     i: usize,
 ) -> Done
-    requires { ⌜ Room (now host) (now events) at i × (b ≡ blockAt (now host) at) ⌝ }
+    requires { ⌜ Room (now host) (now events) at i × ((b ≡ blockAt (now host) at) × (request ≡ requestOf (now host) b)) ⌝ }
     ensures { λ d. ⌜ Did (effectOn (now (host .entry)) (driveWith u (now (image .entry))) at i) (three (now (host .entry)) (now (image .entry)) (now (events .entry))) (three (now (host .exit)) (now (image .exit)) (now (events .exit))) d ⌝ }
 {
-    let request = iopb::request(b, host);
     let standing = Standing {
         record: u,
         image: image.len(),
     };
     match judge::judge(request, standing, host) {
-        Verdict::Refused(r) => refuse(host, image, events, u, b, at, i, r),
-        Verdict::Do(plan) => accept(host, image, events, u, b, at, i, plan),
+        Verdict::Refused(r) => finish(host, events, b, at, i, refuse(u, r)),
+        Verdict::Do(plan) => {
+            let p = perform(host, image, u, at, plan);
+            finish(host, events, b, at, i, p)
+        }
     }
 }

@@ -4,6 +4,7 @@ use answers::BlockAnswer;
 use answers::RunAnswer;
 use block::run_block;
 use iopb::Block;
+use request::UnitNumber;
 ghost use mathlib.Core.Path.{_≡_};
 ghost use Prim.Native.Nat.{_+_, _*_, _≤_};
 ghost use lib.ListN.{length};
@@ -54,27 +55,32 @@ pub(crate) fn step(
     let options = b.options;
     let zero = units.zero;
     let one = units.one;
-    if options.unit {
-        let done = run_block(host, image1, events, one, b, at, i);
-        let unit = done.unit;
-        let answer = done.answer;
-        Stepped {
-            units: Units { zero, one: unit },
-            answer,
-            sectors: done.sectors,
-            linked: options.link,
-            link: b.link,
+    let request = iopb::request(b, host);
+    let named = request.unit;
+    match named {
+        UnitNumber::Zero => {
+            let done = run_block(host, image0, events, zero, request, b, at, i);
+            let unit = done.unit;
+            let answer = done.answer;
+            Stepped {
+                units: Units { zero: unit, one },
+                answer,
+                sectors: done.sectors,
+                linked: options.link,
+                link: b.link,
+            }
         }
-    } else {
-        let done = run_block(host, image0, events, zero, b, at, i);
-        let unit = done.unit;
-        let answer = done.answer;
-        Stepped {
-            units: Units { zero: unit, one },
-            answer,
-            sectors: done.sectors,
-            linked: options.link,
-            link: b.link,
+        UnitNumber::One => {
+            let done = run_block(host, image1, events, one, request, b, at, i);
+            let unit = done.unit;
+            let answer = done.answer;
+            Stepped {
+                units: Units { zero, one: unit },
+                answer,
+                sectors: done.sectors,
+                linked: options.link,
+                link: b.link,
+            }
         }
     }
 }

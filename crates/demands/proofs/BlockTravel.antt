@@ -5,27 +5,27 @@ use mathlib.Core.List.{List, [], _∷_, _++_}
 use mathlib.Core.Path.{_≡_, refl, ap, _∙_}
 use native.Mathlib.Omega.{arith}
 use lib.IntN.{pos}
-use Rattle.answers.specs.declared.BlockAnswer.{BlockAnswer}
 use Rattle.answers.specs.Numbers.{statusOf}
-use Rattle.geometry.specs.Drive.{C, volumeSectors}
+use Rattle.geometry.specs.Drive.{C}
 use Rattle.iopb.specs.Errors.{errorByte}
-use Rattle.judge.specs.declared.Plan.{Plan}
-use Rattle.judge.specs.declared.Plan.the-variants.{Report, Initialize, Heads, Format, Move}
+use Rattle.judge.specs.declared.Leaving.{Leaving}
+use Rattle.judge.specs.declared.Leaving.the-variants.{AsItWas, HeadsAt, HeadsAtLastTried, Fresh}
 use Rattle.judge.specs.declared.Verdict.{Verdict}
 use Rattle.judge.specs.declared.Verdict.the-variants.{Refused, Do}
-use Rattle.judge.proofs.LetThrough.{format-let-through, heads-let-through, move-let-through}
-use Rattle.transfer.specs.Data.{progressOn}
+use Rattle.judge.specs.Fits.{LeavingFits}
 use Rattle.transfer.specs.Progress.{lastTried}
 use Rattle.transfer.specs.Stores.{Store, bytesFrom, eventByte, hostByte}
+use Rattle.unit.specs.declared.Record.{Record}
 use Rattle.unit.specs.Landing.{spotOf}
 use Rattle.unit.specs.Standing.{CountsAsInitialized}
 use Rattle.unit.proofs.Laws.{spot-inside}
-use Rattle.block.specs.Block.{Effect, dataByte, transferOf}
+use Rattle.block.specs.Block.{Effect, judged, leftBy, travelled}
 use Rattle.block.specs.Events.{InRange, entry, travelTo}
-use Rattle.demands.specs.Footprint.{namedDrive, verdictOf}
-use Rattle.demands.specs.Visits.{Travelled, Visit, blockOf}
 use Rattle.block.proofs.Travel.{travel-in-range}
-use Rattle.demands.proofs.Written.{between, effect-is, stages, travels}
+use Rattle.demands.specs.Footprint.{askedOf, namedDrive, verdictOf}
+use Rattle.demands.specs.Visits.{Travelled, Visit, blockOf}
+use Rattle.demands.proofs.Fits.{leaving-fits}
+use Rattle.demands.proofs.Written.{effect-is, performance}
 
 append-again : (xs ys zs : List Store) → xs ++ (ys ++ zs) ≡ xs ++ ys ++ zs
 append-again [] ys zs = refl
@@ -35,50 +35,36 @@ nowhere : InRange (pos 0)
 nowhere = travel-in-range 0 0 (omega arith) (omega arith)
 
 module _ (v : Visit) where
-  word : BlockAnswer → List Store
-  word a = bytesFrom hostByte (v .at + 2) (statusOf a ∷ errorByte a ∷ [])
-
   -- The two cylinders of a block that moves the heads.
-  below :
-      (old new : ℕ) → CountsAsInitialized (namedDrive v .unit) → old ≡ namedDrive v .unit .cylinder → new < C (namedDrive v .unit .geometry) →
-      InRange (travelTo old new)
-  below old new counts is inside =
-      travel-in-range old new (omega (arith, counts .cylinder, counts .within .sizes .cylinders)) (omega (arith, counts .within .sizes .cylinders))
+  below : (u : Record) (new : ℕ) → CountsAsInitialized u → new < C (u .geometry) → InRange (travelTo (u .cylinder) new)
+  below u new counts inside =
+      travel-in-range (u .cylinder) new (omega (arith, counts .cylinder, counts .within .sizes .cylinders)) (omega (arith, counts .within .sizes .cylinders))
 
-  in-range : (plan : Plan) → verdictOf v ≡ Do plan → InRange (travels v plan)
-  unfolding travels
-  in-range Report is = nowhere
-  in-range (Initialize g) is = nowhere
-  in-range (Heads c) is = let h = heads-let-through _ c is in below _ c (h .0) refl (h .1)
-  in-range (Format s b) is = let f = format-let-through _ s b is in below _ (s .cylinder) (f .initialized) refl (f .cylinder)
-  in-range (Move j) is =
-      let m = move-let-through _ j is in
-      let t = transferOf (namedDrive v .unit) j (dataByte (v .world .host) (j .buffer)) in
-      let last = lastTried (progressOn (namedDrive v .image) t .sectors) (j .count) in
-      let inside : j .first + last < volumeSectors (namedDrive v .unit .geometry) (j .volume) = omega (arith, m .some, m .sectors) in
-      below _ (spotOf (namedDrive v .unit) (j .volume) (j .first + last) .cylinder) (m .initialized) refl
-      (spot-inside (namedDrive v .unit) (j .volume) (j .first + last) inside .cylinder)
+  in-range : (u : Record) (moved : ℕ) (l : Leaving) → LeavingFits u l → InRange (travelled u l (leftBy u moved l))
+  in-range u moved AsItWas fits = nowhere
+  in-range u moved (HeadsAt c) fits = below u c (fits .0) (fits .1)
+  in-range u moved (HeadsAtLastTried s) fits =
+      let last = s .first + lastTried moved (s .count) in
+      below u (spotOf u (s .volume) last .cylinder) (fits .0)
+      (spot-inside u (s .volume) last (omega (arith, fits .1 .some, fits .1 .inside)) .cylinder)
+  in-range u moved (Fresh g) fits = nowhere
+
+  by-verdict : (verd : Verdict) → verdictOf v ≡ verd → InRange (performance v .travel)
+  by-verdict (Refused r) is = rw is nowhere
+  by-verdict (Do plan) is =
+      rw is
+      (in-range (namedDrive v .unit) (judged (v .world .host) (namedDrive v) (v .at) (Do plan) .sectors) (plan .leaving)
+      (rw is at (leaving-fits (askedOf v))))
 
   pub every-travel-in-range : Travelled v
-  unfolding word
-  every-travel-in-range = by-verdict (verdictOf v) refl
-    where
-      by-verdict : (verd : Verdict) → verdictOf v ≡ verd → Travelled v
-      by-verdict (Refused r) is =
-          record {
-            earlier = word (BlockAnswer.Failed r);
-            answer = BlockAnswer.Failed r;
-            travel = pos 0;
-            stores = ap (λ (e : Effect). e .stores) (effect-is v (Refused r) is);
-            within = nowhere;
-          }
-      by-verdict (Do plan) is =
-          let s = stages v plan is in
-          let begin = bytesFrom hostByte (v .at + 2) (0x81 ∷ 0x00 ∷ []) in
-          record {
-            earlier = begin ++ between v plan ++ word (s .answer);
-            answer = s .answer;
-            travel = travels v plan;
-            stores = s .stores ∙ append-again (begin ++ between v plan) (word (s .answer)) (bytesFrom eventByte (8 * v .index) (entry (blockOf v) (s .answer) (travels v plan)));
-            within = in-range plan is;
-          }
+  every-travel-in-range =
+      let p = performance v in
+      let word = bytesFrom hostByte (v .at + 2) (statusOf (p .answer) ∷ errorByte (p .answer) ∷ []) in
+      let its-entry = bytesFrom eventByte (8 * v .index) (entry (blockOf v) (p .answer) (p .travel)) in
+      record {
+        earlier = p .stores ++ word;
+        answer = p .answer;
+        travel = p .travel;
+        stores = ap (λ (e : Effect). e .stores) (effect-is v) ∙ append-again (p .stores) word its-entry;
+        within = by-verdict (verdictOf v) refl;
+      }

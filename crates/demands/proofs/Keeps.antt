@@ -4,7 +4,7 @@ use Prim.Native.Nat.{ℕ, zero, suc, _+_}
 use mathlib.Core.Bool.{Bool, true, false}
 use mathlib.Core.List.{List, [], _∷_}
 use mathlib.Core.Logic.{inl, inr, by-cases, if-pos}
-use mathlib.Core.Path.{_≡_, refl, ap, subst, _∙_}
+use mathlib.Core.Path.{_≡_, refl, sym, ap, subst, _∙_}
 use native.Mathlib.Omega.{arith}
 use lib.ListN.{getD, length}
 use Rattle.answers.specs.declared.BlockAnswer.{BlockAnswer}
@@ -14,16 +14,17 @@ use Rattle.request.specs.declared.UnitNumber.the-variants.{Zero, One}
 use Rattle.transfer.specs.Stores.{Buffers, Cell, Stored, after, eventByte, held, hostByte, imageByte}
 use Rattle.transfer.proofs.Stays.{lengths-stay, unstored-stays}
 use Rattle.wire.specs.Memory.{inMemory?}
-use Rattle.block.specs.Block.{Effect, worldAfter}
+use Rattle.block.specs.Block.{Effect, judged, leftBy, worldAfter}
 use Rattle.board.specs.Chain.{Ending, Tally, fetched, follows, nothing, ran}
-use Rattle.demands.specs.Footprint.{EventWritten, HostWritten, ImageWritten, RecordWritten, RunNames, RunWrites, RunWritesEvents, RunWritesImage, RunWritesRecord, Some, changesRecord, namedDrive, names, verdictOf}
+use Rattle.demands.specs.Footprint.{Renews, RunNames, RunWrites, RunWritesEvents, RunWritesImage, RunWritesRecord, Some, WritesEvents, WritesHost, WritesImage, WritesRecord, askedOf, changes, leavingOf, namedDrive, names, verdictOf}
 use Rattle.demands.proofs.Written.{effect-is, event-written-exactly, host-written-exactly, image-written-exactly}
-use Rattle.geometry.specs.declared.Geometry.{Geometry}
 use Rattle.unit.specs.Standing.{CountsAsInitialized}
-use Rattle.judge.specs.declared.Plan.the-variants.{Report, Initialize, Heads, Format, Move}
+use Rattle.judge.specs.declared.Leaving.{Leaving}
+use Rattle.judge.specs.declared.Leaving.the-variants.{AsItWas, HeadsAt, HeadsAtLastTried, Fresh}
 use Rattle.judge.specs.declared.Verdict.{Verdict}
 use Rattle.judge.specs.declared.Verdict.the-variants.{Refused, Do}
-use Rattle.judge.proofs.LetThrough.{format-let-through, heads-let-through, move-let-through}
+use Rattle.judge.specs.Fits.{LeavingFits}
+use Rattle.demands.proofs.Fits.{leaving-fits}
 use Rattle.demands.specs.Visits.{Visit, blockOf, effectOf, fetchedBy, onwards, passes?, visits, worldLeft}
 use Rattle.block.specs.World.{Drive, World, buffersOf, changed, driveOf}
 use Rattle.board.proofs.Chains.{fetched-bad, fetched-spent}
@@ -89,6 +90,17 @@ pub run-keeps :
     (Some P (fetchedBy first allowance w) → ⊥) → see (ran first allowance w .world) ≡ see w
 run-keeps see first allowance w P each none =
     run-hands (λ u. see u ≡ see w) first allowance w P (λ v out so. each v out ∙ so) none refl
+
+unit-number : UnitNumber → ℕ
+unit-number Zero = 0
+unit-number One = 1
+
+pub same-unit? : (m n : UnitNumber) → Dec (m ≡ n)
+unfolding unit-number
+same-unit? Zero Zero = yes refl
+same-unit? Zero One = no (λ same. omega (arith, ap unit-number same))
+same-unit? One Zero = no (λ same. omega (arith, ap unit-number same))
+same-unit? One One = yes refl
 
 -- ---- what a block keeps
 
@@ -190,38 +202,57 @@ module _ (v : Visit) where
       by-unit One is Zero = refl
       by-unit One is One = same ∙ ap (λ (m : UnitNumber). driveOf (v .world) m .unit) is
 
-  pub block-keeps-record :
-      (n : UnitNumber) → ((names v ≡ n) × RecordWritten v → ⊥) → driveOf (worldLeft v) n .unit ≡ driveOf (v .world) n .unit
-  block-keeps-record n none = by-verdict (verdictOf v) refl
+  -- What it leaves is told by its verdict.
+  pub unit-left : effectOf v .unit ≡ leftBy (namedDrive v .unit) (effectOf v .sectors) (leavingOf (verdictOf v))
+  unit-left = ap (λ (e : Effect). e .unit) (effect-is v) ∙ by-verdict (verdictOf v) ∙ ap (λ (e : Effect). leftBy (namedDrive v .unit) (e .sectors) (leavingOf (verdictOf v))) (sym (effect-is v))
     where
-      other : changesRecord (verdictOf v) → driveOf (worldLeft v) n .unit ≡ driveOf (v .world) n .unit
-      other changes = ap (λ (d : Drive). d .unit) (block-keeps-drive v n (λ named. none (named, changes)))
+      by-verdict :
+          (verd : Verdict) →
+          judged (v .world .host) (namedDrive v) (v .at) verd .unit ≡
+          leftBy (namedDrive v .unit) (judged (v .world .host) (namedDrive v) (v .at) verd .sectors) (leavingOf verd)
+      by-verdict (Refused r) = refl
+      by-verdict (Do plan) = refl
 
-      by-verdict : (verd : Verdict) → verdictOf v ≡ verd → driveOf (worldLeft v) n .unit ≡ driveOf (v .world) n .unit
-      by-verdict (Refused r) is = record-left n (ap (λ (e : Effect). e .unit) (effect-is v (Refused r) is))
-      by-verdict (Do Report) is = record-left n (ap (λ (e : Effect). e .unit) (effect-is v (Do Report) is))
-      by-verdict (Do (Initialize g)) is = other (rw is tt)
-      by-verdict (Do (Heads c)) is = other (rw is tt)
-      by-verdict (Do (Format s b)) is = other (rw is tt)
-      by-verdict (Do (Move j)) is = other (rw is tt)
+  -- The named unit has the record that the block leaves.
+  pub named-record : driveOf (worldLeft v) (names v) .unit ≡ effectOf v .unit
+  unfolding worldAfter
+  named-record = by-unit (names v)
+    where
+      by-unit :
+          (m : UnitNumber) →
+          driveOf (changed (v .world) m (after (effectOf v .stores) (buffersOf (v .world) m)) (effectOf v .unit)) m .unit ≡ effectOf v .unit
+      by-unit Zero = refl
+      by-unit One = refl
+
+  pub block-keeps-record :
+      (n : UnitNumber) → ((names v ≡ n) × WritesRecord v → ⊥) → driveOf (worldLeft v) n .unit ≡ driveOf (v .world) n .unit
+  block-keeps-record n none = by-leaving (leavingOf (verdictOf v)) refl
+    where
+      other : changes (leavingOf (verdictOf v)) → driveOf (worldLeft v) n .unit ≡ driveOf (v .world) n .unit
+      other does = ap (λ (d : Drive). d .unit) (block-keeps-drive v n (λ named. none (named, does)))
+
+      by-leaving : (l : Leaving) → leavingOf (verdictOf v) ≡ l → driveOf (worldLeft v) n .unit ≡ driveOf (v .world) n .unit
+      by-leaving AsItWas is = record-left n (unit-left ∙ ap (λ (l : Leaving). leftBy (namedDrive v .unit) (effectOf v .sectors) l) is)
+      by-leaving (HeadsAt c) is = other (rw is tt)
+      by-leaving (HeadsAtLastTried s) is = other (rw is tt)
+      by-leaving (Fresh g) is = other (rw is tt)
 
   -- A record that does not count as initialized is changed by a successful 87 alone.
   pub block-keeps-bad :
-      (n : UnitNumber) → (CountsAsInitialized (driveOf (v .world) n .unit) → ⊥) →
-      ((names v ≡ n) × ((g : Geometry) × (verdictOf v ≡ Do (Initialize g))) → ⊥) →
+      (n : UnitNumber) → (CountsAsInitialized (driveOf (v .world) n .unit) → ⊥) → ((names v ≡ n) × Renews (askedOf v) → ⊥) →
       driveOf (worldLeft v) n .unit ≡ driveOf (v .world) n .unit
-  block-keeps-bad n bad none = block-keeps-record n (λ there. by-verdict (verdictOf v) refl (there .0) (there .1))
+  block-keeps-bad n bad none = block-keeps-record n (λ there. by-leaving (leavingOf (verdictOf v)) refl (there .0) (there .1) (leaving-fits (askedOf v)))
     where
-      by-verdict : (verd : Verdict) → verdictOf v ≡ verd → names v ≡ n → changesRecord verd → ⊥
-      by-verdict (Refused r) is named changes = changes
-      by-verdict (Do Report) is named changes = changes
-      by-verdict (Do (Initialize g)) is named changes = none (named, (g, is))
-      by-verdict (Do (Heads c)) is named changes =
-          bad (subst (λ (m : UnitNumber). CountsAsInitialized (driveOf (v .world) m .unit)) named (heads-let-through _ c is .0))
-      by-verdict (Do (Format s b)) is named changes =
-          bad (subst (λ (m : UnitNumber). CountsAsInitialized (driveOf (v .world) m .unit)) named (format-let-through _ s b is .initialized))
-      by-verdict (Do (Move j)) is named changes =
-          bad (subst (λ (m : UnitNumber). CountsAsInitialized (driveOf (v .world) m .unit)) named (move-let-through _ j is .initialized))
+      counted : names v ≡ n → CountsAsInitialized (namedDrive v .unit) → ⊥
+      counted named counts = bad (subst (λ (m : UnitNumber). CountsAsInitialized (driveOf (v .world) m .unit)) named counts)
+
+      by-leaving :
+          (l : Leaving) → leavingOf (verdictOf v) ≡ l → names v ≡ n → changes (leavingOf (verdictOf v)) →
+          LeavingFits (namedDrive v .unit) (leavingOf (verdictOf v)) → ⊥
+      by-leaving AsItWas is named does fits = rw is at does
+      by-leaving (HeadsAt c) is named does fits = counted named ((rw is at fits) .0)
+      by-leaving (HeadsAtLastTried s) is named does fits = counted named ((rw is at fits) .0)
+      by-leaving (Fresh g) is named does fits = none (named, (g, is))
 
 -- ---- what a run keeps
 
@@ -232,13 +263,13 @@ module _ (first allowance : ℕ) (w : World) where
   -- A host byte that a run does not write is as it was.
   pub run-keeps-host : (x : ℕ) → (RunWrites first allowance w x → ⊥) → getD (left-by .host) x 0 ≡ getD (w .host) x 0
   run-keeps-host x none =
-      run-keeps (λ u. getD (u .host) x 0) first allowance w (λ v. HostWritten v x)
+      run-keeps (λ u. getD (u .host) x 0) first allowance w (λ v. WritesHost v x)
       (λ v out. block-keeps-host v x (λ there. out (host-written-exactly v x .1 there))) none
 
   -- So is a byte of the event buffer,
   pub run-keeps-events : (x : ℕ) → (RunWritesEvents first allowance w x → ⊥) → getD (left-by .events) x 0 ≡ getD (w .events) x 0
   run-keeps-events x none =
-      run-keeps (λ u. getD (u .events) x 0) first allowance w (λ v. EventWritten v x)
+      run-keeps (λ u. getD (u .events) x 0) first allowance w (λ v. WritesEvents v x)
       (λ v out. block-keeps-events v x (λ there. out (event-written-exactly v x .1 there))) none
 
   -- a byte of a unit's image,
@@ -246,13 +277,13 @@ module _ (first allowance : ℕ) (w : World) where
       (n : UnitNumber) (x : ℕ) → (RunWritesImage first allowance w n x → ⊥) →
       getD (driveOf left-by n .image) x 0 ≡ getD (driveOf w n .image) x 0
   run-keeps-image n x none =
-      run-keeps (λ u. getD (driveOf u n .image) x 0) first allowance w (λ v. (names v ≡ n) × ImageWritten v x)
+      run-keeps (λ u. getD (driveOf u n .image) x 0) first allowance w (λ v. (names v ≡ n) × WritesImage v x)
       (λ v out. block-keeps-image v n x (λ there. out (there .0, image-written-exactly v x .1 (there .1)))) none
 
   -- a unit's record,
   pub run-keeps-record : (n : UnitNumber) → (RunWritesRecord first allowance w n → ⊥) → driveOf left-by n .unit ≡ driveOf w n .unit
   run-keeps-record n none =
-      run-keeps (λ u. driveOf u n .unit) first allowance w (λ v. (names v ≡ n) × RecordWritten v) (λ v out. block-keeps-record v n out)
+      run-keeps (λ u. driveOf u n .unit) first allowance w (λ v. (names v ≡ n) × WritesRecord v) (λ v out. block-keeps-record v n out)
       none
 
   -- and the whole drive of a unit that no block names.
@@ -279,9 +310,9 @@ module _ (first allowance : ℕ) (w : World) where
   -- succeeds it is handed back as it came" (01, Geometry).
   pub bad-record-handed-back :
       (n : UnitNumber) → (CountsAsInitialized (driveOf w n .unit) → ⊥) →
-      (Some (λ v. (names v ≡ n) × ((g : Geometry) × (verdictOf v ≡ Do (Initialize g)))) (fetchedBy first allowance w) → ⊥) →
+      (Some (λ v. (names v ≡ n) × Renews (askedOf v)) (fetchedBy first allowance w) → ⊥) →
       driveOf left-by n .unit ≡ driveOf w n .unit
   bad-record-handed-back n bad none =
       run-hands (λ u. driveOf u n .unit ≡ driveOf w n .unit) first allowance w
-      (λ v. (names v ≡ n) × ((g : Geometry) × (verdictOf v ≡ Do (Initialize g))))
+      (λ v. (names v ≡ n) × Renews (askedOf v))
       (λ v out so. block-keeps-bad v n (rw so bad) out ∙ so) none refl

@@ -1,6 +1,7 @@
 pub mod BlockLaws
 pub mod BlockTravel
 pub mod Endings
+pub mod Fits
 pub mod Keeps
 pub mod RunAnswers
 pub mod RunMarks

@@ -9,20 +9,18 @@ use native.Mathlib.Omega.{arith}
 use lib.ListN.{getD}
 use Rattle.geometry.specs.declared.Geometry.{Geometry}
 use Rattle.geometry.specs.Drive.{marksAt}
-use Rattle.judge.specs.declared.Plan.the-variants.{Report, Initialize, Heads, Format, Move}
-use Rattle.judge.specs.declared.Verdict.{Verdict}
-use Rattle.judge.specs.declared.Verdict.the-variants.{Refused, Do}
+use Rattle.judge.specs.declared.Leaving.{Leaving}
+use Rattle.judge.specs.declared.Leaving.the-variants.{AsItWas, HeadsAt, HeadsAtLastTried, Fresh}
 use Rattle.request.specs.declared.UnitNumber.{UnitNumber}
 use Rattle.request.specs.declared.UnitNumber.the-variants.{Zero, One}
-use Rattle.transfer.specs.Stores.{after}
-use Rattle.block.specs.Block.{Effect, worldAfter}
+use Rattle.unit.specs.declared.Record.{Record}
+use Rattle.block.specs.Block.{leftBy}
 use Rattle.board.specs.Chain.{ran}
-use Rattle.demands.specs.Footprint.{Some, namedDrive, names, verdictOf}
+use Rattle.demands.specs.Footprint.{Renews, Some, askedOf, leavingOf, namedDrive, names, verdictOf}
 use Rattle.demands.specs.Visits.{Visit, effectOf, fetchedBy, worldLeft}
-use Rattle.block.specs.World.{World, buffersOf, changed, driveOf}
+use Rattle.block.specs.World.{Drive, World, driveOf}
 use Rattle.demands.proofs.BlockLaws.{no-mark}
-use Rattle.demands.proofs.Keeps.{block-keeps-image, run-hands, run-keeps}
-use Rattle.demands.proofs.Written.{effect-is}
+use Rattle.demands.proofs.Keeps.{block-keeps-drive, block-keeps-image, named-record, run-hands, run-keeps, same-unit?, unit-left}
 
 -- A block keeps an image byte of a unit that it does not name, and one from the marks on of the unit that it names.
 block-keeps-marks :
@@ -47,43 +45,32 @@ no-mark-in-a-run first allowance w n x none =
 
 -- Only an 87 replaces a geometry.
 block-keeps-geometry :
-    (v : Visit) (n : UnitNumber) → ((names v ≡ n) × ((g : Geometry) × (verdictOf v ≡ Do (Initialize g))) → ⊥) →
+    (v : Visit) (n : UnitNumber) → ((names v ≡ n) × Renews (askedOf v) → ⊥) →
     driveOf (worldLeft v) n .unit .geometry ≡ driveOf (v .world) n .unit .geometry
-unfolding worldAfter
-block-keeps-geometry v n none = by-unit (names v) refl n none
+block-keeps-geometry v n none = by-cases (same-unit? (names v) n) (λ named. here named) (λ other. ap (λ (d : Drive). d .unit .geometry) (block-keeps-drive v n other))
   where
-    kept :
-        (verd : Verdict) → verdictOf v ≡ verd → ((g : Geometry) × (verdictOf v ≡ Do (Initialize g)) → ⊥) →
-        effectOf v .unit .geometry ≡ namedDrive v .unit .geometry
-    kept (Refused r) is out = ap (λ (e : Effect). e .unit .geometry) (effect-is v (Refused r) is)
-    kept (Do Report) is out = ap (λ (e : Effect). e .unit .geometry) (effect-is v (Do Report) is)
-    kept (Do (Initialize g)) is out = absurd (out (g, is))
-    kept (Do (Heads c)) is out = ap (λ (e : Effect). e .unit .geometry) (effect-is v (Do (Heads c)) is)
-    kept (Do (Format s b)) is out = ap (λ (e : Effect). e .unit .geometry) (effect-is v (Do (Format s b)) is)
-    kept (Do (Move j)) is out = ap (λ (e : Effect). e .unit .geometry) (effect-is v (Do (Move j)) is)
+    kept : (l : Leaving) → leavingOf (verdictOf v) ≡ l → (Renews (askedOf v) → ⊥) → leftBy (namedDrive v .unit) (effectOf v .sectors) l .geometry ≡ namedDrive v .unit .geometry
+    kept AsItWas is out = refl
+    kept (HeadsAt c) is out = refl
+    kept (HeadsAtLastTried s) is out = refl
+    kept (Fresh g) is out = absurd (out (g, is))
 
-    by-unit :
-        (m : UnitNumber) → names v ≡ m → (n : UnitNumber) → ((m ≡ n) × ((g : Geometry) × (verdictOf v ≡ Do (Initialize g))) → ⊥) →
-        driveOf (changed (v .world) m (after (effectOf v .stores) (buffersOf (v .world) m)) (effectOf v .unit)) n .unit .geometry ≡
-        driveOf (v .world) n .unit .geometry
-    by-unit Zero is Zero out =
-        kept (verdictOf v) refl (λ i. out (refl, i)) ∙ ap (λ (m : UnitNumber). driveOf (v .world) m .unit .geometry) is
-    by-unit Zero is One out = refl
-    by-unit One is Zero out = refl
-    by-unit One is One out =
-        kept (verdictOf v) refl (λ i. out (refl, i)) ∙ ap (λ (m : UnitNumber). driveOf (v .world) m .unit .geometry) is
+    here : names v ≡ n → driveOf (worldLeft v) n .unit .geometry ≡ driveOf (v .world) n .unit .geometry
+    here named =
+        subst (λ (m : UnitNumber). driveOf (worldLeft v) m .unit .geometry ≡ driveOf (v .world) m .unit .geometry) named
+        (ap (λ (u : Record). u .geometry) (named-record v ∙ unit-left v) ∙ kept (leavingOf (verdictOf v)) refl (λ renews. none (named, renews)))
 
 -- So every byte of its image from the marks on, as its record says where they begin, is as it was.
 pub no-mark-without-an-87 :
     (first allowance : ℕ) (w : World) (n : UnitNumber) (x : ℕ) → marksAt (driveOf w n .unit .geometry) ≤ x →
-    (Some (λ v. (names v ≡ n) × ((g : Geometry) × (verdictOf v ≡ Do (Initialize g)))) (fetchedBy first allowance w) → ⊥) →
+    (Some (λ v. (names v ≡ n) × Renews (askedOf v)) (fetchedBy first allowance w) → ⊥) →
     getD (driveOf (ran first allowance w .world) n .image) x 0 ≡ getD (driveOf w n .image) x 0
 no-mark-without-an-87 first allowance w n x from none =
     run-hands
     (λ u.
     (driveOf u n .unit .geometry ≡ driveOf w n .unit .geometry) ×
     (getD (driveOf u n .image) x 0 ≡ getD (driveOf w n .image) x 0))
-    first allowance w (λ v. (names v ≡ n) × ((g : Geometry) × (verdictOf v ≡ Do (Initialize g))))
+    first allowance w (λ v. (names v ≡ n) × Renews (askedOf v))
     (λ v out so. (
       block-keeps-geometry v n out ∙ so .0,
       block-keeps-marks v n x (λ there. before v (there .0) (so .0) (there .1)) ∙ so .1,

@@ -2,89 +2,111 @@
 -- for the sectors that the count says, and nothing of the rest.
 -- The data stand between the 81 00 and the finish, and of host memory these two write word 1 alone.
 use Prim.Native.Nat.{ℕ, _+_, _*_, _<_}
-use mathlib.Core.Bool.{true}
-use mathlib.Core.List.{List, [], _∷_, _++_}
-use mathlib.Core.Logic.{inl, inr}
+use mathlib.Core.Bool.{Bool, true, false, false≢true}
+use mathlib.Core.List.{List, [], _∷_, _++_, append-nil}
 use mathlib.Core.Path.{_≡_, refl, sym, ap, subst, _∙_}
 use native.Mathlib.Omega.{arith}
 use lib.ListN.{getD, length}
 use Rattle.wire.specs.Memory.{Among}
 use Rattle.geometry.specs.Drive.{B}
+use Rattle.judge.specs.declared.Moving.{Moving}
+use Rattle.judge.specs.declared.Moving.the-variants.{Nothing, Sectors, Track}
 use Rattle.judge.specs.declared.Plan.{Plan}
-use Rattle.judge.specs.declared.Plan.the-variants.{Report, Initialize, Heads, Format, Move}
-use Rattle.judge.specs.declared.Verdict.the-variants.{Do}
+use Rattle.judge.specs.declared.Report.{Report}
+use Rattle.judge.specs.declared.Verdict.{Verdict}
+use Rattle.judge.specs.declared.Verdict.the-variants.{Refused, Do}
+use Rattle.judge.proofs.LetThrough.{quiet-let-through}
 use Rattle.transfer.specs.Data.{Transfer, dataOn, diskByte, progressOn}
-use Rattle.transfer.specs.Stores.{Buffers, after, bytesFrom, hostByte}
+use Rattle.transfer.specs.Stores.{Buffers, Store, after, bytesFrom, hostByte}
 use Rattle.transfer.proofs.Earlier.{host-has-byte}
 use Rattle.transfer.proofs.Stays.{host-bytes-stored, lengths-stay, unstored-stays}
 use Rattle.transfer.proofs.Stores.{after-append}
-use Rattle.block.specs.Block.{finish}
-use Rattle.demands.specs.Footprint.{HostData, HostWritten, Makes, namedDrive, makes, names}
-use Rattle.demands.specs.Visits.{Visit, blockOf, effectOf, worldLeft}
+use Rattle.block.specs.Block.{Effect, begun, finish, judged, reported, transferOf, wordsOf}
 use Rattle.block.specs.World.{buffersOf}
+use Rattle.demands.specs.Footprint.{HostData, WritesHost, askedOf, comes, movingOf, namedDrive, names, reportOf, transferBy, verdictOf, wordsBy}
+use Rattle.demands.specs.Footprint.HostWritten.{moved, report, status-word}
+use Rattle.demands.specs.Visits.{Visit, blockOf, effectOf, worldLeft}
 use Rattle.demands.proofs.Keeps.{block-keeps-host, buffers-left}
-use Rattle.demands.proofs.Written.{between, finish-host, host-written-exactly, made, reports, stages, travels}
+use Rattle.demands.proofs.Written.{effect-is, finish-host, host-written-exactly, performance, sectors-come}
 
-same-plan : (p q : Plan) → Do p ≡ Do q → p ≡ q
-same-plan p q e = cc
+-- A block that moves sectors to host memory was accepted, and reports nothing.
+module _ (v : Visit) (reads : transferBy (askedOf v) .to-host ≡ true) where
+  abbrev t : Transfer
+  t = transferBy (askedOf v)
 
-module _ (v : Visit) (t : Transfer) (m : Makes v t) (reads : t .to-host ≡ true) where
-  abbrev plan : Plan
-  plan = m .0
+  record Read : Type 0 where
+    plan : Plan
+    judged-so : verdictOf v ≡ Do plan
+    silent : plan .report ≡ Report.Nothing
 
-  -- A block makes one transfer.
-  one-transfer : (q : Plan) (s : Transfer) → plan ≡ q → makes v q s → t ≡ s
-  one-transfer q s same mk = by-plan q s (subst (λ (p : Plan). makes v p t) same (m .1 .1)) mk
+  accepted : Read
+  accepted = by-verdict (verdictOf v) refl
     where
-      by-plan : (q : Plan) (s : Transfer) → makes v q t → makes v q s → t ≡ s
-      by-plan (Move j) s a b = a ∙ sym b
-      by-plan (Format x y) s a b = a ∙ sym b
-      by-plan Report s a b = absurd a
-      by-plan (Initialize g) s a b = absurd a
-      by-plan (Heads c) s a b = absurd a
+      by-moving :
+          (plan : Plan) → verdictOf v ≡ Do plan → (m : Moving) → plan .moving ≡ m →
+          transferOf (v .world .host) (namedDrive v .unit) m .to-host ≡ true → plan .report ≡ Report.Nothing
+      by-moving plan is Nothing moves to = absurd (false≢true to)
+      by-moving plan is (Sectors j) moves to = quiet-let-through (askedOf v) plan j is moves
+      by-moving plan is (Track spot at) moves to = absurd (false≢true to)
+
+      by-verdict : (verd : Verdict) → verdictOf v ≡ verd → Read
+      by-verdict (Refused r) is = absurd (false≢true (rw is at reads))
+      by-verdict (Do plan) is = record { plan = plan; judged-so = is; silent = by-moving plan is (plan .moving) refl (rw is at reads) }
+
+  no-words : wordsBy (askedOf v) .bytes ≡ []
+  no-words =
+      ap (λ (verd : Verdict). wordsOf (reportOf verd) .bytes) (accepted .judged-so) ∙ ap (λ (r : Report). wordsOf r .bytes) (accepted .silent)
 
   -- The count says how many sectors came.
-  pub count-says : effectOf v .sectors ≡ progressOn (namedDrive v .image) t .sectors
-  count-says = made v plan t (m .1 .0) (m .1 .1) .1
+  pub count-says : effectOf v .sectors ≡ comes (askedOf v) (namedDrive v) .sectors
+  count-says = sym (sectors-come v)
 
   -- Nothing of the rest: a host byte that is neither in word 1 nor one of the bytes that came is as it was.
   pub nothing-of-the-rest :
-      (x : ℕ) → (Among (v .at + 2) 2 x → ⊥) → (HostData v t x → ⊥) → getD (worldLeft v .host) x 0 ≡ getD (v .world .host) x 0
+      (x : ℕ) → (Among (v .at + 2) 2 x → ⊥) → (HostData (askedOf v) (namedDrive v) true x → ⊥) →
+      getD (worldLeft v .host) x 0 ≡ getD (v .world .host) x 0
   nothing-of-the-rest x outside other = block-keeps-host v x (λ there. none (host-written-exactly v x .1 there))
     where
-      none : HostWritten v x → ⊥
-      none (inl word) = outside word
-      none (inr (inl (is, among))) = subst (λ (p : Plan). makes v p t) (same-plan plan Report (sym (m .1 .0) ∙ reports v is)) (m .1 .1)
-      none (inr (inr (s, ((q, (is, mk)), (way, here))))) =
-          other (rw (← one-transfer q s (same-plan plan q (sym (m .1 .0) ∙ is)) mk) at here)
+      none : WritesHost v x → ⊥
+      none (status-word word) = outside word
+      none (report among) = let a = rw no-words at among in omega arith
+      none (moved here) = other here
 
   -- The disk's bytes for the sectors that came: byte k of them stands in host memory at its place in the pieces, where no later
   -- byte takes that place and word 1 does not lie there.
   module _
-      (k : ℕ) (came : k < effectOf v .sectors * B (t .geometry)) (inside : t .host-byte k < length (v .world .host))
-      (last : (i : ℕ) → k < i → i < effectOf v .sectors * B (t .geometry) → t .host-byte i ≡ t .host-byte k → ⊥)
+      (k : ℕ) (came : k < comes (askedOf v) (namedDrive v) .sectors * B (t .geometry)) (inside : t .host-byte k < length (v .world .host))
+      (last : (i : ℕ) → k < i → i < comes (askedOf v) (namedDrive v) .sectors * B (t .geometry) → t .host-byte i ≡ t .host-byte k → ⊥)
       (outside : Among (v .at + 2) 2 (t .host-byte k) → ⊥) where
-    abbrev begun : Buffers → Buffers
-    begun b = after (bytesFrom hostByte (v .at + 2) (0x81 ∷ 0x00 ∷ [])) b
+    abbrev marked : Buffers → Buffers
+    marked b = after (begun (v .at)) b
+
+    -- What performing stores: the 81 00 and the data.
+    stores-are : performance v .stores ≡ begun (v .at) ++ dataOn (namedDrive v .image) t
+    unfolding bytesFrom
+    stores-are =
+        ap (λ (verd : Verdict). judged (v .world .host) (namedDrive v) (v .at) verd .stores) (accepted .judged-so)
+        ∙ ap (λ (r : Report). begun (v .at) ++ dataOn (namedDrive v .image) (transferOf (v .world .host) (namedDrive v .unit) (accepted .plan .moving)) ++ reported (v .at) r) (accepted .silent)
+        ∙ append-nil _
+        ∙ ap (λ (verd : Verdict). begun (v .at) ++ dataOn (namedDrive v .image) (transferOf (v .world .host) (namedDrive v .unit) (movingOf verd))) (sym (accepted .judged-so))
 
     data-there :
         (b : Buffers) → b .image ≡ namedDrive v .image → length (b .host) ≡ length (v .world .host) →
         getD (after (effectOf v .stores) b .host) (t .host-byte k) 0 ≡ getD (namedDrive v .image) (diskByte (t .geometry) (t .place) k) 0
     data-there b same long =
-        let s = stages v plan (m .1 .0) in
-        let d = made v plan t (m .1 .0) (m .1 .1) in
-        let begin = bytesFrom hostByte (v .at + 2) (0x81 ∷ 0x00 ∷ []) in
-        let close = finish (blockOf v) (v .at) (v .index) (s .answer) (travels v plan) in
-        let marked-image : begun b .image ≡ namedDrive v .image = ap (λ (x : Buffers). x .image) (host-bytes-stored (0x81 ∷ 0x00 ∷ []) (v .at + 2) b) ∙ same in
-        let amount : effectOf v .sectors ≡ progressOn (begun b .image) t .sectors =
-        d .1 ∙ ap (λ (i : List ℕ). progressOn i t .sectors) (sym marked-image) in
-        ap (λ ss. getD (after ss b .host) (t .host-byte k) 0) (s .stores)
-        ∙ ap (λ (x : Buffers). getD (x .host) (t .host-byte k) 0) (after-append (begin ++ between v plan) close b)
-        ∙ unstored-stays close (after (begin ++ between v plan) b) (hostByte (t .host-byte k))
-        (λ there. outside (finish-host (blockOf v) (v .at) (v .index) (s .answer) (travels v plan) (t .host-byte k) there))
-        ∙ ap (λ (x : Buffers). getD (x .host) (t .host-byte k) 0) (after-append begin (between v plan) b)
-        ∙ ap (λ ss. getD (after ss (begun b) .host) (t .host-byte k) 0) (d .0 ∙ ap (λ (i : List ℕ). dataOn i t) (sym marked-image))
-        ∙ host-has-byte (begun b) t reads k (rw amount at came) (omega (arith, lengths-stay begin b))
+        let close = finish (blockOf v) (v .at) (v .index) (performance v .answer) (performance v .travel) in
+        let data-stores = dataOn (namedDrive v .image) t in
+        let marked-image : marked b .image ≡ namedDrive v .image = ap (λ (x : Buffers). x .image) (host-bytes-stored (0x81 ∷ 0x00 ∷ []) (v .at + 2) b) ∙ same in
+        let amount : comes (askedOf v) (namedDrive v) .sectors ≡ progressOn (marked b .image) t .sectors =
+        ap (λ (i : List ℕ). progressOn i t .sectors) (sym marked-image) in
+        ap (λ (e : Effect). getD (after (e .stores) b .host) (t .host-byte k) 0) (effect-is v)
+        ∙ ap (λ (x : Buffers). getD (x .host) (t .host-byte k) 0) (after-append (performance v .stores) close b)
+        ∙ unstored-stays close (after (performance v .stores) b) (hostByte (t .host-byte k))
+        (λ there. outside (finish-host (blockOf v) (v .at) (v .index) (performance v .answer) (performance v .travel) (t .host-byte k) there))
+        ∙ ap (λ (ss : List Store). getD (after ss b .host) (t .host-byte k) 0) stores-are
+        ∙ ap (λ (x : Buffers). getD (x .host) (t .host-byte k) 0) (after-append (begun (v .at)) data-stores b)
+        ∙ ap (λ (i : List ℕ). getD (after (dataOn i t) (marked b) .host) (t .host-byte k) 0) (sym marked-image)
+        ∙ host-has-byte (marked b) t reads k (rw amount at came) (omega (arith, lengths-stay (begun (v .at)) b))
         (λ i later less. last i later (rw amount less))
         ∙ ap (λ (i : List ℕ). getD i (diskByte (t .geometry) (t .place) k) 0) marked-image
 

@@ -1,38 +1,33 @@
 -- The footprint is exact: a byte is written, in the paper's words, exactly where some store of the block has it as its target.
--- The stores are taken apart by segment, and the verdict says what comes between the 81 00 and the finish.
+-- The stores are taken apart by movement: what performing stores, the 81 00, the data and the words reported, and then the finish.
 use Prim.Native.Nat.{ℕ, _+_, _*_, _<_}
-use mathlib.Core.Bool.{Bool, true, false, false≢true}
+use mathlib.Core.Bool.{Bool, true, false}
 use mathlib.Core.List.{List, [], _∷_, _++_}
 use mathlib.Core.Logic.{_⊎_, _↔_, inl, inr, ⊎-elim}
-use mathlib.Core.Path.{_≡_, refl, sym, ap}
+use mathlib.Core.Path.{_≡_, refl, sym, ap, subst, _∙_}
+use native.Mathlib.Nat.{zero-mul}
 use native.Mathlib.Omega.{arith}
-use lib.IntN.{ℤ, pos}
+use lib.IntN.{ℤ}
 use lib.ListN.{length}
 use Rattle.wire.specs.Memory.{Among}
 use Rattle.wire.proofs.Promises.{never}
 use Rattle.answers.specs.declared.BlockAnswer.{BlockAnswer}
-use Rattle.answers.specs.declared.Refusal.{Refusal}
 use Rattle.answers.specs.Numbers.{statusOf}
 use Rattle.geometry.specs.Drive.{B}
 use Rattle.iopb.specs.declared.Block.{Block}
 use Rattle.iopb.specs.Errors.{errorByte}
-use Rattle.iopb.specs.Identity.{identityBytes}
-use Rattle.iopb.proofs.Handshake.{asked-by-86, handshake-is-86}
-use Rattle.judge.proofs.LetThrough.{handshake-reports, report-let-through}
-use Rattle.judge.specs.declared.Plan.{Plan}
-use Rattle.judge.specs.declared.Plan.the-variants.{Report, Initialize, Heads, Format, Move}
 use Rattle.judge.specs.declared.Verdict.{Verdict}
 use Rattle.judge.specs.declared.Verdict.the-variants.{Refused, Do}
-use Rattle.transfer.specs.Data.{Transfer, dataOn, diskByte, formatting, moveAt, progressOn}
-use Rattle.transfer.specs.Stores.{Cell, Store, Stored, bytesFrom, eventByte, hostByte, imageByte}
+use Rattle.transfer.specs.Data.{Transfer, dataOn, diskByte, moveAt, progressOn}
+use Rattle.transfer.specs.Progress.{progress}
+use Rattle.transfer.specs.Stores.{Cell, Store, Stored, bytesFrom, eventByte, hostByte, imageByte, upTo}
 use Rattle.transfer.proofs.Stays.{append-stored, bytes-stored, stored-of-append, stored-of-bytes, stored-of-upTo, upTo-stored}
-use Rattle.block.specs.Block.{Effect, dataByte, effectAt, finish, judged, staged, transferOf}
-use Rattle.block.specs.Events.{entry, travelTo}
-use Rattle.demands.specs.Footprint.{EventWritten, HostWritten, ImageWritten, namedDrive, makes, verdictOf}
+use Rattle.block.specs.Block.{Effect, Performance, Words, begun, effectAt, effectOn, finish, finished, judged, reported, transferOf, wordsOf}
+use Rattle.block.specs.Events.{entry}
+use Rattle.block.specs.World.{Drive}
+use Rattle.demands.specs.Footprint.{WritesEvents, WritesHost, WritesImage, askedOf, comes, movingOf, namedDrive, reportOf, transferBy, verdictOf}
+use Rattle.demands.specs.Footprint.HostWritten.{moved, report, status-word}
 use Rattle.demands.specs.Visits.{Visit, blockOf, effectOf}
-use Rattle.block.proofs.Effects.{effect-judged}
-
--- ---- cells
 
 index : Cell → ℕ
 index (hostByte x) = x
@@ -173,240 +168,178 @@ module _ (b : Block) (at i : ℕ) (answer : BlockAnswer) (travel : ℤ) where
       (λ entry-byte. other-kind eventByte (8 * i) (entry b answer travel) (imageByte x) (λ y e. omega arith) entry-byte)
       (stored-of-append (bytesFrom hostByte (at + 2) (statusOf answer ∷ errorByte answer ∷ [])) (bytesFrom eventByte (8 * i) (entry b answer travel)) (imageByte x) there)
 
-  -- The stages write what the 81 00, what comes between and the finish write.
-  module _ (between : List Store) where
-    abbrev begin : List Store
-    begin = bytesFrom hostByte (at + 2) (0x81 ∷ 0x00 ∷ [])
+-- ---- what performing writes
 
-    stages-host : (x : ℕ) → Stored (staged b at i between answer travel) (hostByte x) → Among (at + 2) 2 x ⊎ Stored between (hostByte x)
-    stages-host x there =
-        ⊎-elim
-        (λ earlier.
-        ⊎-elim (λ mark. inl (of-host-row (at + 2) (0x81 ∷ 0x00 ∷ []) x mark)) (λ middle. inr middle)
-        (stored-of-append begin between (hostByte x) earlier))
-        (λ last. inl (finish-host x last))
-        (stored-of-append (begin ++ between) (finish b at i answer travel) (hostByte x) there)
+module _ (host : List ℕ) (d : Drive) (at : ℕ) where
+  abbrev transferred : Verdict → Transfer
+  transferred verd = transferOf host (d .unit) (movingOf verd)
 
-    host-stages : (x : ℕ) → Among (at + 2) 2 x ⊎ Stored between (hostByte x) → Stored (staged b at i between answer travel) (hostByte x)
-    host-stages x (inl word) =
-        append-stored (begin ++ between) (finish b at i answer travel) (hostByte x) (inr (host-finish x word))
-    host-stages x (inr middle) =
-        append-stored (begin ++ between) (finish b at i answer travel) (hostByte x)
-        (inl (append-stored begin between (hostByte x) (inr middle)))
+  abbrev dataStores : Verdict → List Store
+  dataStores verd = dataOn (d .image) (transferred verd)
 
-    stages-image : (x : ℕ) → Stored (staged b at i between answer travel) (imageByte x) → Stored between (imageByte x)
-    unfolding kind
-    stages-image x there =
-        ⊎-elim
-        (λ earlier.
-        ⊎-elim (λ mark. absurd (other-kind hostByte (at + 2) (0x81 ∷ 0x00 ∷ []) (imageByte x) (λ y e. omega arith) mark)) (λ middle. middle)
-        (stored-of-append begin between (imageByte x) earlier))
-        (λ last. absurd (finish-image x last))
-        (stored-of-append (begin ++ between) (finish b at i answer travel) (imageByte x) there)
+  abbrev words : Verdict → Words
+  words verd = wordsOf (reportOf verd)
 
-    image-stages : (x : ℕ) → Stored between (imageByte x) → Stored (staged b at i between answer travel) (imageByte x)
-    image-stages x middle =
-        append-stored (begin ++ between) (finish b at i answer travel) (imageByte x)
-        (inl (append-stored begin between (imageByte x) (inr middle)))
+  abbrev stores : Verdict → List Store
+  stores verd = judged host d at verd .stores
 
--- ---- a block, by its verdict
+  -- How far a block's transfer comes is what the block says: of a refused one, not at all.
+  pub comes-to : (verd : Verdict) → progressOn (d .image) (transferred verd) .sectors ≡ judged host d at verd .sectors
+  unfolding progress
+  comes-to (Refused r) = refl
+  comes-to (Do plan) = refl
+
+  of-three : (xs ys zs : List Store) (c : Cell) → Stored (xs ++ ys ++ zs) c → Stored xs c ⊎ (Stored ys c ⊎ Stored zs c)
+  of-three xs ys zs c there =
+      ⊎-elim (λ early. ⊎-elim (λ x. inl x) (λ y. inr (inl y)) (stored-of-append xs ys c early)) (λ z. inr (inr z))
+      (stored-of-append (xs ++ ys) zs c there)
+
+  three-of : (xs ys zs : List Store) (c : Cell) → Stored xs c ⊎ (Stored ys c ⊎ Stored zs c) → Stored (xs ++ ys ++ zs) c
+  three-of xs ys zs c (inl x) = append-stored (xs ++ ys) zs c (inl (append-stored xs ys c (inl x)))
+  three-of xs ys zs c (inr (inl y)) = append-stored (xs ++ ys) zs c (inl (append-stored xs ys c (inr y)))
+  three-of xs ys zs c (inr (inr z)) = append-stored (xs ++ ys) zs c (inr z)
+
+  module _ (x : ℕ) where
+    Lines : Verdict → Type 0
+    Lines verd =
+        Among (at + 2) 2 x ⊎ (Stored (dataStores verd) (hostByte x) ⊎ Among (at + words verd .from) (length (words verd .bytes)) x)
+
+    performs-host : (verd : Verdict) → Stored (stores verd) (hostByte x) → Lines verd
+    unfolding Lines Stored
+    performs-host (Refused r) there = absurd there
+    performs-host (Do plan) there =
+        ⊎-elim (λ word. inl (of-host-row (at + 2) (0x81 ∷ 0x00 ∷ []) x word))
+        (λ rest. inr (⊎-elim (λ d. inl d) (λ w. inr (of-host-row _ _ x w)) rest))
+        (of-three (begun at) (dataStores (Do plan)) (reported at (plan .report)) (hostByte x) there)
+
+    -- What is moved and what is reported are stored by performing; a refused block has neither.
+    host-data-performed : (verd : Verdict) → Stored (dataStores verd) (hostByte x) → Stored (stores verd) (hostByte x)
+    unfolding Stored dataOn progress upTo
+    host-data-performed (Refused r) there = rw zero-mul at there
+    host-data-performed (Do plan) there =
+        three-of (begun at) (dataStores (Do plan)) (reported at (plan .report)) (hostByte x) (inr (inl there))
+
+    words-performed : (verd : Verdict) → Among (at + words verd .from) (length (words verd .bytes)) x → Stored (stores verd) (hostByte x)
+    words-performed (Refused r) among = absurd (omega arith)
+    words-performed (Do plan) among =
+        three-of (begun at) (dataStores (Do plan)) (reported at (plan .report)) (hostByte x)
+        (inr (inr (in-row hostByte (at + words (Do plan) .from) (words (Do plan) .bytes) x among)))
+
+    performs-image : (verd : Verdict) → Stored (stores verd) (imageByte x) → Stored (dataStores verd) (imageByte x)
+    unfolding Stored kind
+    performs-image (Refused r) there = absurd there
+    performs-image (Do plan) there =
+        ⊎-elim (λ word. absurd (other-kind hostByte (at + 2) (0x81 ∷ 0x00 ∷ []) (imageByte x) (λ y e. omega arith) word))
+        (λ rest. ⊎-elim (λ d. d) (λ w. absurd (other-kind hostByte _ _ (imageByte x) (λ y e. omega arith) w)) rest)
+        (of-three (begun at) (dataStores (Do plan)) (reported at (plan .report)) (imageByte x) there)
+
+    image-data-performed : (verd : Verdict) → Stored (dataStores verd) (imageByte x) → Stored (stores verd) (imageByte x)
+    unfolding Stored dataOn progress upTo
+    image-data-performed (Refused r) there = rw zero-mul at there
+    image-data-performed (Do plan) there =
+        three-of (begun at) (dataStores (Do plan)) (reported at (plan .report)) (imageByte x) (inr (inl there))
+
+    performs-no-event : (verd : Verdict) → Stored (stores verd) (eventByte x) → ⊥
+    unfolding Stored kind
+    performs-no-event (Refused r) there = there
+    performs-no-event (Do plan) there =
+        ⊎-elim (λ word. other-kind hostByte (at + 2) (0x81 ∷ 0x00 ∷ []) (eventByte x) (λ y e. omega arith) word)
+        (λ rest.
+        ⊎-elim (λ m. no-event (d .image) (transferred (Do plan)) x m) (λ w. other-kind hostByte _ _ (eventByte x) (λ y e. omega arith) w) rest)
+        (of-three (begun at) (dataStores (Do plan)) (reported at (plan .report)) (eventByte x) there)
+
+-- ---- a block
 
 module _ (v : Visit) where
-  abbrev image : List ℕ
-  image = namedDrive v .image
+  abbrev pub performance : Performance
+  performance = judged (v .world .host) (namedDrive v) (v .at) (verdictOf v)
 
-  pub effect-is : (verd : Verdict) → verdictOf v ≡ verd → effectOf v ≡ judged (blockOf v) (v .at) (v .index) (v .world .host) (namedDrive v) verd
-  unfolding effectAt
-  effect-is verd is = effect-judged (v .world .host) (namedDrive v) (v .at) (v .index) (blockOf v) verd refl is
+  abbrev closing : List Store
+  closing = finish (blockOf v) (v .at) (v .index) (performance .answer) (performance .travel)
 
-  -- What comes between the 81 00 and the finish.
-  pub between : Plan → List Store
-  between Report = bytesFrom hostByte (v .at + 4) identityBytes
-  between (Initialize g) = []
-  between (Heads c) = []
-  between (Format spot buffer) = dataOn image (formatting (namedDrive v .unit) spot buffer)
-  between (Move j) = dataOn image (transferOf (namedDrive v .unit) j (dataByte (v .world .host) (j .buffer)))
+  -- A block is performed as it is judged, and then finished.
+  pub effect-is : effectOf v ≡ finished (blockOf v) (v .at) (v .index) performance
+  unfolding effectAt effectOn
+  effect-is = refl
 
-  abbrev done : Plan → Effect
-  done plan = judged (blockOf v) (v .at) (v .index) (v .world .host) (namedDrive v) (Do plan)
+  pub sectors-come : comes (askedOf v) (namedDrive v) .sectors ≡ effectOf v .sectors
+  sectors-come =
+      comes-to (v .world .host) (namedDrive v) (v .at) (verdictOf v) ∙ ap (λ (e : Effect). e .sectors) (sym effect-is)
 
-  -- And how far the heads travel.
-  unfoldable pub travels : Plan → ℤ
-  travels Report = pos 0
-  travels (Initialize g) = pos 0
-  travels (Heads c) = travelTo (namedDrive v .unit .cylinder) (done (Heads c) .unit .cylinder)
-  travels (Format s b) = travelTo (namedDrive v .unit .cylinder) (done (Format s b) .unit .cylinder)
-  travels (Move j) = travelTo (namedDrive v .unit .cylinder) (done (Move j) .unit .cylinder)
+  target : (c : Cell) → Stored (performance .stores ++ closing) c → Stored (effectOf v .stores) c
+  target c there = subst (λ (e : Effect). Stored (e .stores) c) (sym effect-is) there
 
-  pub record Stages (plan : Plan) : Type 0 where
-    pub answer : BlockAnswer
-    pub stores : effectOf v .stores ≡ staged (blockOf v) (v .at) (v .index) (between plan) answer (travels plan)
+  of-target : (c : Cell) → Stored (effectOf v .stores) c → Stored (performance .stores) c ⊎ Stored closing c
+  of-target c there = stored-of-append (performance .stores) closing c (subst (λ (e : Effect). Stored (e .stores) c) effect-is there)
 
-  pub stages : (plan : Plan) → verdictOf v ≡ Do plan → Stages plan
-  unfolding between travels
-  stages Report is = record { answer = done Report .answer; stores = ap (λ (e : Effect). e .stores) (effect-is (Do Report) is) }
-  stages (Initialize g) is =
-      record { answer = done (Initialize g) .answer; stores = ap (λ (e : Effect). e .stores) (effect-is (Do (Initialize g)) is) }
-  stages (Heads c) is = record { answer = done (Heads c) .answer; stores = ap (λ (e : Effect). e .stores) (effect-is (Do (Heads c)) is) }
-  stages (Format s b) is =
-      record { answer = done (Format s b) .answer; stores = ap (λ (e : Effect). e .stores) (effect-is (Do (Format s b)) is) }
-  stages (Move j) is = record { answer = done (Move j) .answer; stores = ap (λ (e : Effect). e .stores) (effect-is (Do (Move j)) is) }
+  performed-target : (c : Cell) → Stored (performance .stores) c → Stored (effectOf v .stores) c
+  performed-target c there = target c (append-stored (performance .stores) closing c (inl there))
 
-  -- The transfer that a plan makes has its bytes between, and as many as the block moved.
-  pub made :
-      (plan : Plan) (t : Transfer) → verdictOf v ≡ Do plan → makes v plan t →
-      (between plan ≡ dataOn image t) × (effectOf v .sectors ≡ progressOn image t .sectors)
-  unfolding between
-  made (Move j) t is mk = rw mk (refl, ap (λ (e : Effect). e .sectors) (effect-is (Do (Move j)) is))
-  made (Format s b) t is mk = rw mk (refl, ap (λ (e : Effect). e .sectors) (effect-is (Do (Format s b)) is))
-  made Report t is mk = absurd mk
-  made (Initialize g) t is mk = absurd mk
-  made (Heads c) t is mk = absurd mk
-
-  refused-stores : (r : Refusal) → verdictOf v ≡ Refused r → (a : BlockAnswer) × ((tr : ℤ) × (effectOf v .stores ≡ finish (blockOf v) (v .at) (v .index) a tr))
-  refused-stores r is = (BlockAnswer.Failed r, (pos 0, ap (λ (e : Effect). e .stores) (effect-is (Refused r) is)))
-
-  -- A report is what command 86 comes to.
-  pub reports : blockOf v .command ≡ 0x86 → verdictOf v ≡ Do Report
-  reports is = handshake-reports _ (asked-by-86 (v .world .host) (blockOf v) is)
-
-  pub reports-86 : verdictOf v ≡ Do Report → blockOf v .command ≡ 0x86
-  reports-86 is = handshake-is-86 (v .world .host) (blockOf v) (report-let-through _ is)
+  closing-target : (c : Cell) → Stored closing c → Stored (effectOf v .stores) c
+  closing-target c there = target c (append-stored (performance .stores) closing c (inr there))
 
   -- ---- host bytes
 
   module _ (x : ℕ) where
-    abbrev Target : Type 0
-    Target = Stored (effectOf v .stores) (hostByte x)
-
-    word-stored : (verd : Verdict) → verdictOf v ≡ verd → Among (v .at + 2) 2 x → Target
-    word-stored (Refused r) is word =
-        let s = refused-stores r is in
-        rw (s .1 .1) (host-finish (blockOf v) (v .at) (v .index) (s .0) (s .1 .0) x word)
-    word-stored (Do plan) is word =
-        let s = stages plan is in
-        rw (s .stores) (host-stages (blockOf v) (v .at) (v .index) (s .answer) (travels plan) (between plan) x (inl word))
-
-    middle-stored : (plan : Plan) → verdictOf v ≡ Do plan → Stored (between plan) (hostByte x) → Target
-    middle-stored plan is there =
-        let s = stages plan is in
-        rw (s .stores) (host-stages (blockOf v) (v .at) (v .index) (s .answer) (travels plan) (between plan) x (inr there))
-
-    written-is-stored : HostWritten v x → Target
-    unfolding between
-    written-is-stored (inl word) = word-stored (verdictOf v) refl word
-    written-is-stored (inr (inl (is, among))) = middle-stored Report (reports is) (in-row hostByte (v .at + 4) identityBytes x among)
-    written-is-stored (inr (inr (t, ((plan, (is, mk)), (to, (k, (less, here))))))) =
-        let m = made plan t is mk in
-        middle-stored plan is (rw (m .0) (data-host image t x to (k, (rw (m .1) at less, here))))
-
-    between-is-written : (plan : Plan) → verdictOf v ≡ Do plan → Stored (between plan) (hostByte x) → HostWritten v x
-    unfolding between Stored
-    between-is-written Report is there = inr (inl (reports-86 is, of-host-row (v .at + 4) identityBytes x there))
-    between-is-written (Initialize g) is there = absurd there
-    between-is-written (Heads c) is there = absurd there
-    between-is-written (Format s b) is there =
-        absurd (false≢true (host-data image (formatting (namedDrive v .unit) s b) x there .0))
-    between-is-written (Move j) is there =
-        let t = transferOf (namedDrive v .unit) j (dataByte (v .world .host) (j .buffer)) in
-        let d = host-data image t x there in
-        let m = made (Move j) t is refl in
-        inr (inr (t, ((Move j, (is, refl)), (d .0, (d .1 .0, (rw (m .1) (d .1 .1 .0), d .1 .1 .1))))))
-
-    stored-is-written : (verd : Verdict) → verdictOf v ≡ verd → Target → HostWritten v x
-    stored-is-written (Refused r) is there =
-        let s = refused-stores r is in
-        inl (finish-host (blockOf v) (v .at) (v .index) (s .0) (s .1 .0) x (rw (s .1 .1) at there))
-    stored-is-written (Do plan) is there =
-        let s = stages plan is in
-        ⊎-elim (λ word. inl word) (λ middle. between-is-written plan is middle)
-        (stages-host (blockOf v) (v .at) (v .index) (s .answer) (travels plan) (between plan) x (rw (s .stores) at there))
-
     -- A host byte is written exactly where 01 says.
-    pub host-written-exactly : HostWritten v x ↔ Stored (effectOf v .stores) (hostByte x)
-    host-written-exactly = (written-is-stored, stored-is-written (verdictOf v) refl)
+    pub host-written-exactly : WritesHost v x ↔ Stored (effectOf v .stores) (hostByte x)
+    unfolding Lines
+    host-written-exactly = (forth, back)
+      where
+        forth : WritesHost v x → Stored (effectOf v .stores) (hostByte x)
+        forth (status-word word) =
+            closing-target (hostByte x)
+            (host-finish (blockOf v) (v .at) (v .index) (performance .answer) (performance .travel) x word)
+        forth (report among) =
+            performed-target (hostByte x) (words-performed (v .world .host) (namedDrive v) (v .at) x (verdictOf v) among)
+        forth (moved d) =
+            performed-target (hostByte x)
+            (host-data-performed (v .world .host) (namedDrive v) (v .at) x (verdictOf v)
+            (data-host (namedDrive v .image) (transferBy (askedOf v)) x (d .goes) (d .byte, (d .moved, d .here))))
 
-  -- ---- image bytes, of the named unit's image
+        back : Stored (effectOf v .stores) (hostByte x) → WritesHost v x
+        back there =
+            ⊎-elim
+            (λ early.
+            ⊎-elim (λ word. status-word word)
+            (λ rest.
+            ⊎-elim
+            (λ d.
+            let k = host-data (namedDrive v .image) (transferBy (askedOf v)) x d in
+            moved (record { goes = k .0; byte = k .1 .0; moved = k .1 .1 .0; here = k .1 .1 .1 }))
+            (λ w. report w) rest)
+            (performs-host (v .world .host) (namedDrive v) (v .at) x (verdictOf v) early))
+            (λ late.
+            status-word (finish-host (blockOf v) (v .at) (v .index) (performance .answer) (performance .travel) x late))
+            (of-target (hostByte x) there)
 
-  module _ (x : ℕ) where
-    abbrev Reached : Type 0
-    Reached = Stored (effectOf v .stores) (imageByte x)
-
-    written-is-reached : ImageWritten v x → Reached
-    written-is-reached (t, ((plan, (is, mk)), (from, (k, (less, here))))) =
-        let s = stages plan is in
-        let m = made plan t is mk in
-        rw (s .stores)
-        (image-stages (blockOf v) (v .at) (v .index) (s .answer) (travels plan) (between plan) x
-        (rw (m .0) (data-disk image t x from (k, (rw (m .1) at less, here)))))
-
-    between-reached : (plan : Plan) → verdictOf v ≡ Do plan → Stored (between plan) (imageByte x) → ImageWritten v x
-    unfolding between Stored kind
-    between-reached Report is there = absurd (other-kind hostByte (v .at + 4) identityBytes (imageByte x) (λ y e. omega arith) there)
-    between-reached (Initialize g) is there = absurd there
-    between-reached (Heads c) is there = absurd there
-    between-reached (Format s b) is there =
-        let t = formatting (namedDrive v .unit) s b in
-        let d = disk-data image t x there in
-        let m = made (Format s b) t is refl in
-        (t, ((Format s b, (is, refl)), (d .0, (d .1 .0, (rw (m .1) (d .1 .1 .0), d .1 .1 .1)))))
-    between-reached (Move j) is there =
-        let t = transferOf (namedDrive v .unit) j (dataByte (v .world .host) (j .buffer)) in
-        let d = disk-data image t x there in
-        let m = made (Move j) t is refl in
-        (t, ((Move j, (is, refl)), (d .0, (d .1 .0, (rw (m .1) (d .1 .1 .0), d .1 .1 .1)))))
-
-    reached-is-written : (verd : Verdict) → verdictOf v ≡ verd → Reached → ImageWritten v x
-    reached-is-written (Refused r) is there =
-        let s = refused-stores r is in
-        absurd (finish-image (blockOf v) (v .at) (v .index) (s .0) (s .1 .0) x (rw (s .1 .1) at there))
-    reached-is-written (Do plan) is there =
-        let s = stages plan is in
-        between-reached plan is
-        (stages-image (blockOf v) (v .at) (v .index) (s .answer) (travels plan) (between plan) x (rw (s .stores) at there))
+    -- ---- image bytes, of the named unit's image
 
     -- An image byte is written exactly where a block of 82, A2 or 8C moved a byte to it.
-    pub image-written-exactly : ImageWritten v x ↔ Stored (effectOf v .stores) (imageByte x)
-    image-written-exactly = (written-is-reached, reached-is-written (verdictOf v) refl)
-
-  -- ---- event bytes
-
-  module _ (x : ℕ) where
-    between-no-event : (plan : Plan) → Stored (between plan) (eventByte x) → ⊥
-    unfolding between Stored kind
-    between-no-event Report there = other-kind hostByte (v .at + 4) identityBytes (eventByte x) (λ y e. omega arith) there
-    between-no-event (Initialize g) there = there
-    between-no-event (Heads c) there = there
-    between-no-event (Format s b) there = no-event image (formatting (namedDrive v .unit) s b) x there
-    between-no-event (Move j) there = no-event image (transferOf (namedDrive v .unit) j (dataByte (v .world .host) (j .buffer))) x there
-
-    entry-stored : (verd : Verdict) → verdictOf v ≡ verd → EventWritten v x → Stored (effectOf v .stores) (eventByte x)
-    entry-stored (Refused r) is among =
-        let s = refused-stores r is in
-        rw (s .1 .1) (event-finish (blockOf v) (v .at) (v .index) (s .0) (s .1 .0) x among)
-    entry-stored (Do plan) is among =
-        let s = stages plan is in
-        rw (s .stores)
-        (append-stored (begin (blockOf v) (v .at) (v .index) (s .answer) (travels plan) (between plan) ++ between plan)
-        (finish (blockOf v) (v .at) (v .index) (s .answer) (travels plan)) (eventByte x)
-        (inr (event-finish (blockOf v) (v .at) (v .index) (s .answer) (travels plan) x among)))
-
-    stored-entry : (verd : Verdict) → verdictOf v ≡ verd → Stored (effectOf v .stores) (eventByte x) → EventWritten v x
-    unfolding kind
-    stored-entry (Refused r) is there =
-        let s = refused-stores r is in
-        finish-event (blockOf v) (v .at) (v .index) (s .0) (s .1 .0) x (rw (s .1 .1) at there)
-    stored-entry (Do plan) is there =
-        let s = stages plan is in
-        let mark = bytesFrom hostByte (v .at + 2) (0x81 ∷ 0x00 ∷ []) in
-        ⊎-elim
-        (λ earlier.
-        absurd
-        (⊎-elim (λ m. other-kind hostByte (v .at + 2) (0x81 ∷ 0x00 ∷ []) (eventByte x) (λ y e. omega arith) m) (λ middle. between-no-event plan middle)
-        (stored-of-append mark (between plan) (eventByte x) earlier)))
-        (λ last. finish-event (blockOf v) (v .at) (v .index) (s .answer) (travels plan) x last)
-        (stored-of-append (mark ++ between plan) (finish (blockOf v) (v .at) (v .index) (s .answer) (travels plan)) (eventByte x) (rw (s .stores) at there))
+    pub image-written-exactly : WritesImage v x ↔ Stored (effectOf v .stores) (imageByte x)
+    image-written-exactly = (
+      λ d.
+          performed-target (imageByte x)
+          (image-data-performed (v .world .host) (namedDrive v) (v .at) x (verdictOf v)
+          (data-disk (namedDrive v .image) (transferBy (askedOf v)) x (d .goes) (d .byte, (d .moved, d .here)))),
+      λ there.
+          ⊎-elim
+          (λ early.
+          let k = disk-data (namedDrive v .image) (transferBy (askedOf v)) x
+          (performs-image (v .world .host) (namedDrive v) (v .at) x (verdictOf v) early) in
+          record { goes = k .0; byte = k .1 .0; moved = k .1 .1 .0; here = k .1 .1 .1 })
+          (λ late. absurd (finish-image (blockOf v) (v .at) (v .index) (performance .answer) (performance .travel) x late))
+          (of-target (imageByte x) there),
+    )
 
     -- The event buffer is written exactly in the block's entry: "The rest of the event buffer stays."
-    pub event-written-exactly : EventWritten v x ↔ Stored (effectOf v .stores) (eventByte x)
-    event-written-exactly = (entry-stored (verdictOf v) refl, stored-entry (verdictOf v) refl)
+    pub event-written-exactly : WritesEvents v x ↔ Stored (effectOf v .stores) (eventByte x)
+    event-written-exactly = (
+      λ among.
+          closing-target (eventByte x)
+          (event-finish (blockOf v) (v .at) (v .index) (performance .answer) (performance .travel) x among),
+      λ there.
+          ⊎-elim (λ early. absurd (performs-no-event (v .world .host) (namedDrive v) (v .at) x (verdictOf v) early))
+          (λ late. finish-event (blockOf v) (v .at) (v .index) (performance .answer) (performance .travel) x late)
+          (of-target (eventByte x) there),
+    )

@@ -2,25 +2,100 @@
 -- some store has as its target (proofs/Written): "A byte stored with the number it already had is written." What a block reads of host
 -- memory is defined with demand 3.
 use Prim.Native.Nat.{ℕ, _+_, _*_, _<_}
-use mathlib.Core.Bool.{true, false}
+use mathlib.Core.Bool.{Bool, true, false}
 use mathlib.Core.List.{List, [], _∷_}
 use mathlib.Core.Logic.{_⊎_}
 use mathlib.Core.Path.{_≡_}
 use lib.ListN.{length}
 use Rattle.wire.specs.Memory.{Among}
+use Rattle.geometry.specs.declared.Geometry.{Geometry}
 use Rattle.geometry.specs.Drive.{B}
 use Rattle.iopb.specs.Ask.{taskOf}
-use Rattle.judge.specs.declared.Plan.{Plan}
-use Rattle.judge.specs.declared.Plan.the-variants.{Report, Initialize, Heads, Format, Move}
+use Rattle.judge.specs.declared.Leaving.{Leaving}
+use Rattle.judge.specs.declared.Leaving.the-variants.{AsItWas, HeadsAt, HeadsAtLastTried, Fresh}
+use Rattle.judge.specs.declared.Moving.{Moving}
+use Rattle.judge.specs.declared.Report.{Report}
 use Rattle.judge.specs.declared.Verdict.{Verdict}
 use Rattle.judge.specs.declared.Verdict.the-variants.{Refused, Do}
 use Rattle.judge.specs.Given.{Asked}
 use Rattle.judge.specs.Verdict.{verdict}
 use Rattle.request.specs.declared.UnitNumber.{UnitNumber}
-use Rattle.transfer.specs.Data.{StoppedAtAMark, Transfer, diskByte, formatting}
-use Rattle.block.specs.Block.{dataByte, transferOf, unitAt}
-use Rattle.demands.specs.Visits.{Visit, blockOf, effectOf, fetchedBy}
+use Rattle.transfer.specs.Data.{StoppedAtAMark, Transfer, diskByte, progressOn}
+use Rattle.transfer.specs.Progress.{Progress}
+use Rattle.block.specs.Block.{Words, asking, transferOf, unitAt, wordsOf}
 use Rattle.block.specs.World.{Drive, World, driveOf}
+use Rattle.demands.specs.Visits.{Visit, blockOf, fetchedBy}
+
+-- What a verdict has moved, reported and left: a refused block moves nothing, reports nothing and leaves the record as it was.
+abbrev pub movingOf : Verdict → Moving
+movingOf (Refused r) = Moving.Nothing
+movingOf (Do plan) = plan .moving
+
+abbrev pub reportOf : Verdict → Report
+reportOf (Refused r) = Report.Nothing
+reportOf (Do plan) = plan .report
+
+abbrev pub leavingOf : Verdict → Leaving
+leavingOf (Refused r) = AsItWas
+leavingOf (Do plan) = plan .leaving
+
+-- ---- of what is judged, on a drive
+
+-- The transfer that is made, how far it comes, and the words that are reported.
+abbrev pub transferBy : Asked → Transfer
+transferBy a = transferOf (a .host) (a .unit) (movingOf (verdict a))
+
+abbrev pub comes : Asked → Drive → Progress
+comes a d = progressOn (d .image) (transferBy a)
+
+abbrev pub wordsBy : Asked → Words
+wordsBy a = wordsOf (reportOf (verdict a))
+
+-- Byte x is where the transfer has one of the bytes that it moved: in host memory, going this way; or in the image.
+pub record HostData (a : Asked) (d : Drive) (to-host : Bool) (x : ℕ) : Type 0 where
+  pub goes : transferBy a .to-host ≡ to-host
+  pub byte : ℕ
+  pub moved : byte < comes a d .sectors * B (transferBy a .geometry)
+  pub here : transferBy a .host-byte byte ≡ x
+
+pub record DiskData (a : Asked) (d : Drive) (to-host : Bool) (x : ℕ) : Type 0 where
+  pub goes : transferBy a .to-host ≡ to-host
+  pub byte : ℕ
+  pub moved : byte < comes a d .sectors * B (transferBy a .geometry)
+  pub here : diskByte (transferBy a .geometry) (transferBy a .place) byte ≡ x
+
+-- What a block at an address of host memory writes there.
+pub data HostWritten (at : ℕ) (a : Asked) (d : Drive) (x : ℕ) : Type 0 where
+  -- "word 1 of each fetched block"
+  status-word : Among (at + 2) 2 x → HostWritten at a d x
+  -- "words 2 to 7 for 86": the words that it reports
+  report : Among (at + wordsBy a .from) (length (wordsBy a .bytes)) x → HostWritten at a d x
+  -- "the data bytes that 81 and A1 moved"
+  moved : HostData a d true x → HostWritten at a d x
+
+-- Of the image: the data of 82, A2 and 8C is written.
+abbrev pub ImageWritten : Asked → Drive → ℕ → Type 0
+ImageWritten a d x = DiskData a d false x
+
+-- The unit's record is replaced or its heads move: every accepted block does one or the other, but for 86.
+abbrev pub changes : Leaving → Type 0
+changes AsItWas = ⊥
+changes (HeadsAt c) = Unit {0}
+changes (HeadsAtLastTried s) = Unit {0}
+changes (Fresh g) = Unit {0}
+
+abbrev pub RecordWritten : Asked → Type 0
+RecordWritten a = changes (leavingOf (verdict a))
+
+-- An 87 that succeeds: the record is replaced.
+abbrev pub Renews : Asked → Type 0
+Renews a = (g : Geometry) × (leavingOf (verdict a) ≡ Fresh g)
+
+-- 20, "unreadable sector, DE clear; earlier sectors moved": a mark stops the transfer that is made.
+abbrev pub Stopped : Asked → Drive → Type 0
+Stopped a d = StoppedAtAMark (d .image) (transferBy a)
+
+-- ---- of a block that was fetched
 
 -- The unit that a block names: that of its UN bit, whether it is a handshake, refused or neither (00, demand 3: "the blocks they
 -- fetch name no unit in common").
@@ -32,65 +107,23 @@ abbrev pub namedDrive : Visit → Drive
 namedDrive v = driveOf (v .world) (names v)
 
 abbrev pub askedOf : Visit → Asked
-askedOf v =
-    record {
-      task = taskOf (v .world .host) (blockOf v);
-      unit = namedDrive v .unit;
-      image = length (namedDrive v .image);
-      host = v .world .host;
-    }
+askedOf v = asking (taskOf (v .world .host) (blockOf v)) (namedDrive v) (v .world .host)
 
 abbrev pub verdictOf : Visit → Verdict
 verdictOf v = verdict (askedOf v)
 
--- The transfer that a verdict has a block make, and whether it makes one.
-abbrev pub makes : Visit → Plan → Transfer → Type 0
-makes v (Move j) t = t ≡ transferOf (namedDrive v .unit) j (dataByte (v .world .host) (j .buffer))
-makes v (Format spot buffer) t = t ≡ formatting (namedDrive v .unit) spot buffer
-makes v Report t = ⊥
-makes v (Initialize g) t = ⊥
-makes v (Heads c) t = ⊥
+-- What it writes of host memory and of its unit's image, and in the event buffer: "the 8 bytes at 8(k - 1)", its index being k - 1.
+abbrev pub WritesHost : Visit → ℕ → Type 0
+WritesHost v x = HostWritten (v .at) (askedOf v) (namedDrive v) x
 
-abbrev pub Makes : Visit → Transfer → Type 0
-Makes v t = (plan : Plan) × ((verdictOf v ≡ Do plan) × makes v plan t)
+abbrev pub WritesImage : Visit → ℕ → Type 0
+WritesImage v x = ImageWritten (askedOf v) (namedDrive v) x
 
--- 20, "unreadable sector, DE clear; earlier sectors moved": a mark stops the transfer that the block makes.
-abbrev pub Stopped : Visit → Type 0
-Stopped v = (t : Transfer) × (Makes v t × StoppedAtAMark (namedDrive v .image) t)
+abbrev pub WritesEvents : Visit → ℕ → Type 0
+WritesEvents v x = Among (8 * v .index) 8 x
 
--- Byte x is where a transfer has one of the bytes that it moved: in host memory, or in the image.
-abbrev pub HostData : Visit → Transfer → ℕ → Type 0
-HostData v t x = (k : ℕ) × ((k < effectOf v .sectors * B (t .geometry)) × (t .host-byte k ≡ x))
-
-abbrev pub DiskData : Visit → Transfer → ℕ → Type 0
-DiskData v t x = (k : ℕ) × ((k < effectOf v .sectors * B (t .geometry)) × (diskByte (t .geometry) (t .place) k ≡ x))
-
--- "word 1 of each fetched block, words 2 to 7 for 86, the data bytes that 81 and A1 moved"
-abbrev pub HostWritten : Visit → ℕ → Type 0
-HostWritten v x =
-    Among (v .at + 2) 2 x ⊎
-    (((blockOf v .command ≡ 0x86) × Among (v .at + 4) 12 x) ⊎
-    ((t : Transfer) × (Makes v t × ((t .to-host ≡ true) × HostData v t x))))
-
--- Of the named unit's image: the data of 82, A2 and 8C is written.
-abbrev pub ImageWritten : Visit → ℕ → Type 0
-ImageWritten v x = (t : Transfer) × (Makes v t × ((t .to-host ≡ false) × DiskData v t x))
-
--- "the 8 bytes at 8(k - 1)": a block's index is k - 1.
-abbrev pub EventWritten : Visit → ℕ → Type 0
-EventWritten v x = Among (8 * v .index) 8 x
-
--- The named unit's record is replaced or its heads move: every accepted block does one or the other, but for 86.
-abbrev pub changesRecord : Verdict → Type 0
-changesRecord (Refused r) = ⊥
-changesRecord (Do Report) = ⊥
-changesRecord (Do (Initialize g)) = Unit {0}
-changesRecord (Do (Heads c)) = Unit {0}
-changesRecord (Do (Format spot buffer)) = Unit {0}
-changesRecord (Do (Move j)) = Unit {0}
-
-abbrev pub RecordWritten : Visit → Type 0
-RecordWritten v = changesRecord (verdictOf v)
+abbrev pub WritesRecord : Visit → Type 0
+WritesRecord v = RecordWritten (askedOf v)
 
 -- Some block of a list does.
 abbrev pub Some : (Visit → Type 0) → List Visit → Type 0
@@ -103,13 +136,13 @@ module _ (first allowance : ℕ) (w : World) where
   RunNames n = Some (λ v. names v ≡ n) (fetchedBy first allowance w)
 
   abbrev pub RunWrites : ℕ → Type 0
-  RunWrites x = Some (λ v. HostWritten v x) (fetchedBy first allowance w)
+  RunWrites x = Some (λ v. WritesHost v x) (fetchedBy first allowance w)
 
   abbrev pub RunWritesImage : UnitNumber → ℕ → Type 0
-  RunWritesImage n x = Some (λ v. (names v ≡ n) × ImageWritten v x) (fetchedBy first allowance w)
+  RunWritesImage n x = Some (λ v. (names v ≡ n) × WritesImage v x) (fetchedBy first allowance w)
 
   abbrev pub RunWritesRecord : UnitNumber → Type 0
-  RunWritesRecord n = Some (λ v. (names v ≡ n) × RecordWritten v) (fetchedBy first allowance w)
+  RunWritesRecord n = Some (λ v. (names v ≡ n) × WritesRecord v) (fetchedBy first allowance w)
 
   abbrev pub RunWritesEvents : ℕ → Type 0
-  RunWritesEvents x = Some (λ v. EventWritten v x) (fetchedBy first allowance w)
+  RunWritesEvents x = Some (λ v. WritesEvents v x) (fetchedBy first allowance w)

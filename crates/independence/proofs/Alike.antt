@@ -2,8 +2,7 @@
 -- Its 28 bytes are the same, and so it names the same unit; the judgement reads no byte that is not alike; and of what is done only a
 -- transfer through a list goes by host memory, by bytes that the judgement has read.
 use Prim.Native.Nat.{ℕ, _+_, _<_}
-use mathlib.Core.List.{List}
-use mathlib.Core.Logic.{inl, inr}
+use mathlib.Core.List.{List, _++_}
 use mathlib.Core.Path.{_≡_, refl, sym, _∙_, ap}
 use native.Mathlib.Nat.{zero-add}
 use native.Mathlib.Omega.{arith}
@@ -18,20 +17,28 @@ use Rattle.iopb.specs.Layout.{blockAt, optionsOf}
 use Rattle.memory.specs.Lists.{elementOf}
 use Rattle.memory.proofs.Locality.{element-same}
 use Rattle.judge.specs.declared.Job.{Job}
-use Rattle.judge.specs.declared.Plan.the-variants.{Report, Initialize, Heads, Format, Move}
+use Rattle.judge.specs.declared.Leaving.{Leaving}
+use Rattle.judge.specs.declared.Moving.{Moving}
+use Rattle.judge.specs.declared.Moving.the-variants.{Nothing, Sectors, Track}
+use Rattle.judge.specs.declared.Plan.{Plan}
+use Rattle.judge.specs.declared.Report.{Report}
 use Rattle.judge.specs.declared.Verdict.{Verdict}
 use Rattle.judge.specs.declared.Verdict.the-variants.{Refused, Do}
+use Rattle.judge.specs.Asks.{plan}
 use Rattle.judge.specs.Verdict.{verdict}
-use Rattle.judge.proofs.LetThrough.{move-let-through}
+use Rattle.judge.proofs.LetThrough.{list-let-through}
 use Rattle.judge.proofs.Locality.{block-local}
+use Rattle.transfer.specs.Data.{progressOn}
+use Rattle.transfer.specs.Stores.{Store}
 use Rattle.transfer.proofs.Joined.{joined-same}
-use Rattle.block.specs.Block.{dataByte, judged}
-use Rattle.demands.specs.Footprint.{askedOf, namedDrive, names, verdictOf}
-use Rattle.independence.specs.Reads.{HostRead}
-use Rattle.demands.specs.Visits.{Visit, blockOf, effectOf}
+use Rattle.block.specs.Block.{Performance, asking, begun, dataByte, finished, judged, leftBy, performed, reported, transferOf, travelled}
 use Rattle.block.specs.World.{Drive, World, driveOf}
-use Rattle.block.proofs.Gathered.{moved-same}
+use Rattle.block.proofs.Gathered.{data-same}
+use Rattle.demands.specs.Footprint.{askedOf, namedDrive, names, verdictOf}
+use Rattle.demands.specs.Visits.{Visit, blockOf, effectOf}
 use Rattle.demands.proofs.Written.{effect-is}
+use Rattle.independence.specs.Reads.{ReadsHost}
+use Rattle.independence.specs.Reads.HostRead.{block, its-list, its-uib}
 
 block-same : (h k : List ℕ) (at : ℕ) → ((x : ℕ) → Among at 28 x → getD h x 0 ≡ getD k x 0) → blockAt h at ≡ blockAt k at
 block-same h k at alike =
@@ -62,7 +69,7 @@ block-same h k at alike =
 
 module _
     (v : Visit) (k : World) (long : length (v .world .host) ≡ length (k .host))
-    (alike : (x : ℕ) → HostRead v x → getD (v .world .host) x 0 ≡ getD (k .host) x 0)
+    (alike : (x : ℕ) → ReadsHost v x → getD (v .world .host) x 0 ≡ getD (k .host) x 0)
     (drive : namedDrive v ≡ driveOf k (names v))
   where
     abbrev h : List ℕ
@@ -73,7 +80,7 @@ module _
     there = record { at = v .at; index = v .index; world = k }
 
     pub block-alike : blockOf v ≡ blockOf there
-    block-alike = block-same h (k .host) (v .at) (λ x among. alike x (inl among))
+    block-alike = block-same h (k .host) (v .at) (λ x among. alike x (block among))
 
     pub names-alike : names v ≡ names there
     names-alike = ap unitOf block-alike
@@ -82,41 +89,55 @@ module _
     drive-alike = drive ∙ ap (driveOf k) names-alike
 
     abbrev on : Block → Drive → List ℕ → Verdict
-    on b d host = verdict (record { task = taskOf host b; unit = d .unit; image = length (d .image); host = host })
+    on b d host = verdict (asking (taskOf host b) d host)
 
     pub verdict-alike : verdictOf v ≡ verdictOf there
     verdict-alike =
-        block-local (namedDrive v .unit) (length (namedDrive v .image)) h (k .host) long (blockOf v) (λ x read. alike x (inr (inl (inl read))))
-        (λ x read. alike x (inr (inl (inr read)))) ∙
+        block-local (namedDrive v .unit) (length (namedDrive v .image)) h (k .host) long (blockOf v) (λ x read. alike x (its-uib read))
+        (λ x read. alike x (its-list read)) ∙
         (λ i. on (block-alike i) (drive-alike i) (k .host))
 
     -- Where byte y of the data of a job lies.
-    data-alike : (j : Job) → verdictOf v ≡ Do (Move j) → (b : Buffer) → j .buffer ≡ b → (y : ℕ) → dataByte h b y ≡ dataByte (k .host) b y
-    data-alike j is (Piece at) here y = refl
-    data-alike j is (Elements at n) here y =
+    data-alike :
+        (plan : Plan) (j : Job) → verdictOf v ≡ Do plan → plan .moving ≡ Sectors j → (b : Buffer) → j .buffer ≡ b → (y : ℕ) →
+        dataByte h b y ≡ dataByte (k .host) b y
+    data-alike plan j is moves (Piece at) here y = refl
+    data-alike plan j is moves (Elements at n) here y =
         let same : (i : ℕ) → i < n → elementOf h at i ≡ elementOf (k .host) at i =
-        element-same h (k .host) at n (λ x among. alike x (inr (inl (inr (move-let-through (askedOf v) j is .list at n x here among))))) in
+        element-same h (k .host) at n (λ x among. alike x (its-list (list-let-through (askedOf v) plan j at n x is moves here among))) in
         joined-same (λ i. elementOf h at i .bytes) (λ i. elementOf (k .host) at i .bytes) (λ i. elementOf h at i .address)
         (λ i. elementOf (k .host) at i .address) n 0 y
         (λ t less. rw zero-add (ap (λ e. e .bytes) (same t less), ap (λ e. e .address) (same t less)))
 
-    done-alike :
-        (verd : Verdict) → verdictOf v ≡ verd →
-        judged (blockOf v) (v .at) (v .index) h (namedDrive v) verd ≡ judged (blockOf v) (v .at) (v .index) (k .host) (namedDrive v) verd
-    done-alike (Refused r) is = refl
-    done-alike (Do Report) is = refl
-    done-alike (Do (Initialize g)) is = refl
-    done-alike (Do (Heads c)) is = refl
-    done-alike (Do (Format s b)) is = refl
-    done-alike (Do (Move j)) is =
-        moved-same (namedDrive v .image) (namedDrive v .unit) j (dataByte h (j .buffer)) (dataByte (k .host) (j .buffer))
-        (λ y less. data-alike j is (j .buffer) refl y) (blockOf v) (v .at) (v .index)
+    -- Performing is the same: only the data of a job goes by host memory.
+    performed-alike :
+        (m : Moving) (r : Report) (l : Leaving) → verdictOf v ≡ Do (plan m r l) →
+        performed h (namedDrive v) (v .at) (plan m r l) ≡ performed (k .host) (namedDrive v) (v .at) (plan m r l)
+    performed-alike Nothing r l is = refl
+    performed-alike (Track spot at) r l is = refl
+    performed-alike (Sectors j) r l is =
+        let d = namedDrive v in
+        let p = progressOn (d .image) (transferOf h (d .unit) (Sectors j)) in
+        let left = leftBy (d .unit) (p .sectors) l in
+        ap
+        (λ (ss : List Store).
+        record {
+          stores = begun (v .at) ++ ss ++ reported (v .at) r;
+          unit = left;
+          answer = p .answer;
+          sectors = p .sectors;
+          travel = travelled (d .unit) l left;
+        })
+        (data-same (d .image) (d .unit) j (dataByte h (j .buffer)) (dataByte (k .host) (j .buffer))
+        (λ y less. data-alike (plan (Sectors j) r l) j is refl (j .buffer) refl y))
 
-    by-verdict : (verd : Verdict) → verdictOf v ≡ verd → effectOf v ≡ effectOf there
-    by-verdict verd is =
-        effect-is v verd is ∙ done-alike verd is ∙
-        (λ i. judged (block-alike i) (v .at) (v .index) (k .host) (drive-alike i) verd) ∙
-        sym (effect-is there verd (sym verdict-alike ∙ is))
+    judged-alike : (verd : Verdict) → verdictOf v ≡ verd → judged h (namedDrive v) (v .at) verd ≡ judged (k .host) (namedDrive v) (v .at) verd
+    judged-alike (Refused r) is = refl
+    judged-alike (Do p) is = performed-alike (p .moving) (p .report) (p .leaving) is
 
     pub effect-alike : effectOf v ≡ effectOf there
-    effect-alike = by-verdict (verdictOf v) refl
+    effect-alike =
+        effect-is v
+        ∙ ap (λ (p : Performance). finished (blockOf v) (v .at) (v .index) p) (judged-alike (verdictOf v) refl)
+        ∙ (λ i. finished (block-alike i) (v .at) (v .index) (judged (k .host) (drive-alike i) (v .at) (verdict-alike i)))
+        ∙ sym (effect-is there)

@@ -12,8 +12,8 @@ use Rattle.answers.specs.declared.BlockAnswer.{BlockAnswer}
 use Rattle.request.specs.declared.UnitNumber.{UnitNumber}
 use Rattle.request.specs.declared.UnitNumber.the-variants.{Zero, One}
 use Rattle.unit.proofs.Decided.{same?}
-use Rattle.demands.specs.Footprint.{HostWritten, namedDrive, names}
-use Rattle.independence.specs.Reads.{HostRead}
+use Rattle.demands.specs.Footprint.{WritesHost, namedDrive, names}
+use Rattle.independence.specs.Reads.{ReadsHost}
 use Rattle.demands.specs.Visits.{Visit, blockOf, effectOf, worldLeft}
 use Rattle.block.specs.World.{Drive, World, driveOf}
 use Rattle.demands.proofs.Keeps.{block-keeps-drive, block-keeps-host, block-keeps-lengths}
@@ -116,8 +116,8 @@ module _ (t : Which) (at i : ℕ) where
               link = blockOf v .link;
             };
         left = λ s. leaving t s (worldLeft (visit (worldFor t s)));
-        Reads = Touches t (λ w x. HostRead (visit w) x) (λ w n. names (visit w) ≡ n);
-        Writes = Touches t (λ w x. HostWritten (visit w) x) (λ w n. names (visit w) ≡ n);
+        Reads = Touches t (λ w x. ReadsHost (visit w) x) (λ w n. names (visit w) ≡ n);
+        Writes = Touches t (λ w x. WritesHost (visit w) x) (λ w n. names (visit w) ≡ n);
       }
 
   frame : (s : Both) (c : Cell) → (blockOn .Writes s c → ⊥) → holds (blockOn .left s) c ≡ holds s c
@@ -137,7 +137,7 @@ module _ (t : Which) (at i : ℕ) where
     abbrev k : World
     k = worldFor t u
 
-    alike : (x : ℕ) → HostRead v x → getD (s .host) x 0 ≡ getD (u .host) x 0
+    alike : (x : ℕ) → ReadsHost v x → getD (s .host) x 0 ≡ getD (u .host) x 0
     alike x read = agree .cells (hostByte x) read
 
     same-drive : namedDrive v ≡ driveOf k (names v)

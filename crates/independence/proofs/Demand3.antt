@@ -11,8 +11,8 @@ use lib.ListN.{length}
 use Rattle.wire.proofs.Memory.{range-same}
 use Rattle.answers.specs.declared.RunAnswer.{RunAnswer}
 use Rattle.board.specs.Chain.{nothing, ran}
-use Rattle.demands.specs.Footprint.{HostWritten}
-use Rattle.independence.specs.Reads.{HostRead}
+use Rattle.demands.specs.Footprint.{WritesHost}
+use Rattle.independence.specs.Reads.{ReadsHost}
 use Rattle.demands.specs.Visits.{Passes, fetchedBy, passes?, visits}
 use Rattle.demands.proofs.RunAnswers.{not-passed}
 use Rattle.board.proofs.Runs.{ran-allowance-bad, ran-chain, ran-events-short, ran-first-bad}
@@ -44,14 +44,14 @@ module _ (t : Which) (chain : Chain) where
         out = ap told is;
         left = ap (λ e. leaving t s (e .world)) is;
         reads = λ c r.
-            touched-of t HostRead (fetchedBy first allowance) s _ all c
-            (of-touched t HostRead (blocksOf t allowance nothing first) s _ refl c r);
+            touched-of t ReadsHost (fetchedBy first allowance) s _ all c
+            (of-touched t ReadsHost (blocksOf t allowance nothing first) s _ refl c r);
         writes = λ c r.
-            touched-of t HostWritten (blocksOf t allowance nothing first) s _ refl c
-            (of-touched t HostWritten (fetchedBy first allowance) s _ all c r);
+            touched-of t WritesHost (blocksOf t allowance nothing first) s _ refl c
+            (of-touched t WritesHost (fetchedBy first allowance) s _ all c r);
         written = λ c r.
-            touched-of t HostWritten (fetchedBy first allowance) s _ all c
-            (of-touched t HostWritten (blocksOf t allowance nothing first) s _ refl c r);
+            touched-of t WritesHost (fetchedBy first allowance) s _ all c
+            (of-touched t WritesHost (blocksOf t allowance nothing first) s _ refl c r);
       }
 
   -- A run that is refused does nothing, and its answer goes by the lengths of the event buffer and of host memory.
@@ -116,9 +116,9 @@ module _ (t : Which) (chain : Chain) where
       record {
         out = refused-out s refused;
         left = ap (leaving t s) (not-passed first allowance w refused) ∙ left-as-found t s;
-        reads = λ c r. touched-of t HostRead (fetchedBy first allowance) s [] none c (none-touched t HostRead s c r);
-        writes = λ c r. touched-none t HostWritten s c (of-touched t HostWritten (fetchedBy first allowance) s [] none c r);
-        written = λ c r. touched-of t HostWritten (fetchedBy first allowance) s [] none c (none-touched t HostWritten s c r);
+        reads = λ c r. touched-of t ReadsHost (fetchedBy first allowance) s [] none c (none-touched t ReadsHost s c r);
+        writes = λ c r. touched-none t WritesHost s c (of-touched t WritesHost (fetchedBy first allowance) s [] none c r);
+        written = λ c r. touched-of t WritesHost (fetchedBy first allowance) s [] none c (none-touched t WritesHost s c r);
       }
 
   passes-alike :

@@ -15,8 +15,8 @@ use Rattle.answers.specs.declared.RunAnswer.{RunAnswer}
 use Rattle.answers.specs.Numbers.{refusalNumber}
 use Rattle.request.specs.declared.UnitNumber.{UnitNumber}
 use Rattle.board.specs.Chain.{Ending, Tally, counted, fetched, follows}
-use Rattle.demands.specs.Footprint.{HostWritten, Some, names}
-use Rattle.independence.specs.Reads.{HostRead}
+use Rattle.demands.specs.Footprint.{WritesHost, Some, names}
+use Rattle.independence.specs.Reads.{ReadsHost}
 use Rattle.demands.specs.Visits.{Visit, blockOf, effectOf, onwards, visits, worldLeft}
 use Rattle.block.specs.World.{World}
 use Rattle.board.proofs.Chains.{fetched-bad, fetched-spent}
@@ -159,8 +159,8 @@ module _ (t : Which) where
       record {
         out = λ s. told (fetched left tally at (worldFor t s));
         left = λ s. leaving t s (fetched left tally at (worldFor t s) .world);
-        Reads = Touches t (Bytes HostRead (blocksOf left tally at)) (Units (blocksOf left tally at));
-        Writes = Touches t (Bytes HostWritten (blocksOf left tally at)) (Units (blocksOf left tally at));
+        Reads = Touches t (Bytes ReadsHost (blocksOf left tally at)) (Units (blocksOf left tally at));
+        Writes = Touches t (Bytes WritesHost (blocksOf left tally at)) (Units (blocksOf left tally at));
       }
 
   -- A chain that fetches nothing.
@@ -172,9 +172,9 @@ module _ (t : Which) where
         record {
           out = out;
           left = ap (leaving t s) same ∙ left-as-found t s;
-          reads = λ c w. touched-of HostRead (blocksOf left tally at) s [] none c (none-touched HostRead s c w);
-          writes = λ c w. touched-none HostWritten s c (of-touched HostWritten (blocksOf left tally at) s [] none c w);
-          written = λ c w. touched-of HostWritten (blocksOf left tally at) s [] none c (none-touched HostWritten s c w);
+          reads = λ c w. touched-of ReadsHost (blocksOf left tally at) s [] none c (none-touched ReadsHost s c w);
+          writes = λ c w. touched-none WritesHost s c (of-touched WritesHost (blocksOf left tally at) s [] none c w);
+          written = λ c w. touched-of WritesHost (blocksOf left tally at) s [] none c (none-touched WritesHost s c w);
         }
 
   -- What follows a block.
@@ -212,20 +212,20 @@ module _ (t : Which) where
     here-as-there : blocksOf k tally at (worldFor t s′) ≡ blocksOf k tally at w
     here-as-there = ap (blocksOf k tally at) (world-left t s w)
 
-    following-reads : (a : BlockAnswer) (linked : Bool) (c : Cell) → following k a linked tally at .Reads s′ c → Of HostRead (blocks a linked) c
-    following-reads (Failed r) linked c r′ = none-touched HostRead s′ c r′
-    following-reads Ended false c r′ = none-touched HostRead s′ c r′
-    following-reads Ended true c r′ = of-touched HostRead (blocksOf k tally at) s′ _ here-as-there c r′
+    following-reads : (a : BlockAnswer) (linked : Bool) (c : Cell) → following k a linked tally at .Reads s′ c → Of ReadsHost (blocks a linked) c
+    following-reads (Failed r) linked c r′ = none-touched ReadsHost s′ c r′
+    following-reads Ended false c r′ = none-touched ReadsHost s′ c r′
+    following-reads Ended true c r′ = of-touched ReadsHost (blocksOf k tally at) s′ _ here-as-there c r′
 
-    following-writes : (a : BlockAnswer) (linked : Bool) (c : Cell) → Of HostWritten (blocks a linked) c → following k a linked tally at .Writes s′ c
-    following-writes (Failed r) linked c w′ = touched-none HostWritten s′ c w′
-    following-writes Ended false c w′ = touched-none HostWritten s′ c w′
-    following-writes Ended true c w′ = touched-of HostWritten (blocksOf k tally at) s′ _ here-as-there c w′
+    following-writes : (a : BlockAnswer) (linked : Bool) (c : Cell) → Of WritesHost (blocks a linked) c → following k a linked tally at .Writes s′ c
+    following-writes (Failed r) linked c w′ = touched-none WritesHost s′ c w′
+    following-writes Ended false c w′ = touched-none WritesHost s′ c w′
+    following-writes Ended true c w′ = touched-of WritesHost (blocksOf k tally at) s′ _ here-as-there c w′
 
-    following-written : (a : BlockAnswer) (linked : Bool) (c : Cell) → following k a linked tally at .Writes s′ c → Of HostWritten (blocks a linked) c
-    following-written (Failed r) linked c w′ = none-touched HostWritten s′ c w′
-    following-written Ended false c w′ = none-touched HostWritten s′ c w′
-    following-written Ended true c w′ = of-touched HostWritten (blocksOf k tally at) s′ _ here-as-there c w′
+    following-written : (a : BlockAnswer) (linked : Bool) (c : Cell) → following k a linked tally at .Writes s′ c → Of WritesHost (blocks a linked) c
+    following-written (Failed r) linked c w′ = none-touched WritesHost s′ c w′
+    following-written Ended false c w′ = none-touched WritesHost s′ c w′
+    following-written Ended true c w′ = of-touched WritesHost (blocksOf k tally at) s′ _ here-as-there c w′
 
   -- A chain whose address is good is its block and then what follows.
   module _ (k : ℕ) (tally : Tally) (at : ℕ) where
@@ -253,16 +253,16 @@ module _ (t : Which) where
           out = ap told (fetched-step k tally at w good) ∙ following-out k s w′ tally′ link a l;
           left = ap (λ e. leaving t s (e .world)) (fetched-step k tally at w good) ∙ following-left k s w′ tally′ link a l;
           reads = λ c r.
-              touched-of HostRead (blocksOf (suc k) tally at) s (v ∷ vs) all c
-              (of-one-more HostRead at (tally .blocks) s vs c
+              touched-of ReadsHost (blocksOf (suc k) tally at) s (v ∷ vs) all c
+              (of-one-more ReadsHost at (tally .blocks) s vs c
               (⊎-elim (λ here. inl here) (λ later. inr (following-reads k s w′ tally′ link a l c later)) r));
           writes = λ c u.
               ⊎-elim (λ here. inl here) (λ later. inr (following-writes k s w′ tally′ link a l c later))
-              (one-more-of HostWritten at (tally .blocks) s vs c
-              (of-touched HostWritten (blocksOf (suc k) tally at) s (v ∷ vs) all c u));
+              (one-more-of WritesHost at (tally .blocks) s vs c
+              (of-touched WritesHost (blocksOf (suc k) tally at) s (v ∷ vs) all c u));
           written = λ c u.
-              touched-of HostWritten (blocksOf (suc k) tally at) s (v ∷ vs) all c
-              (of-one-more HostWritten at (tally .blocks) s vs c
+              touched-of WritesHost (blocksOf (suc k) tally at) s (v ∷ vs) all c
+              (of-one-more WritesHost at (tally .blocks) s vs c
               (⊎-elim (λ here. inl here) (λ later. inr (following-written k s w′ tally′ link a l c later)) u));
         }
 

@@ -8,8 +8,8 @@ use Rattle.request.specs.declared.UnitNumber.{UnitNumber}
 use Rattle.request.specs.declared.UnitNumber.the-variants.{Zero, One}
 use Rattle.transfer.specs.Stores.{Buffers, Stored, after, hostByte}
 use Rattle.block.specs.Block.{worldAfter}
-use Rattle.demands.specs.Footprint.{HostWritten, namedDrive, names}
-use Rattle.independence.specs.Reads.{HostRead}
+use Rattle.demands.specs.Footprint.{WritesHost, namedDrive, names}
+use Rattle.independence.specs.Reads.{ReadsHost}
 use Rattle.demands.specs.Visits.{Visit, effectOf, worldLeft}
 use Rattle.block.specs.World.{World, buffersOf, changed, driveOf}
 use Rattle.demands.proofs.Keeps.{buffers-left}
@@ -29,7 +29,7 @@ unit-left v = by-unit (names v) _
 
 module _
     (v : Visit) (k : World) (long : length (v .world .host) ≡ length (k .host))
-    (alike : (x : ℕ) → HostRead v x → getD (v .world .host) x 0 ≡ getD (k .host) x 0)
+    (alike : (x : ℕ) → ReadsHost v x → getD (v .world .host) x 0 ≡ getD (k .host) x 0)
     (drive : namedDrive v ≡ driveOf k (names v)) (events : v .world .events ≡ k .events)
   where
     abbrev v′ : Visit
@@ -44,13 +44,13 @@ module _
     same-name : n ≡ names v′
     same-name = names-alike v k long alike drive
 
-    met : Meet (λ x. HostRead v x) (buffersOf (v .world) n) (buffersOf k n)
+    met : Meet (λ x. ReadsHost v x) (buffersOf (v .world) n) (buffersOf k n)
     met = record { long = long; host = alike; image = ap (λ d. d .image) drive; events = events }
 
     left-alike :
-        Meet (λ x. HostRead v x ⊎ Stored (effectOf v .stores) (hostByte x)) (after (effectOf v .stores) (buffersOf (v .world) n))
+        Meet (λ x. ReadsHost v x ⊎ Stored (effectOf v .stores) (hostByte x)) (after (effectOf v .stores) (buffersOf (v .world) n))
         (after (effectOf v .stores) (buffersOf k n))
-    left-alike = stores-meet (effectOf v .stores) (λ x. HostRead v x) _ _ met (λ x from. sources-are-read v x from)
+    left-alike = stores-meet (effectOf v .stores) (λ x. ReadsHost v x) _ _ met (λ x from. sources-are-read v x from)
 
     -- What the block leaves of its buffers in the other world, by its effect in this one.
     left-there : buffersOf (worldLeft v′) n ≡ after (effectOf v .stores) (buffersOf k n)
@@ -58,7 +58,7 @@ module _
         ap (buffersOf (worldLeft v′)) same-name ∙ buffers-left v′ ∙
         (λ i. after (sym same-effect i .stores) (buffersOf k (sym same-name i)))
 
-    pub host-alike : (x : ℕ) → HostWritten v x → getD (worldLeft v .host) x 0 ≡ getD (worldLeft v′ .host) x 0
+    pub host-alike : (x : ℕ) → WritesHost v x → getD (worldLeft v .host) x 0 ≡ getD (worldLeft v′ .host) x 0
     host-alike x written =
         ap (λ (m : Buffers). getD (m .host) x 0) (buffers-left v) ∙ left-alike .host x (inr (host-written-exactly v x .0 written)) ∙
         sym (ap (λ (m : Buffers). getD (m .host) x 0) left-there)
@@ -80,7 +80,7 @@ module _
     drive-left-alike = λ i. record { unit = record-alike i; image = image-alike i }
 
     -- It writes the same bytes there.
-    pub written-alike : (x : ℕ) → HostWritten v x ↔ HostWritten v′ x
+    pub written-alike : (x : ℕ) → WritesHost v x ↔ WritesHost v′ x
     written-alike x = (
       λ written. host-written-exactly v′ x .1 (rw same-effect at (host-written-exactly v x .0 written)),
       λ written. host-written-exactly v x .1 (rw (← same-effect) at (host-written-exactly v′ x .0 written)),

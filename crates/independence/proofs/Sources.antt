@@ -4,30 +4,26 @@ use Prim.Native.Nat.{ℕ, zero, suc, _+_, _*_, _<_}
 use mathlib.Core.Bool.{Bool, true, false}
 use mathlib.Core.List.{List, [], _∷_, _++_}
 use mathlib.Core.Logic.{_⊎_, inl, inr, ⊎-elim}
-use mathlib.Core.Path.{_≡_, refl, ap}
+use mathlib.Core.Path.{_≡_, refl, ap, subst}
 use native.Mathlib.Omega.{arith}
-use lib.IntN.{ℤ, pos}
+use lib.IntN.{ℤ}
 use Rattle.answers.specs.declared.BlockAnswer.{BlockAnswer}
 use Rattle.answers.specs.Numbers.{statusOf}
 use Rattle.geometry.specs.Drive.{B}
 use Rattle.iopb.specs.declared.Block.{Block}
 use Rattle.iopb.specs.Errors.{errorByte}
-use Rattle.iopb.specs.Identity.{identityBytes}
-use Rattle.judge.specs.declared.Plan.{Plan}
-use Rattle.judge.specs.declared.Plan.the-variants.{Report, Initialize, Heads, Format, Move}
 use Rattle.judge.specs.declared.Verdict.{Verdict}
 use Rattle.judge.specs.declared.Verdict.the-variants.{Refused, Do}
-use Rattle.unit.specs.declared.Record.{Record}
-use Rattle.unit.specs.Landing.{spotOf}
-use Rattle.transfer.specs.Progress.{lastTried}
-use Rattle.transfer.specs.Data.{Transfer, dataOn, formatting, moveAt, progressOn}
+use Rattle.transfer.specs.Data.{Transfer, dataOn, moveAt, progressOn}
 use Rattle.transfer.specs.Stores.{Cell, Store, Value, bytesFrom, copyOf, eventByte, hostByte, imageByte, number, upTo}
-use Rattle.block.specs.Block.{dataByte, finish, staged, transferOf}
-use Rattle.block.specs.Events.{entry, travelTo}
-use Rattle.demands.specs.Footprint.{makes, namedDrive, verdictOf}
-use Rattle.independence.specs.Reads.{HostRead}
+use Rattle.block.specs.Block.{Effect, begun, finish, judged, reported, transferOf, wordsOf}
+use Rattle.block.specs.Events.{entry}
+use Rattle.block.specs.World.{Drive}
+use Rattle.demands.specs.Footprint.{askedOf, movingOf, namedDrive, transferBy, verdictOf}
 use Rattle.demands.specs.Visits.{Visit, blockOf, effectOf}
-use Rattle.demands.proofs.Written.{effect-is, made}
+use Rattle.demands.proofs.Written.{effect-is, performance}
+use Rattle.independence.specs.Reads.{ReadsHost}
+use Rattle.independence.specs.Reads.HostRead.{moved}
 use Rattle.independence.proofs.Meets.{Sourced}
 
 -- ---- where a value comes from
@@ -101,56 +97,29 @@ finish-has-none b at i answer travel x there =
     (λ event. numbers-have-none eventByte (8 * i) (entry b answer travel) x event)
     (of-append (bytesFrom hostByte (at + 2) (statusOf answer ∷ errorByte answer ∷ [])) (bytesFrom eventByte (8 * i) (entry b answer travel)) x there)
 
-staged-sources :
-    (b : Block) (at i : ℕ) (between : List Store) (answer : BlockAnswer) (travel : ℤ) (x : ℕ) →
-    Sourced (staged b at i between answer travel) x → Sourced between x
-staged-sources b at i between answer travel x there =
+-- Of what performing stores only the data has a source.
+performed-sources :
+    (host : List ℕ) (d : Drive) (at : ℕ) (verd : Verdict) (x : ℕ) → Sourced (judged host d at verd .stores) x →
+    Sourced (dataOn (d .image) (transferOf host (d .unit) (movingOf verd))) x
+unfolding Sourced
+performed-sources host d at (Refused r) x there = absurd there
+performed-sources host d at (Do p) x there =
     ⊎-elim
     (λ earlier.
     ⊎-elim (λ mark. absurd (numbers-have-none hostByte (at + 2) (0x81 ∷ 0x00 ∷ []) x mark)) (λ middle. middle)
-    (of-append (bytesFrom hostByte (at + 2) (0x81 ∷ 0x00 ∷ [])) between x earlier))
-    (λ last. absurd (finish-has-none b at i answer travel x last))
-    (of-append (bytesFrom hostByte (at + 2) (0x81 ∷ 0x00 ∷ []) ++ between) (finish b at i answer travel) x there)
+    (of-append (begun at) (dataOn (d .image) (transferOf host (d .unit) (p .moving))) x earlier))
+    (λ words. absurd (numbers-have-none hostByte (at + wordsOf (p .report) .from) (wordsOf (p .report) .bytes) x words))
+    (of-append (begun at ++ dataOn (d .image) (transferOf host (d .unit) (p .moving))) (reported at (p .report)) x there)
 
 module _ (v : Visit) (x : ℕ) where
-  abbrev u : Record
-  u = namedDrive v .unit
-
-  abbrev image : List ℕ
-  image = namedDrive v .image
-
-  data-read : (plan : Plan) (t : Transfer) → verdictOf v ≡ Do plan → makes v plan t → Sourced (dataOn (namedDrive v .image) t) x → HostRead v x
-  data-read plan t is mk there =
-      let d = data-sources (namedDrive v .image) t x there in
-      inr (inr (t, ((plan, (is, mk)), (d .0, (d .1 .0, (rw (made v plan t is mk .1) (d .1 .1 .0), d .1 .1 .1))))))
-
-  by-verdict : (verd : Verdict) → verdictOf v ≡ verd → Sourced (effectOf v .stores) x → HostRead v x
-  unfolding Sourced
-  by-verdict (Refused r) is there =
-      absurd (finish-has-none (blockOf v) (v .at) (v .index) (BlockAnswer.Failed r) (pos 0) x (rw (effect-is v (Refused r) is) at there))
-  by-verdict (Do Report) is there =
-      absurd
-      (numbers-have-none hostByte (v .at + 4) identityBytes x
-      (staged-sources (blockOf v) (v .at) (v .index) (bytesFrom hostByte (v .at + 4) identityBytes) BlockAnswer.Ended (pos 0) x
-      (rw (effect-is v (Do Report) is) at there)))
-  by-verdict (Do (Initialize g)) is there =
-      absurd
-      (staged-sources (blockOf v) (v .at) (v .index) [] BlockAnswer.Ended (pos 0) x (rw (effect-is v (Do (Initialize g)) is) at there))
-  by-verdict (Do (Heads c)) is there =
-      absurd
-      (staged-sources (blockOf v) (v .at) (v .index) [] BlockAnswer.Ended (travelTo (u .cylinder) c) x
-      (rw (effect-is v (Do (Heads c)) is) at there))
-  by-verdict (Do (Format s b)) is there =
-      let t = formatting u s b in
-      data-read (Format s b) t is refl
-      (staged-sources (blockOf v) (v .at) (v .index) (dataOn image t) (progressOn image t .answer) (travelTo (u .cylinder) (s .cylinder)) x
-      (rw (effect-is v (Do (Format s b)) is) at there))
-  by-verdict (Do (Move j)) is there =
-      let t = transferOf u j (dataByte (v .world .host) (j .buffer)) in
-      let last = spotOf u (j .volume) (j .first + lastTried (progressOn image t .sectors) (j .count)) in
-      data-read (Move j) t is refl
-      (staged-sources (blockOf v) (v .at) (v .index) (dataOn image t) (progressOn image t .answer)
-      (travelTo (u .cylinder) (last .cylinder)) x (rw (effect-is v (Do (Move j)) is) at there))
-
-  pub sources-are-read : Sourced (effectOf v .stores) x → HostRead v x
-  sources-are-read = by-verdict (verdictOf v) refl
+  pub sources-are-read : Sourced (effectOf v .stores) x → ReadsHost v x
+  sources-are-read there =
+      let p = performance v in
+      ⊎-elim
+      (λ early.
+      let s = data-sources (namedDrive v .image) (transferBy (askedOf v)) x
+      (performed-sources (v .world .host) (namedDrive v) (v .at) (verdictOf v) x early) in
+      moved (record { goes = s .0; byte = s .1 .0; moved = s .1 .1 .0; here = s .1 .1 .1 }))
+      (λ late. absurd (finish-has-none (blockOf v) (v .at) (v .index) (p .answer) (p .travel) x late))
+      (of-append (p .stores) (finish (blockOf v) (v .at) (v .index) (p .answer) (p .travel)) x
+      (subst (λ (e : Effect). Sourced (e .stores) x) (effect-is v) there))

@@ -2,23 +2,28 @@
 -- too, and are no bytes.
 use Prim.Native.Nat.{ℕ}
 use mathlib.Core.Bool.{false}
-use mathlib.Core.Logic.{_⊎_}
-use mathlib.Core.Path.{_≡_}
 use Rattle.wire.specs.Memory.{Among}
+use Rattle.judge.specs.Given.{Asked}
 use Rattle.judge.specs.Reads.{InList, InUib}
-use Rattle.transfer.specs.Data.{Transfer}
-use Rattle.block.specs.World.{World}
-use Rattle.demands.specs.Footprint.{HostData, Makes, Some, askedOf}
+use Rattle.block.specs.World.{Drive, World}
+use Rattle.demands.specs.Footprint.{HostData, Some, askedOf, namedDrive}
 use Rattle.demands.specs.Visits.{Visit, blockOf, fetchedBy}
 
--- "the 28 of each fetched block; a UIB that passed check 12; a list ..; the data of 82, A2 and 8C": the bytes moved, which are all of
--- them, since only 21 would stop a write and no block is answered 21 (demands, never-21).
-abbrev pub HostRead : Visit → ℕ → Type 0
-HostRead v x =
-    Among (v .at) 28 x ⊎
-    ((InUib (askedOf v) (blockOf v .address) 18 x ⊎ InList (askedOf v) x) ⊎
-    ((t : Transfer) × (Makes v t × ((t .to-host ≡ false) × HostData v t x))))
+-- What a block at an address of host memory reads there, where its UIB has an address too.
+pub data HostRead (at uib : ℕ) (a : Asked) (d : Drive) (x : ℕ) : Type 0 where
+  -- "the 28 of each fetched block"
+  block : Among at 28 x → HostRead at uib a d x
+  -- "a UIB that passed check 12"
+  its-uib : InUib a uib 18 x → HostRead at uib a d x
+  -- "a list of 1 to 64 elements .."
+  its-list : InList a x → HostRead at uib a d x
+  -- "the data of 82, A2 and 8C": the bytes moved, which are all of them, since only 21 would stop a write and no block is answered 21
+  -- (demands, never-21)
+  moved : HostData a d false x → HostRead at uib a d x
 
--- What a run reads: some block that it fetches does.
+-- What a block that was fetched reads, and what a run reads: some block that it fetches does.
+abbrev pub ReadsHost : Visit → ℕ → Type 0
+ReadsHost v x = HostRead (v .at) (blockOf v .address) (askedOf v) (namedDrive v) x
+
 abbrev pub RunReads : (first allowance : ℕ) → World → ℕ → Type 0
-RunReads first allowance w x = Some (λ v. HostRead v x) (fetchedBy first allowance w)
+RunReads first allowance w x = Some (λ v. ReadsHost v x) (fetchedBy first allowance w)

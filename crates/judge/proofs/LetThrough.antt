@@ -30,11 +30,16 @@ use Rattle.memory.specs.Lists.{ListGood, Ranges}
 use Rattle.memory.proofs.Decided.{listGood?, ranges?}
 use Rattle.judge.specs.declared.Job.{Job}
 use Rattle.judge.specs.declared.Plan.{Plan}
-use Rattle.judge.specs.declared.Plan.the-variants.{Report, Initialize as Renew, Heads, Format as Fill, Move as Carry}
+use Rattle.judge.specs.declared.Leaving.{Leaving}
+use Rattle.judge.specs.declared.Moving.{Moving}
+use Rattle.judge.specs.declared.Moving.the-variants.{Sectors, Track}
+use Rattle.judge.specs.declared.Report.{Report}
+use Rattle.judge.specs.declared.Report.the-variants.{Nothing, Identity}
 use Rattle.judge.specs.declared.Verdict.{Verdict}
-use Rattle.judge.specs.Asks.{firstChecks, ownChecks, beforeBuffer, bytesOf, checks, found, ofBuffer, planOf}
+use Rattle.judge.specs.Asks.{firstChecks, ownChecks, beforeBuffer, bytesOf, checks, found, jobOf, ofBuffer, only, plan, planOf}
 use Rattle.judge.specs.Checks.{Check, None, first}
 use Rattle.judge.specs.Decided.{covers?}
+use Rattle.judge.specs.Fits.{BufferGood, LeavingFits, PlanFits, SpanGood}
 use Rattle.judge.specs.Given.{Asked, Covers, beginsAt}
 use Rattle.judge.specs.Reads.{InList}
 use Rattle.judge.specs.Verdict.{verdict}
@@ -62,35 +67,28 @@ all-passed (k ∷ ks) p q e =
 so : {P : Type 0} → Dec P → ((P → ⊥) → ⊥) → P
 so d out = by-cases d (λ p. p) (λ no-p. absurd (out no-p))
 
--- A buffer for so many bytes that checks 18 and 19 let through.
-abbrev pub BufferGood : List ℕ → Buffer → ℕ → Type 0
-BufferGood host (Piece at) bytes = InMemory host at bytes
-BufferGood host (Elements at n) bytes = ListGood host at n bytes × Ranges host at n
-
-pub record MoveAccepted (a : Asked) (j : Job) : Type 0 where
-  pub initialized : CountsAsInitialized (a .unit)
-  pub some : 0 < j .count
-  pub sectors : j .first + j .count ≤ volumeSectors (a .unit .geometry) (j .volume)
-  pub image : need (a .unit .geometry) ≤ a .image
-  pub buffer : BufferGood (a .host) (j .buffer) (j .count * B (a .unit .geometry))
-  -- its list, if it has one, is among what is read
-  pub list : (at n x : ℕ) → j .buffer ≡ Elements at n → Among at (8 * n) x → InList a x
-
-pub record FormatAccepted (a : Asked) (spot : Spot) (at : ℕ) : Type 0 where
-  pub initialized : CountsAsInitialized (a .unit)
-  pub track : spot .place + S (a .unit .geometry) ≤ driveSectors (a .unit .geometry)
-  pub cylinder : spot .cylinder < C (a .unit .geometry)
-  pub image : need (a .unit .geometry) ≤ a .image
-  pub buffer : InMemory (a .host) at (B (a .unit .geometry))
-
--- What is known of a plan that was let through.
-abbrev Accepted : Asked → Plan → Type 0
+-- Beside that it fits: what it reports, and the list that it has been judged by.
+abbrev ReportKnown : Task → Report → Type 0
+ReportKnown t Nothing = Unit {0}
 -- only a handshake reports
-Accepted a Report = a .task ≡ Handshake
-Accepted a (Renew g) = Within g
-Accepted a (Heads c) = CountsAsInitialized (a .unit) × (c < C (a .unit .geometry))
-Accepted a (Fill spot buffer) = FormatAccepted a spot buffer
-Accepted a (Carry j) = MoveAccepted a j
+ReportKnown t Identity = t ≡ Handshake
+
+abbrev ListKnown : Asked → Moving → Type 0
+ListKnown a Moving.Nothing = Unit {0}
+ListKnown a (Sectors j) = (at n x : ℕ) → j .buffer ≡ Elements at n → Among at (8 * n) x → InList a x
+ListKnown a (Track spot at) = Unit {0}
+
+-- one that moves sectors reports nothing
+abbrev Quiet : Moving → Report → Type 0
+Quiet Moving.Nothing r = Unit {0}
+Quiet (Sectors j) r = r ≡ Nothing
+Quiet (Track spot at) r = Unit {0}
+
+record Accepted (a : Asked) (p : Plan) : Type 0 where
+  fits : PlanFits (a .unit) (a .image) (a .host) p
+  report : ReportKnown (a .task) (p .report)
+  quiet : Quiet (p .moving) (p .report)
+  list : ListKnown a (p .moving)
 
 module _ (u : Record) (image : ℕ) (host : List ℕ) where
   abbrev asking : Task → Asked
@@ -110,6 +108,9 @@ module _ (u : Record) (image : ℕ) (host : List ℕ) where
   seek-inside v (Is n) c = spot-inside u v n (c .0) .cylinder
   seek-inside v Outside c = absurd c
 
+  heads-only : (t : Task) (l : Leaving) → LeavingFits u l → Accepted (asking t) (only l)
+  heads-only t l fits = record { fits = record { moving = tt; leaving = fits }; report = tt; quiet = tt; list = tt }
+
   by-task : (t : Task) → None (firstChecks (asking t)) → None (ownChecks (asking t) t) → Accepted (asking t) (planOf u t)
   unfolding None
   by-task Unknown (listed, rest) none = absurd (listed tt)
@@ -117,13 +118,20 @@ module _ (u : Record) (image : ℕ) (host : List ℕ) where
       let a = asking (Moves m) in
       let begin = beginsAt u (m .target) in
       let some : 0 < m .count = omega arith in
+      let span : SpanGood u (jobOf m (found begin) .span) =
+      record {
+        some = some;
+        inside = covered (m .target .volume) begin (m .count) some (so (covers? u (m .target .volume) begin (m .count)) inside);
+      } in
       let good = good-buffer a (m .buffer) (bytesOf a m) buffer in
       record {
-        initialized = so (counts? u) initialized;
-        some = some;
-        sectors = covered (m .target .volume) begin (m .count) some (so (covers? u (m .target .volume) begin (m .count)) inside);
-        image = omega arith;
-        buffer = good;
+        fits =
+            record {
+              moving = record { span = span; long = omega arith; buffer = good };
+              leaving = (so (counts? u) initialized, span);
+            };
+        report = tt;
+        quiet = refl;
         list = λ at n x is among.
             let l : ListGood host at n (bytesOf a m) = (rw is at good) .0 in
             record {
@@ -142,23 +150,34 @@ module _ (u : Record) (image : ℕ) (host : List ℕ) where
               among = among;
             };
       }
-  by-task Handshake first none = refl
+  by-task Handshake first none = record { fits = record { moving = tt; leaving = tt }; report = refl; quiet = tt; list = tt }
   by-task (Initialize Misplaced) first (placed, rest) = absurd (placed tt)
-  by-task (Initialize (Uib g)) first (placed, (within, rest)) = so (within? g) within
+  by-task (Initialize (Uib g)) first (placed, (within, rest)) = heads-only _ (Leaving.Fresh g) (so (within? g) within)
   by-task Restore first (initialized, rest) =
       let counts = so (counts? u) initialized in
-      (counts, omega (arith, counts .within .sizes .cylinders))
+      heads-only _ (Leaving.HeadsAt 0) (counts, omega (arith, counts .within .sizes .cylinders))
   by-task (Seek t) first (initialized, (present, (inside, rest))) =
       let begin = beginsAt u t in
+      heads-only _ (Leaving.HeadsAt (spotOf u (t .volume) (found begin) .cylinder))
       (so (counts? u) initialized, seek-inside (t .volume) begin (so (covers? u (t .volume) begin 1) inside))
   by-task (Format k) first (initialized, (inside, (long, (held, rest)))) =
+      let counts = so (counts? u) initialized in
       let on = so (onDrive? (u .geometry) (address (k .cylinder) (k .head) 0)) inside in
       record {
-        initialized = so (counts? u) initialized;
-        track = omega (arith, track-inside u (k .cylinder) (k .head) on, track-whole u (k .cylinder) (k .head));
-        cylinder = track-inside u (k .cylinder) (k .head) on .cylinder;
-        image = omega arith;
-        buffer = so (inMemory? host (k .buffer) (B (u .geometry))) held;
+        fits =
+            record {
+              moving =
+                  record {
+                    some = counts .within .sizes .sectors .0;
+                    track = omega (arith, track-inside u (k .cylinder) (k .head) on, track-whole u (k .cylinder) (k .head));
+                    long = omega arith;
+                    buffer = so (inMemory? host (k .buffer) (B (u .geometry))) held;
+                  };
+              leaving = (counts, track-inside u (k .cylinder) (k .head) on .cylinder);
+            };
+        report = tt;
+        quiet = tt;
+        list = tt;
       }
 
 let-through : (a : Asked) (p : Plan) → verdict a ≡ Verdict.Do p → Accepted a p
@@ -168,22 +187,27 @@ let-through a p e =
     let none = none-of-parts (firstChecks a) (ownChecks a (a .task)) (passed .0) in
     subst (Accepted a) (passed .1) (by-task (a .unit) (a .image) (a .host) (a .task) (none .0) (none .1))
 
-pub move-let-through : (a : Asked) (j : Job) → verdict a ≡ Verdict.Do (Plan.Move j) → MoveAccepted a j
-move-let-through a j e = let-through a (Plan.Move j) e
+-- It fits.
+pub plan-fits : (a : Asked) (p : Plan) → verdict a ≡ Verdict.Do p → PlanFits (a .unit) (a .image) (a .host) p
+plan-fits a p e = let-through a p e .fits
 
-pub format-let-through :
-    (a : Asked) (spot : Spot) (buffer : ℕ) → verdict a ≡ Verdict.Do (Plan.Format spot buffer) → FormatAccepted a spot buffer
-format-let-through a spot buffer e = let-through a (Plan.Format spot buffer) e
+-- The list of a transfer that was let through is among what is read.
+pub list-let-through :
+    (a : Asked) (p : Plan) (j : Job) (at n x : ℕ) → verdict a ≡ Verdict.Do p → p .moving ≡ Sectors j → j .buffer ≡ Elements at n →
+    Among at (8 * n) x → InList a x
+list-let-through a p j at n x e moves is among =
+    (subst (ListKnown a) moves (let-through a p e .list)) at n x is among
 
-pub heads-let-through :
-    (a : Asked) (c : ℕ) → verdict a ≡ Verdict.Do (Plan.Heads c) → CountsAsInitialized (a .unit) × (c < C (a .unit .geometry))
-heads-let-through a c e = let-through a (Plan.Heads c) e
+-- One that moves sectors reports nothing.
+pub quiet-let-through : (a : Asked) (p : Plan) (j : Job) → verdict a ≡ Verdict.Do p → p .moving ≡ Sectors j → p .report ≡ Nothing
+quiet-let-through a p j e moves = subst (λ (m : Moving). Quiet m (p .report)) moves (let-through a p e .quiet)
 
 -- Only a handshake reports, and it always does.
-pub report-let-through : (a : Asked) → verdict a ≡ Verdict.Do Plan.Report → a .task ≡ Handshake
-report-let-through a e = let-through a Plan.Report e
+pub report-let-through : (a : Asked) (p : Plan) → verdict a ≡ Verdict.Do p → p .report ≡ Identity → a .task ≡ Handshake
+report-let-through a p e reports = subst (ReportKnown (a .task)) reports (let-through a p e .report)
 
-pub handshake-reports : (a : Asked) → a .task ≡ Handshake → verdict a ≡ Verdict.Do Plan.Report
+pub handshake-reports :
+    (a : Asked) → a .task ≡ Handshake → verdict a ≡ Verdict.Do (plan Moving.Nothing Report.Identity Leaving.AsItWas)
 handshake-reports a is =
-    subst (λ (t : Task). verdict (asking (a .unit) (a .image) (a .host) t) ≡ Verdict.Do Plan.Report) (sym is)
+    subst (λ (t : Task). verdict (asking (a .unit) (a .image) (a .host) t) ≡ Verdict.Do (plan Moving.Nothing Report.Identity Leaving.AsItWas)) (sym is)
     (handshake (record { «record» = a .unit; image = a .image }) (a .host))

@@ -17,14 +17,16 @@ use Rattle.request.specs.declared.Target.{Target}
 use Rattle.request.specs.declared.Task.{Task}
 use Rattle.request.specs.declared.Track.{Track}
 use Rattle.unit.specs.declared.Record.{Record}
-use Rattle.unit.specs.Landing.{spotOf, trackOf}
+use Rattle.unit.specs.Landing.{spotOf}
 use Rattle.unit.specs.Standing.{CountsAsInitialized}
 use Rattle.memory.specs.Lists.{ListGood, Ranges}
 use Rattle.wire.specs.Memory.{InMemory}
-use Rattle.judge.specs.declared.Plan.{Plan}
+use Rattle.judge.specs.declared.Leaving.{Leaving}
+use Rattle.judge.specs.declared.Moving.{Moving}
+use Rattle.judge.specs.declared.Report.{Report}
 use Rattle.judge.specs.declared.Standing.{Standing}
 use Rattle.judge.specs.declared.Verdict.{Verdict}
-use Rattle.judge.specs.Asks.{jobOf, ofUnit, unlisted}
+use Rattle.judge.specs.Asks.{carrying, jobOf, ofUnit, only, plan, planOf, unlisted}
 use Rattle.judge.specs.Checks.{None, first}
 use Rattle.judge.specs.Given.{Asked, Covers, HasTrack, asked, beginsAt}
 use Rattle.judge.specs.Verdict.{byItsOwn, fromBuffer, fromSectors, verdict}
@@ -46,7 +48,7 @@ module _ (s : Standing) (host : List ℕ) where
   unfolding verdict
   unknown = stop _ _ _ tt
 
-  pub handshake : verdict (asked Task.Handshake s host) ≡ Verdict.Do Plan.Report
+  pub handshake : verdict (asked Task.Handshake s host) ≡ Verdict.Do (plan Moving.Nothing Report.Identity Leaving.AsItWas)
   unfolding verdict
   handshake = skip _ _ _ never ∙ done _
 
@@ -61,7 +63,7 @@ module _ (s : Standing) (host : List ℕ) where
     unfolding byItsOwn
     shape-outside out = skip _ _ _ never ∙ stop _ _ _ out
 
-    pub shape-given : Within x → byItsOwn (asked (Task.Initialize (Shape.Given x)) s host) ≡ Verdict.Do (Plan.Initialize x)
+    pub shape-given : Within x → byItsOwn (asked (Task.Initialize (Shape.Given x)) s host) ≡ Verdict.Do (only (Leaving.Fresh x))
     unfolding byItsOwn
     shape-given within = skip _ _ _ never ∙ skip _ _ _ (λ n. n within) ∙ done _
 
@@ -71,7 +73,7 @@ module _ (s : Standing) (host : List ℕ) where
   unfolding byItsOwn
   restore-refused not-it = stop _ _ _ not-it
 
-  pub restore-done : CountsAsInitialized u → byItsOwn (asked Task.Restore s host) ≡ Verdict.Do (Plan.Heads 0)
+  pub restore-done : CountsAsInitialized u → byItsOwn (asked Task.Restore s host) ≡ Verdict.Do (only (Leaving.HeadsAt 0))
   unfolding byItsOwn
   restore-done counts = skip _ _ _ (λ n. n counts) ∙ done _
 
@@ -106,7 +108,7 @@ module _ (s : Standing) (host : List ℕ) where
 
         pub seek-done :
             (n : ℕ) → at ≡ Number.Is n → Covers u (t .volume) (Number.Is n) 1 →
-            byItsOwn seek ≡ Verdict.Do (Plan.Heads (spotOf u (t .volume) n .cylinder))
+            byItsOwn seek ≡ Verdict.Do (only (Leaving.HeadsAt (spotOf u (t .volume) n .cylinder)))
         unfolding byItsOwn
         seek-done n is inside =
             skip _ _ _ (λ x. x counts) ∙ skip _ _ _ (λ x. x present) ∙ skip _ _ _ (λ x. x (rw is inside)) ∙ done _ ∙ rw is
@@ -139,7 +141,7 @@ module _ (s : Standing) (host : List ℕ) where
 
           pub format-done :
               InMemory host (k .buffer) (B g) →
-              byItsOwn format ≡ Verdict.Do (Plan.Format (trackOf u (k .cylinder) (k .head)) (k .buffer))
+              byItsOwn format ≡ Verdict.Do (planOf u (Task.Format k))
           unfolding byItsOwn
           format-done held =
               skip _ _ _ (λ n. n counts) ∙ skip _ _ _ (λ n. n has) ∙ skip _ _ _ (λ n. omega arith) ∙ skip _ _ _ (λ n. n held) ∙ done _
@@ -217,7 +219,7 @@ module _ (s : Standing) (host : List ℕ) where
       piece-19 out = rw is (stop _ _ _ out)
 
       pub piece-done :
-          (n : ℕ) → begins ≡ Number.Is n → InMemory host at bytes → fromBuffer moves m ≡ Verdict.Do (Plan.Move (jobOf m n))
+          (n : ℕ) → begins ≡ Number.Is n → InMemory host at bytes → fromBuffer moves m ≡ Verdict.Do (carrying (jobOf m n))
       unfolding fromBuffer
       piece-done n starts held = rw (is, starts) (skip _ _ _ (λ n. n held) ∙ done _)
 
@@ -232,6 +234,6 @@ module _ (s : Standing) (host : List ℕ) where
         list-19 out = rw is (skip _ _ _ (λ n. n good) ∙ stop _ _ _ out)
 
         pub list-done :
-            (n : ℕ) → begins ≡ Number.Is n → Ranges host at k → fromBuffer moves m ≡ Verdict.Do (Plan.Move (jobOf m n))
+            (n : ℕ) → begins ≡ Number.Is n → Ranges host at k → fromBuffer moves m ≡ Verdict.Do (carrying (jobOf m n))
         unfolding fromBuffer
         list-done n starts held = rw (is, starts) (skip _ _ _ (λ n. n good) ∙ skip _ _ _ (λ n. n held) ∙ done _)

@@ -32,7 +32,13 @@ use Rattle.unit.specs.Standing.{CountsAsInitialized}
 use Rattle.unit.proofs.Decided.{counts?}
 use Rattle.wire.specs.Memory.{InMemory, inMemory?}
 use Rattle.judge.specs.declared.Job.{Job}
+use Rattle.judge.specs.declared.Leaving.{Leaving}
+use Rattle.judge.specs.declared.Leaving.the-variants.{AsItWas, HeadsAt, HeadsAtLastTried, Fresh}
+use Rattle.judge.specs.declared.Moving.{Moving}
+use Rattle.judge.specs.declared.Moving.the-variants.{Sectors, Track as Tracked}
 use Rattle.judge.specs.declared.Plan.{Plan}
+use Rattle.judge.specs.declared.Report.{Report}
+use Rattle.judge.specs.declared.Report.the-variants.{Identity}
 use Rattle.judge.specs.Checks.{Check, check}
 use Rattle.judge.specs.Decided.{badPlace?, badShape?, covers?, test?}
 use Rattle.judge.specs.Given.{Asked, BadPlace, BadShape, Covers, HasTrack, beginsAt}
@@ -149,21 +155,35 @@ jobOf m n =
     record {
       «to_host» = m .«to_host»;
       «past_marks» = m .«past_marks»;
-      volume = m .target .volume;
-      first = n;
-      count = m .count;
+      span = record { volume = m .target .volume; first = n; count = m .count };
       buffer = m .buffer;
     }
+
+-- A plan in its three parts: what is moved, what is reported in the block, and what becomes of the unit's record.
+abbrev pub plan : Moving → Report → Leaving → Plan
+plan moving report leaving = record { moving = moving; report = report; leaving = leaving }
+
+-- One that moves and reports nothing, and one that moves sectors: "the heads stand on the cylinder of the last sector tried".
+abbrev pub only : Leaving → Plan
+only leaving = plan Moving.Nothing Report.Nothing leaving
+
+abbrev pub carrying : Job → Plan
+carrying j = plan (Sectors j) Report.Nothing (HeadsAtLastTried (j .span))
 
 -- What is to be done, of a task that no check refuses. A task that some check always refuses has no plan: what stands for it
 -- here is never asked for.
 abbrev pub planOf : Record → Task → Plan
-planOf u Unknown = Plan.Report
-planOf u (Moves m) = Plan.Move (jobOf m (found (beginsAt u (m .target))))
-planOf u Handshake = Plan.Report
-planOf u (Initialize Misplaced) = Plan.Report
-planOf u (Initialize (Uib g)) = Plan.Initialize g
+planOf u Unknown = only AsItWas
+planOf u (Moves m) = carrying (jobOf m (found (beginsAt u (m .target))))
+-- 86 "writes words 2 to 7 with this board's own identity"
+planOf u Handshake = plan Moving.Nothing Identity AsItWas
+planOf u (Initialize Misplaced) = only AsItWas
+-- "87 replaces the unit record"
+planOf u (Initialize (Uib g)) = only (Fresh g)
 -- "89 goes to cylinder 0", "8A goes to the address given"
-planOf u Restore = Plan.Heads 0
-planOf u (Seek t) = Plan.Heads (spotOf u (t .volume) (found (beginsAt u t)) .cylinder)
-planOf u (Format k) = Plan.Format (trackOf u (k .cylinder) (k .head)) (k .buffer)
+planOf u Restore = only (HeadsAt 0)
+planOf u (Seek t) = only (HeadsAt (spotOf u (t .volume) (found (beginsAt u t)) .cylinder))
+-- 8C: "The heads end on the named cylinder."
+planOf u (Format k) =
+    let spot = trackOf u (k .cylinder) (k .head) in
+    plan (Tracked spot (k .buffer)) Report.Nothing (HeadsAt (spot .cylinder))

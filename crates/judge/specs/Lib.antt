@@ -1,6 +1,7 @@
 pub mod Asks
 pub mod Checks
 pub mod Decided
+pub mod Fits
 pub mod Given
 pub mod Reads
 pub mod Table

@@ -17,6 +17,7 @@ use request::Task;
 use request::Track;
 use unit::Landing;
 use unit::Record;
+use unit::Span;
 use unit::Spot;
 use wire::holds;
 ghost use mathlib.Core.Path.{_≡_};
@@ -24,9 +25,8 @@ ghost use Prim.Native.Nat.{_<_};
 ghost use Rattle.geometry.specs.Drive.{B, need, volume, volumeSectors};
 ghost use Rattle.geometry.specs.Limits.{Present};
 ghost use Rattle.judge.specs.Given.{asked, numberOf};
-ghost use Rattle.judge.specs.Asks.{jobOf};
+ghost use Rattle.judge.specs.Asks.{carrying, jobOf, only};
 ghost use Rattle.judge.specs.Verdict.{Begins, byItsOwn, fromBuffer, fromSectors, verdict};
-ghost use Rattle.judge.specs.declared.Plan.{Plan};
 ghost use Rattle.judge.specs.declared.Verdict.{Verdict};
 ghost use Rattle.request.specs.declared.Task.{Task};
 ghost use Rattle.wire.specs.Promise.{Says};
@@ -37,23 +37,40 @@ pub struct Standing {
     pub image: usize,
 }
 
-// Sectors to move: from which number of which volume on, how many, which way, and where the data lies.
+// Sectors to move: which, which way, and where the data lies.
 pub struct Job {
     pub to_host: bool,
     pub past_marks: bool,
-    pub volume: VolumeNumber,
-    pub first: u64,
-    pub count: u16,
+    pub span: Span,
     pub buffer: Buffer,
 }
 
+// What is moved: nothing, sectors, or the bytes of one sector to every sector of a track.
+pub enum Moving {
+    Nothing,
+    Sectors(Job),
+    Track(Spot, u32),
+}
+
+// What is reported in the block: nothing, or what the board is.
+pub enum Report {
+    Nothing,
+    Identity,
+}
+
+// What becomes of the unit's record: it stays as it was, its heads go to a cylinder or to that of the last sector tried, or it is a new one.
+pub enum Leaving {
+    AsItWas,
+    HeadsAt(u16),
+    HeadsAtLastTried(Span),
+    Fresh(Geometry),
+}
+
 // What an accepted block does.
-pub enum Plan {
-    Report,
-    Initialize(Geometry),
-    Heads(u16),
-    Format(Spot, u32),
-    Move(Job),
+pub struct Plan {
+    pub moving: Moving,
+    pub report: Report,
+    pub leaving: Leaving,
 }
 
 pub enum Verdict {
@@ -69,12 +86,27 @@ pub fn judge(r: Request, standing: Standing, host: &[u8]) -> Verdict
     match task {
         Task::Unknown => Verdict::Refused(Refusal::CommandUnknown),
         Task::Move(m) => judge_move(m, standing, host),
-        Task::Handshake => Verdict::Do(Plan::Report),
+        Task::Handshake => Verdict::Do(Plan {
+            moving: Moving::Nothing,
+            report: Report::Identity,
+            leaving: Leaving::AsItWas,
+        }),
         Task::Initialize(s) => judge_shape(s, standing, host),
         Task::Restore => judge_restore(standing, host),
         Task::Seek(t) => judge_seek(t, standing, host),
         Task::Format(k) => judge_format(k, standing, host),
     }
+}
+
+// A plan that moves nothing and reports nothing.
+fn only(leaving: Leaving) -> Verdict
+    ensures { λ v. ⌜ v ≡ Verdict.Do (only leaving) ⌝ }
+{
+    Verdict::Do(Plan {
+        moving: Moving::Nothing,
+        report: Report::Nothing,
+        leaving,
+    })
 }
 
 fn judge_shape(s: Shape, standing: Standing, host: &[u8]) -> Verdict
@@ -84,7 +116,7 @@ fn judge_shape(s: Shape, standing: Standing, host: &[u8]) -> Verdict
         Shape::Misplaced => Verdict::Refused(Refusal::UibMisplaced),
         Shape::Given(g) => {
             if g.is_within() {
-                Verdict::Do(Plan::Initialize(g))
+                only(Leaving::Fresh(g))
             } else {
                 Verdict::Refused(Refusal::UibOutsideLimits)
             }
@@ -97,7 +129,7 @@ fn judge_restore(standing: Standing, host: &[u8]) -> Verdict
 {
     let u = standing.record;
     if u.counts_as_initialized() {
-        Verdict::Do(Plan::Heads(0))
+        only(Leaving::HeadsAt(0))
     } else {
         Verdict::Refused(Refusal::NotInitialized)
     }
@@ -157,7 +189,7 @@ fn judge_seek(t: Target, standing: Standing, host: &[u8]) -> Verdict
     }
     match number(u, volume, start) {
         Number::Is(n) => match u.land(volume, n) {
-            Landing::At(spot) => Verdict::Do(Plan::Heads(spot.cylinder)),
+            Landing::At(spot) => only(Leaving::HeadsAt(spot.cylinder)),
             Landing::Outside => Verdict::Refused(Refusal::SectorOutside),
         },
         Number::Outside => Verdict::Refused(Refusal::SectorOutside),
@@ -179,7 +211,11 @@ fn judge_format(k: Track, standing: Standing, host: &[u8]) -> Verdict
             if !holds(host, k.buffer, sector_bytes(u)) {
                 return Verdict::Refused(Refusal::DataMisplaced);
             }
-            Verdict::Do(Plan::Format(spot, k.buffer))
+            Verdict::Do(Plan {
+                moving: Moving::Track(spot, k.buffer),
+                report: Report::Nothing,
+                leaving: Leaving::HeadsAt(spot.cylinder),
+            })
         }
         Landing::Outside => Verdict::Refused(Refusal::SectorOutside),
     }
@@ -253,17 +289,25 @@ fn judge_buffer(m: Move, n: u64, standing: Standing, host: &[u8]) -> Verdict
 }
 
 fn accepted(m: Move, n: u64) -> Verdict
-    ensures { λ v. ⌜ v ≡ Verdict.Do (Plan.Move (jobOf m n)) ⌝ }
+    ensures { λ v. ⌜ v ≡ Verdict.Do (carrying (jobOf m n)) ⌝ }
 {
     let target = m.target;
     let volume = target.volume;
     let buffer = m.buffer;
-    Verdict::Do(Plan::Move(Job {
-        to_host: m.to_host,
-        past_marks: m.past_marks,
+    let span = Span {
         volume,
         first: n,
         count: m.count,
+    };
+    let job = Job {
+        to_host: m.to_host,
+        past_marks: m.past_marks,
+        span,
         buffer,
-    }))
+    };
+    Verdict::Do(Plan {
+        moving: Moving::Sectors(job),
+        report: Report::Nothing,
+        leaving: Leaving::HeadsAtLastTried(span),
+    })
 }

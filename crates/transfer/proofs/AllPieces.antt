@@ -10,7 +10,7 @@ use native.Mathlib.Numerals.{add-one}
 use native.Mathlib.Omega.{arith}
 use lib.ListN.{getD, length}
 use Rattle.unit.specs.declared.Record.{Record}
-use Rattle.transfer.specs.declared.Span.{Span}
+use Rattle.unit.specs.declared.Span.{Span}
 use Rattle.transfer.specs.declared.carry.Cursor.{Cursor}
 use Rattle.transfer.specs.Data.{move}
 use Rattle.transfer.specs.Pieces.{sum}

@@ -11,7 +11,7 @@ use native.Mathlib.Omega.{arith}
 use lib.ListN.{length}
 use Rattle.geometry.specs.Drive.{B}
 use Rattle.unit.specs.declared.Record.{Record}
-use Rattle.transfer.specs.declared.Span.{Span}
+use Rattle.unit.specs.declared.Span.{Span}
 use Rattle.transfer.specs.declared.carry.Cursor.{Cursor}
 use Rattle.transfer.specs.Data.{move}
 use Rattle.transfer.specs.Runs.{Carried, Held, On, Ready, advanced, behind, diskFrom, stretch}

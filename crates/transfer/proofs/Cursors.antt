@@ -9,7 +9,7 @@ use Rattle.geometry.specs.Drive.{B, volumeSectors}
 use Rattle.geometry.specs.Sectors.{firstByte}
 use Rattle.geometry.proofs.Laws.{bytes-consecutive}
 use Rattle.unit.specs.declared.Record.{Record}
-use Rattle.transfer.specs.declared.Span.{Span}
+use Rattle.unit.specs.declared.Span.{Span}
 use Rattle.transfer.specs.declared.carry.Cursor.{Cursor}
 use Rattle.transfer.specs.declared.reach.Run.{Run}
 use Rattle.transfer.specs.Data.{diskByte, placeFrom}

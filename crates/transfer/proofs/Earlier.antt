@@ -1,6 +1,6 @@
 -- What a transfer leaves, for each byte: those of the sectors that come are there, and everything else is as it was.
 -- Its stores are copies from cells of which none is a target, so the last store to a cell leaves what its source held before.
-use Prim.Native.Nat.{ℕ, suc, _+_, _-_, _*_, _/_, _%_, _≤_, _<_}
+use Prim.Native.Nat.{ℕ, suc, _+_, _-_, _*_, _/_, _%_, _<_}
 use mathlib.Core.Bool.{Bool, true, false}
 use mathlib.Core.List.{List}
 use mathlib.Core.Path.{_≡_, refl, sym, ap, _∙_}
@@ -10,13 +10,12 @@ use lib.ListN.{getD, length}
 use lib.Seq.{getD-set-same}
 use Rattle.geometry.specs.declared.Geometry.{Geometry}
 use Rattle.geometry.specs.declared.VolumeNumber.{VolumeNumber}
-use Rattle.geometry.specs.Drive.{B, volumeSectors}
+use Rattle.geometry.specs.Drive.{B}
 use Rattle.geometry.specs.Sectors.{firstByte}
 use Rattle.geometry.proofs.Laws.{bytes-differ}
 use Rattle.unit.specs.declared.Record.{Record}
 use Rattle.unit.specs.declared.Spot.{Spot}
-use Rattle.unit.proofs.Laws.{spots-differ}
-use Rattle.transfer.specs.Data.{Transfer, dataOn, diskByte, formatting, move, moving, progressOn}
+use Rattle.transfer.specs.Data.{Transfer, dataOn, diskByte, formatting, move, moving, placeFrom, progressOn}
 use Rattle.transfer.specs.Progress.{fateAt}
 use Rattle.transfer.specs.Stores.{Buffers, Cell, Store, Stored, after, copyOf, eventByte, held, hostByte, imageByte, upTo, with}
 use Rattle.transfer.proofs.Progress.{progress-most, progress-moved}
@@ -230,17 +229,16 @@ module _ (m : Buffers) (t : Transfer) where
 
 -- ---- the two ways to write
 
--- A span of its volume, written: the image has the host's bytes for the sectors moved.
+-- Sectors of a volume, written: where they stand at different places the image has the host's bytes for the sectors moved.
 pub moving-writes-bytes :
     (m : Buffers) (u : Record) (past-marks : Bool) (v : VolumeNumber) (first count : ℕ) (host-byte : ℕ → ℕ) →
-    first + count ≤ volumeSectors (u .geometry) v →
+    ((i j : ℕ) → i < count → j < count → placeFrom u v first i ≡ placeFrom u v first j → i ≡ j) →
     let t = moving u false past-marks v first count host-byte in
     (k : ℕ) → k < carried m t → getD (afterwards m t .image) (onDisk t k) 0 ≡ getD (m .host) (host-byte k) 0
-moving-writes-bytes m u past-marks v first count host-byte inside k less =
+moving-writes-bytes m u past-marks v first count host-byte differ k less =
     let t = moving u false past-marks v first count host-byte in
     let most = rw zero-add at (progress-most (λ j. fateAt (m .image) (t .geometry) (t .heeds) (t .place j)) 0 count) in
-    image-has-bytes m t refl
-    (λ i j i< j< same. omega (arith, spots-differ u v (first + i) (first + j) (omega arith) (omega arith) same)) k less
+    image-has-bytes m t refl (λ i j i< j< same. differ i j (omega arith) (omega arith) same) k less
 
 -- A track, formatted: each of its sectors that is moved has the bytes from that address of host memory on.
 pub formatting-writes-bytes :

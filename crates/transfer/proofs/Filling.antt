@@ -85,10 +85,10 @@ module _ (image : List ℕ) (u : Record) (spot : Spot) (at : ℕ) where
   module _ (long : ℕ) where
     pub track-fit :
         TrackFits u spot at long →
-        trackResult long image u spot at ≡ resultOf (movedOn image (formatting u spot at) (spot .cylinder)) (dataOn image (formatting u spot at))
+        trackResult long image u spot at ≡ resultOf (movedOn image (formatting u spot at)) (dataOn image (formatting u spot at))
     unfolding trackResult
     track-fit fit = if-pos (trackFits? u spot at long) fit _ _
 
-    pub track-unfit : (TrackFits u spot at long → ⊥) → trackResult long image u spot at ≡ resultOf (idle u) []
+    pub track-unfit : (TrackFits u spot at long → ⊥) → trackResult long image u spot at ≡ resultOf idle []
     unfolding trackResult
     track-unfit unfit = if-neg (trackFits? u spot at long) unfit _ _

@@ -1,9 +1,9 @@
--- A run of sectors from a number of a volume on: their places are in a row and they are on one cylinder.
--- Both are the unit's law of the rest of a track.
+-- A run of sectors from a number of a volume on: their places are in a row, so it comes as far as a row there does.
+-- That is the unit's law of the rest of a track.
 use Prim.Native.Nat.{ℕ, _+_, _≤_, _<_}
 use mathlib.Core.Bool.{Bool}
 use mathlib.Core.List.{List}
-use mathlib.Core.Path.{_≡_, sym, ap, _∙_}
+use mathlib.Core.Path.{_≡_, ap}
 use native.Mathlib.Nat.{zero-add}
 use native.Mathlib.Omega.{arith}
 use Rattle.geometry.specs.declared.VolumeNumber.{VolumeNumber}
@@ -23,9 +23,6 @@ module _ (u : Record) (v : VolumeNumber) (n most : ℕ) (r : Run) (inside : n < 
 
   pub run-places : (i : ℕ) → i < r .sectors → spotOf u v (n + i) .place ≡ r .place + i
   run-places i less = omega (arith, spots-consecutive u v n i inside (omega (arith, at .track)), at .place)
-
-  pub run-cylinder : (i : ℕ) → i < r .sectors → spotOf u v (n + i) .cylinder ≡ r .cylinder
-  run-cylinder i less = spots-consecutive u v n i inside (omega (arith, at .track)) .1 .0 ∙ sym (at .cylinder)
 
   pub run-comes :
       (image : List ℕ) (heeds : Bool) →

@@ -14,11 +14,11 @@ use Rattle.answers.specs.declared.Refusal.{Refusal}
 use Rattle.geometry.specs.declared.Geometry.{Geometry}
 use Rattle.geometry.specs.Drive.{B}
 use Rattle.unit.specs.declared.Record.{Record}
-use Rattle.transfer.specs.declared.Span.{Span}
+use Rattle.unit.specs.declared.Span.{Span}
 use Rattle.transfer.specs.Data.{dataOn, diskByte, placeFrom}
 use Rattle.transfer.specs.Progress.{Fate, InImage, Progress, fateAt, inImage?, moves, stops}
 use Rattle.transfer.specs.Runs.{Held, PiecesFit, Spans, progressFrom, spanBytes}
-use Rattle.transfer.specs.Whole.{SectorsFit, idle, resultOf, sectorsFit?, sectorsResult, spanMoved, spanTransfer}
+use Rattle.transfer.specs.Whole.{SectorsFit, idle, movedOn, resultOf, sectorsFit?, sectorsResult, spanTransfer}
 use Rattle.transfer.proofs.Progress.{progress-most, progress-moved}
 
 -- A sector that is moved lies in the image.
@@ -91,13 +91,13 @@ module _ (long : ℕ) (image : List ℕ) (u : Record) (s : Span) (to-host past-m
   pub sectors-fit :
       SectorsFit u s lengths addresses long →
       sectorsResult long image u s to-host past-marks lengths addresses ≡
-      resultOf (spanMoved image u s (spanTransfer u s to-host past-marks lengths addresses))
+      resultOf (movedOn image (spanTransfer u s to-host past-marks lengths addresses))
       (dataOn image (spanTransfer u s to-host past-marks lengths addresses))
   unfolding sectorsResult
   sectors-fit fit = if-pos (sectorsFit? u s lengths addresses long) fit _ _
 
   pub sectors-unfit :
       (SectorsFit u s lengths addresses long → ⊥) →
-      sectorsResult long image u s to-host past-marks lengths addresses ≡ resultOf (idle u) []
+      sectorsResult long image u s to-host past-marks lengths addresses ≡ resultOf idle []
   unfolding sectorsResult
   sectors-unfit unfit = if-neg (sectorsFit? u s lengths addresses long) unfit _ _

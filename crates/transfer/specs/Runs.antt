@@ -8,15 +8,14 @@ use Rattle.geometry.specs.declared.Geometry.{Geometry}
 use Rattle.geometry.specs.declared.VolumeNumber.{VolumeNumber}
 use Rattle.geometry.specs.Drive.{B, volumeSectors}
 use Rattle.unit.specs.declared.Record.{Record}
+use Rattle.unit.specs.declared.Span.{Span}
 use Rattle.unit.specs.Landing.{spotOf}
 use Rattle.transfer.specs.declared.Moved.{Moved}
-use Rattle.transfer.specs.declared.Span.{Span}
 use Rattle.transfer.specs.declared.carry.Cursor.{Cursor}
-use Rattle.transfer.specs.declared.reach.Reached.{Reached}
 use Rattle.transfer.specs.declared.reach.Run.{Run}
 use Rattle.transfer.specs.Data.{diskByte, move, placeFrom}
 use Rattle.transfer.specs.Pieces.{joined, sum}
-use Rattle.transfer.specs.Progress.{Progress, fateAt, lastTried, progress}
+use Rattle.transfer.specs.Progress.{Progress, fateAt, progress}
 use Rattle.transfer.specs.Stores.{Buffers, Store, after, upTo}
 
 -- Sectors that their volume has; their numbers can be counted in 64 bits.
@@ -39,35 +38,23 @@ inARow image g heeds place n = progress (λ j. fateAt image g heeds (place + j))
 abbrev pub progressFrom : List ℕ → Record → VolumeNumber → Bool → ℕ → ℕ → Progress
 progressFrom image u v heeds first n = progress (λ j. fateAt image (u .geometry) heeds (placeFrom u v first j)) 0 n
 
-abbrev pub reached : Progress → Reached
+-- Progress, as the code hands it back.
+abbrev pub reached : Progress → Moved
 reached p = record { sectors = p .sectors; answer = p .answer }
 
--- A run at a number of a volume: where it begins, on which cylinder, and some sectors, no more than are on the track, nor
--- than were asked for.
+-- A run at a number of a volume: where it begins, and some sectors, no more than are on the track, nor than were asked for.
 pub record RunAt (u : Record) (v : VolumeNumber) (n most : ℕ) (r : Run) : Type 0 where
   pub place : r .place ≡ spotOf u v n .place
-  pub cylinder : r .cylinder ≡ spotOf u v n .cylinder
   pub some : 0 < r .sectors
   pub asked : r .sectors ≤ most
   pub track : r .sectors ≤ spotOf u v n .rest
 
--- How far some sectors from a number of a volume on come, at least one and no more than were asked for, all on one cylinder.
+-- How far some sectors from a number of a volume on come, at least one and no more than were asked for.
 pub record Advanced (image : List ℕ) (u : Record) (v : VolumeNumber) (n most : ℕ) (heeds : Bool) (m : Moved) : Type 0 where
   pub run : ℕ
   pub some : 0 < run
   pub asked : run ≤ most
   pub comes : progressFrom image u v heeds n run ≡ record { sectors = m .sectors; answer = m .answer }
-  pub cylinder : (i : ℕ) → i < run → spotOf u v (n + i) .cylinder ≡ m .cylinder
-
--- How far all of them come, with the cylinder of the last one tried.
-abbrev pub surveyed : List ℕ → Record → VolumeNumber → ℕ → ℕ → Bool → Moved
-surveyed image u v first count heeds =
-    let p = progressFrom image u v heeds first count in
-    record {
-      sectors = p .sectors;
-      answer = p .answer;
-      cylinder = spotOf u v (first + lastTried (p .sectors) count) .cylinder;
-    }
 
 -- The k-th byte on the disk of the sectors from a number of a volume on.
 abbrev pub diskFrom : Record → VolumeNumber → ℕ → ℕ → ℕ

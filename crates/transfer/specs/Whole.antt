@@ -11,13 +11,11 @@ use Rattle.answers.specs.declared.BlockAnswer.{BlockAnswer}
 use Rattle.answers.specs.declared.Refusal.{Refusal}
 use Rattle.geometry.specs.Drive.{B, S, driveSectors, volumeSectors}
 use Rattle.unit.specs.declared.Record.{Record}
+use Rattle.unit.specs.declared.Span.{Span}
 use Rattle.unit.specs.declared.Spot.{Spot}
-use Rattle.unit.specs.Landing.{spotOf}
 use Rattle.transfer.specs.declared.Moved.{Moved}
-use Rattle.transfer.specs.declared.Span.{Span}
 use Rattle.transfer.specs.Data.{Transfer, dataOn, formatting, moving, progressOn}
 use Rattle.transfer.specs.Pieces.{sum}
-use Rattle.transfer.specs.Progress.{lastTried}
 use Rattle.transfer.specs.Runs.{PiecesFit, pieceByte, spanBytes}
 use Rattle.transfer.specs.Stores.{Store}
 
@@ -33,23 +31,18 @@ pub record TrackFits (u : Record) (spot : Spot) (at long : ℕ) : Type 0 where
   pub inside : spot .place + S (u .geometry) ≤ driveSectors (u .geometry)
   pub memory : at + B (u .geometry) ≤ long
 
--- Nothing moved, the heads where they were.
-abbrev pub idle : Record → Moved
-idle u = record { sectors = 0; answer = BlockAnswer.Failed Refusal.DataMisplaced; cylinder = u .cylinder }
+-- Nothing moved.
+abbrev pub idle : Moved
+idle = record { sectors = 0; answer = BlockAnswer.Failed Refusal.DataMisplaced }
 
--- A transfer on an image that leaves the heads on a cylinder.
-abbrev pub movedOn : List ℕ → Transfer → ℕ → Moved
-movedOn image t cylinder =
-    record { sectors = progressOn image t .sectors; answer = progressOn image t .answer; cylinder = cylinder }
+-- What a transfer comes to on an image.
+abbrev pub movedOn : List ℕ → Transfer → Moved
+movedOn image t = record { sectors = progressOn image t .sectors; answer = progressOn image t .answer }
 
--- The transfer of a span, to or from pieces, and what it comes to.
+-- The transfer of a span, to or from pieces.
 abbrev pub spanTransfer : Record → Span → Bool → Bool → List ℕ → List ℕ → Transfer
 spanTransfer u s to-host past-marks lengths addresses =
     moving u to-host past-marks (s .volume) (s .first) (s .count) (pieceByte lengths addresses)
-
-abbrev pub spanMoved : List ℕ → Record → Span → Transfer → Moved
-spanMoved image u s t =
-    movedOn image t (spotOf u (s .volume) (s .first + lastTried (progressOn image t .sectors) (s .count)) .cylinder)
 
 -- Each is decided.
 pub piecesFit? : (long bytes : ℕ) (lengths addresses : List ℕ) → Dec (PiecesFit long bytes lengths addresses)
@@ -83,9 +76,9 @@ resultOf moved stores = record { moved = moved; stores = stores }
 unfoldable pub sectorsResult : ℕ → List ℕ → Record → Span → Bool → Bool → List ℕ → List ℕ → Result
 sectorsResult long image u s to-host past-marks lengths addresses =
     let t = spanTransfer u s to-host past-marks lengths addresses in
-    ite (sectorsFit? u s lengths addresses long) (resultOf (spanMoved image u s t) (dataOn image t)) (resultOf (idle u) [])
+    ite (sectorsFit? u s lengths addresses long) (resultOf (movedOn image t) (dataOn image t)) (resultOf idle [])
 
 unfoldable pub trackResult : ℕ → List ℕ → Record → Spot → ℕ → Result
 trackResult long image u spot at =
     let t = formatting u spot at in
-    ite (trackFits? u spot at long) (resultOf (movedOn image t (spot .cylinder)) (dataOn image t)) (resultOf (idle u) [])
+    ite (trackFits? u spot at long) (resultOf (movedOn image t) (dataOn image t)) (resultOf idle [])

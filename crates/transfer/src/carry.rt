@@ -1,8 +1,8 @@
 // The bytes of a transfer: each run that is consecutive on both sides is one copy.
-use crate::Span;
 use crate::reach::run_at;
 use geometry::Sector;
 use unit::Record;
+use unit::Span;
 ghost use mathlib.Core.Bool.{cond};
 ghost use mathlib.Core.Path.{_≡_};
 ghost use Prim.Native.Nat.{_+_, _*_, _^_, _≤_, _<_, min};

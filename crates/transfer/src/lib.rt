@@ -4,8 +4,8 @@
 use answers::BlockAnswer;
 use answers::Refusal;
 use geometry::Sector;
-use geometry::VolumeNumber;
 use unit::Record;
+use unit::Span;
 use unit::Spot;
 ghost use mathlib.Core.Bool.{_&&_, not};
 ghost use mathlib.Core.Path.{_≡_};
@@ -26,18 +26,10 @@ use carry::span_bytes;
 use reach::reach;
 use reach::survey;
 
-// Consecutive sectors of a volume, from a number on.
-pub struct Span {
-    pub volume: VolumeNumber,
-    pub first: u64,
-    pub count: u16,
-}
-
-// What a transfer came to: the sectors moved, the answer, and the cylinder of the last sector tried.
+// What a transfer came to: the sectors moved and the answer. Where the heads stand then is not told here.
 pub struct Moved {
     pub sectors: u16,
     pub answer: BlockAnswer,
-    pub cylinder: u16,
 }
 
 // Whether pieces lie in a host memory of so many bytes, and have so many bytes together. What is left to be had is counted
@@ -87,13 +79,12 @@ fn sectors_fit(u: Record, span: Span, lengths: &[u32], addresses: &[u32], long: 
 }
 
 // A transfer that does not fit is left alone.
-fn idle(u: Record) -> Moved
-    ensures { λ r. ⌜ r ≡ idle u ⌝ }
+fn idle() -> Moved
+    ensures { λ r. ⌜ r ≡ idle ⌝ }
 {
     Moved {
         sectors: 0,
         answer: BlockAnswer::Failed(Refusal::DataMisplaced),
-        cylinder: u.cylinder(),
     }
 }
 
@@ -119,7 +110,7 @@ pub fn move_sectors(
     ensures stores { λ _. ⌜ lent (now (host .exit)) (now (image .exit)) ≡ after (sectorsResult (length (now (host .entry))) (now (image .entry)) u span «to_host» «past_marks» (now (lengths .entry)) (now (addresses .entry)) .stores) (lent (now (host .entry)) (now (image .entry))) ⌝ }
 {
     if !sectors_fit(u, span, lengths, addresses, host.len() as u64) {
-        return idle(u);
+        return idle();
     }
     let moved = survey(image, u, span, heeds(to_host, past_marks));
     let volume = span.volume;
@@ -156,25 +147,20 @@ pub fn format_track(host: &[u8], image: &mut [u8], u: Record, spot: Spot, at: u3
     ensures stores { λ _. ⌜ lent (now (host .entry)) (now (image .exit)) ≡ after (trackResult (length (now (host .entry))) (now (image .entry)) u spot at .stores) (lent (now (host .entry)) (now (image .entry))) ⌝ }
 {
     if !track_fits(u, spot, at, host.len() as u64) {
-        return idle(u);
+        return idle();
     }
     let g = u.geometry();
     let Sector::At { first, mark: _ } = g.sector(spot.place) else {
-        return idle(u);
+        return idle();
     };
-    let reached = reach(image, g, false, spot.place, g.sectors_a_track());
+    let moved = reach(image, g, false, spot.place, g.sectors_a_track());
     fill(
         host,
         at as usize,
         image,
         first as usize,
         g.bytes_a_sector() as usize,
-        reached.sectors as usize,
+        moved.sectors as usize,
     );
-    let answer = reached.answer;
-    Moved {
-        sectors: reached.sectors,
-        answer,
-        cylinder: spot.cylinder,
-    }
+    moved
 }

@@ -1,6 +1,5 @@
 // How far a transfer comes: marks are scanned a run of sectors at a time, before a byte is moved.
 use crate::Moved;
-use crate::Span;
 use answers::BlockAnswer;
 use answers::Refusal;
 use geometry::Geometry;
@@ -8,18 +7,17 @@ use geometry::Sector;
 use geometry::VolumeNumber;
 use unit::Landing;
 use unit::Record;
-ghost use mathlib.Core.Bool.{cond};
+use unit::Span;
 ghost use mathlib.Core.Path.{_≡_};
 ghost use Prim.Native.Nat.{_+_, _-_, _≤_, _<_, min};
 ghost use lib.ListN.{length};
 ghost use Rattle.geometry.specs.Drive.{driveSectors, volumeSectors};
-ghost use Rattle.transfer.specs.Runs.{Advanced, Readable, RunAt, Spans, inARow, reached, surveyed};
+ghost use Rattle.transfer.specs.Runs.{Advanced, Readable, RunAt, Spans, inARow, progressFrom, reached};
 
-// A run of sectors that follow one another in the image, all on one cylinder.
+// A run of sectors that follow one another in the image.
 pub(crate) struct Run {
     pub place: u64,
     pub sectors: u16,
-    pub cylinder: u16,
 }
 
 // The run from a number on, of the sectors asked for at most.
@@ -31,13 +29,11 @@ pub(crate) fn run_at(u: Record, v: VolumeNumber, number: u64, most: u16) -> Run
         return Run {
             place: 0,
             sectors: 1,
-            cylinder: 0,
         };
     };
     Run {
         place: spot.place,
         sectors: lesser(spot.rest, most),
-        cylinder: spot.cylinder,
     }
 }
 
@@ -78,19 +74,13 @@ fn readable(image: &[u8], at: usize, n: usize, heeds: bool) -> usize
     n
 }
 
-// How far a run comes.
-pub(crate) struct Reached {
-    pub sectors: u16,
-    pub answer: BlockAnswer,
-}
-
-// A mark that the image has its sector in the image too, since all marks stand after all sectors.
-pub(crate) fn reach(image: &[u8], g: Geometry, heeds: bool, place: u64, n: u16) -> Reached
+// How far a run comes. A sector whose mark is in the image is in the image too, since all marks stand after all sectors.
+pub(crate) fn reach(image: &[u8], g: Geometry, heeds: bool, place: u64, n: u16) -> Moved
     requires { ⌜ (0 < n) × (place + n ≤ driveSectors g) ⌝ }
     ensures { λ r. ⌜ r ≡ reached (inARow (now (image .entry)) g heeds place n) ⌝ }
 {
     let Sector::At { first: _, mark } = g.sector(place) else {
-        return Reached {
+        return Moved {
             sectors: 0,
             answer: BlockAnswer::Ended,
         };
@@ -98,18 +88,18 @@ pub(crate) fn reach(image: &[u8], g: Geometry, heeds: bool, place: u64, n: u16) 
     let fit = fitting(image.len() as u64, mark, n);
     let sectors = readable(image, mark as usize, fit as usize, heeds) as u16;
     if sectors < fit {
-        return Reached {
+        return Moved {
             sectors,
             answer: BlockAnswer::Failed(Refusal::Unreadable),
         };
     }
     if fit < n {
-        return Reached {
+        return Moved {
             sectors: fit,
             answer: BlockAnswer::Failed(Refusal::PastTheImage),
         };
     }
-    Reached {
+    Moved {
         sectors: n,
         answer: BlockAnswer::Ended,
     }
@@ -121,23 +111,16 @@ fn advance(image: &[u8], u: Record, v: VolumeNumber, number: u64, most: u16, hee
     ensures { λ r. ⌜ Advanced (now (image .entry)) u v number most heeds r ⌝ }
 {
     let run = run_at(u, v, number, most);
-    let reached = reach(image, u.geometry(), heeds, run.place, run.sectors);
-    let answer = reached.answer;
-    Moved {
-        sectors: reached.sectors,
-        answer,
-        cylinder: run.cylinder,
-    }
+    reach(image, u.geometry(), heeds, run.place, run.sectors)
 }
 
 // How far a span comes, run after run until one is stopped.
 pub(crate) fn survey(image: &[u8], u: Record, span: Span, heeds: bool) -> Moved
-    requires { ⌜ (0 < span .count) × Spans u span ⌝ }
-    ensures { λ r. ⌜ r ≡ surveyed (now (image .entry)) u (span .volume) (span .first) (span .count) heeds ⌝ }
+    requires { ⌜ Spans u span ⌝ }
+    ensures { λ r. ⌜ r ≡ reached (progressFrom (now (image .entry)) u (span .volume) heeds (span .first) (span .count)) ⌝ }
 {
     let volume = span.volume;
     let mut done: u16 = 0;
-    let mut cylinder: u16 = 0;
     while done < span.count {
         let m = advance(
             image,
@@ -149,18 +132,15 @@ pub(crate) fn survey(image: &[u8], u: Record, span: Span, heeds: bool) -> Moved
         );
         let answer = m.answer;
         done += m.sectors;
-        cylinder = m.cylinder;
         if let BlockAnswer::Failed(refusal) = answer {
             return Moved {
                 sectors: done,
                 answer: BlockAnswer::Failed(refusal),
-                cylinder,
             };
         }
     }
     Moved {
         sectors: done,
         answer: BlockAnswer::Ended,
-        cylinder,
     }
 }

@@ -35,8 +35,9 @@ module _ (g : Geometry) (a : Address) (on : OnDrive g a) where
 pub track-inside : (u : Record) (c h : ℕ) → OnDrive (u .geometry) (address c h 0) → InDrive (u .geometry) (trackOf u c h)
 track-inside u c h on = rw trackOf-is (spotAt-inside (u .geometry) (address c h 0) on)
 
-pub track-whole : (u : Record) (c h : ℕ) → (trackOf u c h .cylinder ≡ c) × (trackOf u c h .rest ≡ S (u .geometry))
-track-whole u c h = rw (trackOf-is, spotAt-is) (refl, sub-zero (S (u .geometry)))
+-- From a track's first sector on the whole track is left.
+pub track-whole : (u : Record) (c h : ℕ) → trackOf u c h .rest ≡ S (u .geometry)
+track-whole u c h = rw (trackOf-is, spotAt-is) (sub-zero (S (u .geometry)))
 
 module _ (u : Record) (v : VolumeNumber) where
   abbrev g : Geometry
@@ -52,21 +53,15 @@ module _ (u : Record) (v : VolumeNumber) where
   pub spot-inside : (n : ℕ) → n < volumeSectors g v → InDrive g (spotOf u v n)
   spot-inside n inside = rw spotOf-is (spotAt-inside g _ (geometry.address-on-drive g v n inside))
 
-  -- The rest of a track is consecutive, in the volume and in the image, and on one cylinder.
+  -- The rest of a track is consecutive, in the volume and in the image.
   pub spots-consecutive :
       (n k : ℕ) → n < volumeSectors g v → k < spotOf u v n .rest →
-      (n + k < volumeSectors g v) ×
-      ((spotOf u v (n + k) .cylinder ≡ spotOf u v n .cylinder) × (spotOf u v (n + k) .place ≡ spotOf u v n .place + k))
+      (n + k < volumeSectors g v) × (spotOf u v (n + k) .place ≡ spotOf u v n .place + k)
   spots-consecutive n k inside rest =
       let here = parts n in
       let there = parts (n + k) in
-      let more : addressOf g v n .sector + k < S g = omega arith in (
-        geometry.track-inside g v n inside k more,
-        (
-          cc (ap (λ (a : Address). a .cylinder) (geometry.track-numbers g v n inside k more)),
-          omega (arith, geometry.track-places g v n inside k more),
-        ),
-      )
+      let more : addressOf g v n .sector + k < S g = omega arith in
+      (geometry.track-inside g v n inside k more, omega (arith, geometry.track-places g v n inside k more))
 
   -- Two different numbers of a volume have two different places.
   pub spots-differ :

@@ -27,6 +27,13 @@ pub struct Spot {
     pub rest: u16,
 }
 
+// Consecutive sectors of a volume, from a number on.
+pub struct Span {
+    pub volume: VolumeNumber,
+    pub first: u64,
+    pub count: u16,
+}
+
 // Where a request lands, if the drive has what it names.
 pub enum Landing {
     At(Spot),

@@ -4,7 +4,7 @@ use Prim.Native.Nat.{ℕ, _+_, _*_, _%_, _≤_, _<_}
 use mathlib.Core.Bool.{Bool, true, false, cond, not}
 use mathlib.Core.List.{List, [], _∷_}
 use mathlib.Core.Logic.{_⊎_, inl, inr}
-use mathlib.Core.Path.{_≡_, refl, sym, ap, _∙_}
+use mathlib.Core.Path.{_≡_, refl, sym, ap, subst, _∙_}
 use native.Mathlib.Omega.{arith}
 use lib.ListN.{length}
 use Rattle.wire.specs.Memory.{Among, InMemory}
@@ -12,28 +12,31 @@ use Rattle.wire.proofs.Promises.{never as impossible}
 use Rattle.answers.specs.declared.BlockAnswer.{BlockAnswer}
 use Rattle.answers.specs.declared.BlockAnswer.the-variants.{Ended, Failed}
 use Rattle.answers.specs.declared.Refusal.{Refusal}
+use Rattle.geometry.specs.Drive.{B}
 use Rattle.iopb.specs.Ask.{taskOf}
+use Rattle.judge.specs.declared.Moving.{Moving}
 use Rattle.judge.specs.declared.Plan.{Plan}
+use Rattle.judge.specs.declared.Report.{Report}
 use Rattle.judge.specs.declared.Verdict.{Verdict}
+use Rattle.judge.specs.Asks.{carrying, jobOf}
 use Rattle.judge.specs.Given.{Asked}
 use Rattle.judge.specs.Reads.{InList, InUib}
-use Rattle.judge.specs.Asks.{jobOf}
-use Rattle.judge.proofs.Tasks.{handshake}
-use Rattle.block.specs.Block.{reported}
-use Rattle.iopb.specs.declared.Block.{Block}
+use Rattle.transfer.specs.Progress.{progress}
+use Rattle.block.specs.Block.{transferOf}
 use Rattle.request.specs.declared.Buffer.{Buffer}
 use Rattle.request.specs.declared.Move.{Move}
 use Rattle.request.specs.declared.Task.{Task}
-use Rattle.demands.specs.Footprint.{HostWritten, RunNames, RunWrites, askedOf, namedDrive, names, verdictOf}
+use Rattle.demands.specs.Footprint.{HostData, RunNames, RunWrites, WritesHost, askedOf, comes, movingOf, namedDrive, names, reportOf, transferBy, verdictOf, wordsBy}
 use Rattle.demands.specs.Visits.{Passes, Visit, blockOf, effectOf}
-use Rattle.demands.proofs.Written.{effect-is}
-use Rattle.independence.specs.Chains.{Both, First, Second, Which, eventsOf, told, worldFor}
+use Rattle.demands.proofs.Fits.{drives-geometry}
+use Rattle.demands.proofs.Written.{effect-is, sectors-come}
+use Rattle.independence.specs.Chains.{Both, First, Second, Which, eventsOf, worldFor}
 use Rattle.independence.specs.Demand3.{Independent, NoUnitInCommon, NoByteReadByOther, NoByteWrittenByBoth}
-use Rattle.independence.specs.Reads.{HostRead, RunReads}
+use Rattle.independence.specs.Reads.{ReadsHost, RunReads}
 use Rattle.request.specs.declared.UnitNumber.{UnitNumber}
 use Rattle.request.specs.declared.UnitNumber.the-variants.{Zero, One}
-use Rattle.worked.specs.TwoChains.{come, driveWith, one, two}
-use Rattle.worked.proofs.OneBlock.{Apart, DataBy, In, none-in-both, of-block, reads-in, writes-in}
+use Rattle.worked.specs.TwoChains.{driveWith, one, two}
+use Rattle.worked.proofs.OneBlock.{Apart, In, no-data, no-words, none-in-both, of-block, reads-in, writes-in}
 use Rattle.worked.proofs.Tiny.{carriedOn, move-passes, moveOf, read-of-one, read-stopped, write-of-one}
 
 pub passes-at :
@@ -82,20 +85,40 @@ module _ (t : Which) (s : Both) (at : ℕ) (passes : Passes at 1 (worldFor t s))
   abbrev pub v : Visit
   v = record { at = at; index = 0; world = worldFor t s }
 
-  module _ (verd : Verdict) (is : verdictOf v ≡ verd) (rs ws : List (ℕ × ℕ)) where
+  module _ (rs ws : List (ℕ × ℕ)) where
     pub alone :
         ((x : ℕ) → InUib (askedOf v) (blockOf v .address) 18 x ⊎ InList (askedOf v) x → In rs x) →
-        ((x : ℕ) → DataBy v verd false x → In rs x) →
-        ((x : ℕ) → blockOf v .command ≡ 0x86 → Among (v .at + 4) 12 x → In ws x) →
-        ((x : ℕ) → DataBy v verd true x → In ws x) →
+        ((x : ℕ) → HostData (askedOf v) (namedDrive v) false x → In rs x) →
+        ((x : ℕ) → Among (v .at + wordsBy (askedOf v) .from) (length (wordsBy (askedOf v) .bytes)) x → In ws x) →
+        ((x : ℕ) → HostData (askedOf v) (namedDrive v) true x → In ws x) →
         Alone t at s (names v) ((at, 28) ∷ rs) ((at + 2, 2) ∷ ws)
     alone judged from reported to =
         record {
           passes = passes;
           names-it = λ n. of-block at _ passes (λ v. names v ≡ n);
-          reads-there = λ x r. reads-in v verd is rs x (judged x) (from x) (of-block at _ passes (λ v. HostRead v x) r);
-          writes-there = λ x w. writes-in v verd is ws x (reported x) (to x) (of-block at _ passes (λ v. HostWritten v x) w);
+          reads-there = λ x r. reads-in v rs x (judged x) (from x) (of-block at _ passes (λ v. ReadsHost v x) r);
+          writes-there = λ x w. writes-in v ws x (reported x) (to x) (of-block at _ passes (λ v. WritesHost v x) w);
         }
+
+  -- Of a verdict that moves nothing.
+  pub still :
+      (verd : Verdict) → verdictOf v ≡ verd → movingOf verd ≡ Moving.Nothing → (way : Bool) (x : ℕ) →
+      HostData (askedOf v) (namedDrive v) way x → ⊥
+  still verd is moves way x here = no-data v x way (ap movingOf is ∙ moves) here
+
+  pub silent :
+      (verd : Verdict) → verdictOf v ≡ verd → reportOf verd ≡ Report.Nothing → (x : ℕ) →
+      Among (v .at + wordsBy (askedOf v) .from) (length (wordsBy (askedOf v) .bytes)) x → ⊥
+  silent verd is says x among = no-words v x (ap reportOf is ∙ says) among
+
+-- A block that is accepted and moves nothing ends 80 and moves no sectors.
+pub comes-still :
+    (v : Visit) (p : Plan) → verdictOf v ≡ Verdict.Do p → p .moving ≡ Moving.Nothing → (effectOf v .sectors ≡ 0) × (effectOf v .answer ≡ Ended)
+unfolding progress
+comes-still v p is moves = (
+  ap (λ e. e .sectors) (effect-is v) ∙ rw (is, moves),
+  ap (λ e. e .answer) (effect-is v) ∙ rw (is, moves),
+)
 
 -- ---- a transfer of the pairs
 
@@ -118,13 +141,8 @@ no-list-of-a-piece a m at x asks piece list = impossible (cc (list .asks, list .
 pub no-list : (a : Asked) (x : ℕ) → (task-number (a .task) ≡ 0 → ⊥) → InList a x → ⊥
 no-list a x other list = other (ap task-number (list .asks))
 
--- A block that asks for a transfer is no handshake.
-no-handshake : (host : List ℕ) (b : Block) (m : Move) → taskOf host b ≡ Task.Move m → b .command ≡ 0x86 → ⊥
-unfolding taskOf
-no-handshake host b m task is = omega (arith, ap task-number (rw is at task))
-
 abbrev pub carries : Bool → ℕ → ℕ → Verdict
-carries to-host count buffer = Verdict.Do (Plan.Move (jobOf (moveOf to-host 0 count buffer) 0))
+carries to-host count buffer = Verdict.Do (carrying (jobOf (moveOf to-host 0 count buffer) 0))
 
 -- The bytes of a transfer that goes one way or the other, in the ranges of that way.
 abbrev pub going : Bool → ℕ × ℕ → List (ℕ × ℕ)
@@ -156,10 +174,17 @@ module _
     judged-alone x (inl uib) = no-uib (askedOf b) _ _ x (λ is. omega (arith, ap task-number task)) uib
     judged-alone x (inr list) = no-list-of-a-piece (askedOf b) _ buffer x task refl list
 
+    -- What the verdict says of the transfer.
+    goes-so : (way : Bool) (x : ℕ) → HostData (askedOf b) (namedDrive b) way x → to-host ≡ way
+    goes-so way x here =
+        subst (λ (verd : Verdict). transferOf (s .host) (namedDrive b .unit) (movingOf verd) .to-host ≡ way) judged-so (here .goes)
+
     module _ (n : ℕ) (moved : effectOf b .sectors ≡ n) where
-      there : (way : Bool) (x : ℕ) → DataBy b (carries to-host count buffer) way x → Among buffer (n * 64) x
-      there way x (to, (k, (less, here))) =
-          let k< : k < n * 64 = rw (moved, same) at less in
+      there : (way : Bool) (x : ℕ) → HostData (askedOf b) (namedDrive b) way x → Among buffer (n * 64) x
+      there way x here =
+          let less : here .byte < n * 64 = rw (sectors-come b, moved, drives-geometry (askedOf b), same) at (here .moved) in
+          let lies : buffer + here .byte ≡ x =
+          subst (λ (verd : Verdict). transferOf (s .host) (namedDrive b .unit) (movingOf verd) .host-byte (here .byte) ≡ x) judged-so (here .here) in
           (omega arith, omega arith)
 
       ranged : (w way : Bool) (x : ℕ) → (w ≡ way → Among buffer (n * 64) x) → w ≡ way → In (going (cond way w (not w)) (buffer, n * 64)) x
@@ -173,18 +198,32 @@ module _
         carriedOn (driveWith byte mark .image) refl buffer to-host count ≡ record { sectors = n; answer = a } →
         Carried t s at to-host buffer count n a
     carried n a p =
-        let e = effect-is b _ judged-so in
-        let moved : effectOf b .sectors ≡ n = ap (λ e. e .sectors) e ∙ rw same (ap (λ p. p .sectors) p) in
+        let moved : effectOf b .sectors ≡ n = ap (λ e. e .sectors) (effect-is b) ∙ rw (judged-so, same) (ap (λ p. p .sectors) p) in
         record {
           verdict = judged-so;
           sectors = moved;
-          answer = ap (λ e. e .answer) e ∙ rw same (ap (λ p. p .answer) p);
+          answer = ap (λ e. e .answer) (effect-is b) ∙ rw (judged-so, same) (ap (λ p. p .answer) p);
           footprint =
-              alone t s at passes _ judged-so (going (not to-host) (buffer, n * 64)) (going to-host (buffer, n * 64))
-              (λ x j. absurd (judged-alone x j)) (λ x d. ranged n moved to-host false x (λ same. there n moved false x d) (d .0))
-              (λ x report among. absurd (no-handshake (s .host) (blockOf b) _ task report))
-              (λ x d. ranged n moved to-host true x (λ same. there n moved true x d) (d .0));
+              alone t s at passes (going (not to-host) (buffer, n * 64)) (going to-host (buffer, n * 64))
+              (λ x j. absurd (judged-alone x j)) (λ x d. ranged n moved to-host false x (λ same. there n moved false x d) (goes-so false x d))
+              (λ x words. absurd (silent t s at passes _ judged-so refl x words))
+              (λ x d. ranged n moved to-host true x (λ same. there n moved true x d) (goes-so true x d));
         }
+
+-- Byte k of a transfer of the pairs, where it was moved.
+module _
+    (t : Which) (s : Both) (at : ℕ) (passes : Passes at 1 (worldFor t s)) (byte mark : ℕ)
+    (same : namedDrive (v t s at passes) ≡ driveWith byte mark) (to-host : Bool) (buffer count n : ℕ) (a : BlockAnswer)
+    (c : Carried t s at to-host buffer count n a)
+  where
+    pub host-byte-is : (k : ℕ) → transferBy (askedOf (v t s at passes)) .host-byte k ≡ buffer + k
+    host-byte-is k = rw (c .verdict)
+
+    pub came : (k : ℕ) → k < n * 64 → k < comes (askedOf (v t s at passes)) (namedDrive (v t s at passes)) .sectors * B (transferBy (askedOf (v t s at passes)) .geometry)
+    came k less = rw (sectors-come (v t s at passes), c .sectors, drives-geometry (askedOf (v t s at passes)), same) less
+
+    pub data-byte : (k : ℕ) → k < n * 64 → HostData (askedOf (v t s at passes)) (namedDrive (v t s at passes)) to-host (buffer + k)
+    data-byte k less = record { goes = rw (c .verdict); byte = k; moved = came k less; here = host-byte-is k }
 
 -- The transfers of one sector, and the read of two that a mark stops.
 module _

@@ -1,10 +1,13 @@
 -- A chain of one block: it fetches that block and no other, and comes to what the block comes to.
--- What a block reads and writes is told by its verdict, since only a plan that moves data has any.
+-- What a block reads and writes lies in ranges, a range for each of its lines.
 use Prim.Native.Nat.{ℕ, _+_, _*_, _<_}
 use mathlib.Core.Bool.{Bool, true, false}
 use mathlib.Core.List.{List, [], _∷_}
 use mathlib.Core.Logic.{_⊎_, inl, inr, if-pos}
 use mathlib.Core.Path.{_≡_, refl, sym, ap, subst, _∙_}
+use native.Mathlib.Nat.{zero-mul}
+use native.Mathlib.Omega.{arith}
+use lib.ListN.{length}
 use Rattle.wire.specs.Memory.{Among}
 use Rattle.answers.specs.declared.BlockAnswer.{BlockAnswer}
 use Rattle.answers.specs.declared.BlockAnswer.the-variants.{Ended, Failed}
@@ -12,20 +15,21 @@ use Rattle.answers.specs.declared.Refusal.{Refusal}
 use Rattle.answers.specs.declared.RunAnswer.{RunAnswer}
 use Rattle.answers.specs.Numbers.{refusalNumber}
 use Rattle.geometry.specs.Drive.{B}
-use Rattle.judge.specs.declared.Plan.{Plan}
-use Rattle.judge.specs.declared.Plan.the-variants.{Report, Initialize, Heads, Format, Move}
-use Rattle.judge.specs.declared.Verdict.{Verdict}
-use Rattle.judge.specs.declared.Verdict.the-variants.{Refused, Do}
+use Rattle.judge.specs.declared.Moving.{Moving}
+use Rattle.judge.specs.declared.Report.{Report}
 use Rattle.judge.specs.Reads.{InList, InUib}
-use Rattle.transfer.specs.Data.{Transfer}
-use Rattle.block.specs.Block.{dataByte}
+use Rattle.transfer.specs.Data.{progressOn}
+use Rattle.transfer.specs.Progress.{progress}
+use Rattle.block.specs.Block.{transferOf, wordsOf}
 use Rattle.block.specs.World.{World}
 use Rattle.board.specs.Chain.{Ending, Tally, ends, follows, nothing, ran}
 use Rattle.board.proofs.Runs.{ran-chain}
-use Rattle.demands.specs.Footprint.{HostData, HostWritten, Makes, Some, askedOf, makes, namedDrive, verdictOf}
+use Rattle.demands.specs.Footprint.{HostData, Some, WritesHost, askedOf, movingOf, namedDrive, reportOf, verdictOf, wordsBy}
+use Rattle.demands.specs.Footprint.HostWritten.{moved as given, report, status-word}
 use Rattle.demands.specs.Visits.{Passes, Visit, blockOf, effectOf, fetchedBy, onwards, passes?, visits, worldLeft}
 use Rattle.demands.proofs.Endings.{fetched-step, visits-step}
-use Rattle.independence.specs.Reads.{HostRead}
+use Rattle.independence.specs.Reads.{ReadsHost}
+use Rattle.independence.specs.Reads.HostRead.{block, its-list, its-uib, moved as taken}
 
 none-onwards : (a : BlockAnswer) (linked : Bool) → onwards a linked [] ≡ []
 none-onwards (Failed r) linked = refl
@@ -78,50 +82,49 @@ module _ (at : ℕ) (w : World) (passes : Passes at 1 w) where
       ran-chain at 1 w (passes .events) (passes .least, passes .most) (passes .place) ∙
       fetched-step 0 nothing at w (passes .place) ∙ rw (ended, moved)
 
--- ---- what a block reads and writes, by its verdict
+-- ---- what a block reads and writes
 
 -- Byte x lies in one of some ranges, each of them an address and a length.
 abbrev pub In : List (ℕ × ℕ) → ℕ → Type 0
 In [] x = ⊥
 In (r ∷ rs) x = Among (r .0) (r .1) x ⊎ In rs x
 
--- Byte x is one of the bytes that a verdict has a block move, this way.
-abbrev pub DataBy : Visit → Verdict → Bool → ℕ → Type 0
-DataBy v (Do (Move j)) way x =
-    (j .«to_host» ≡ way) ×
-    ((k : ℕ) × ((k < effectOf v .sectors * B (namedDrive v .unit .geometry)) × (dataByte (v .world .host) (j .buffer) k ≡ x)))
-DataBy v (Do (Format spot buffer)) way x = Unit {0}
-DataBy v (Do Report) way x = ⊥
-DataBy v (Do (Initialize g)) way x = ⊥
-DataBy v (Do (Heads c)) way x = ⊥
-DataBy v (Refused r) way x = ⊥
-
-module _ (v : Visit) (verd : Verdict) (is : verdictOf v ≡ verd) (rs : List (ℕ × ℕ)) (x : ℕ) where
-  moved-by : (way : Bool) → (t : Transfer) × (Makes v t × ((t .to-host ≡ way) × HostData v t x)) → DataBy v verd way x
-  moved-by way (t, ((plan, (does, mk)), (to, here))) = subst (λ d. DataBy v d way x) (sym does ∙ is) (by-plan plan mk)
-    where
-      by-plan : (p : Plan) → makes v p t → DataBy v (Do p) way x
-      by-plan (Move j) mk = (rw mk at to, rw mk at here)
-      by-plan (Format spot buffer) mk = tt
-      by-plan Report mk = mk
-      by-plan (Initialize g) mk = mk
-      by-plan (Heads c) mk = mk
-
-  -- Beside word 1 a block writes what a handshake reports and the data that it moves to host memory.
+module _ (v : Visit) (rs : List (ℕ × ℕ)) (x : ℕ) where
+  -- Beside word 1 a block writes what it reports and the data that it moves to host memory.
   pub writes-in :
-      (blockOf v .command ≡ 0x86 → Among (v .at + 4) 12 x → In rs x) → (DataBy v verd true x → In rs x) → HostWritten v x →
-      In ((v .at + 2, 2) ∷ rs) x
-  writes-in reported moved (inl word) = inl word
-  writes-in reported moved (inr (inl report)) = inr (reported (report .0) (report .1))
-  writes-in reported moved (inr (inr data-bytes)) = inr (moved (moved-by true data-bytes))
+      (Among (v .at + wordsBy (askedOf v) .from) (length (wordsBy (askedOf v) .bytes)) x → In rs x) →
+      (HostData (askedOf v) (namedDrive v) true x → In rs x) → WritesHost v x → In ((v .at + 2, 2) ∷ rs) x
+  writes-in reported carried (status-word word) = inl word
+  writes-in reported carried (report among) = inr (reported among)
+  writes-in reported carried (given here) = inr (carried here)
 
   -- Beside its own 28 bytes it reads those that it is judged by and the data that it moves to the disk.
   pub reads-in :
       (InUib (askedOf v) (blockOf v .address) 18 x ⊎ InList (askedOf v) x → In rs x) →
-      (DataBy v verd false x → In rs x) → HostRead v x → In ((v .at, 28) ∷ rs) x
-  reads-in judged moved (inl own) = inl own
-  reads-in judged moved (inr (inl judging)) = inr (judged judging)
-  reads-in judged moved (inr (inr data-bytes)) = inr (moved (moved-by false data-bytes))
+      (HostData (askedOf v) (namedDrive v) false x → In rs x) → ReadsHost v x → In ((v .at, 28) ∷ rs) x
+  reads-in judged carried (block own) = inl own
+  reads-in judged carried (its-uib uib) = inr (judged (inl uib))
+  reads-in judged carried (its-list list) = inr (judged (inr list))
+  reads-in judged carried (taken here) = inr (carried here)
+
+-- One that moves nothing has no data, and one that reports nothing no words.
+module _ (v : Visit) (x : ℕ) where
+  pub no-data : (way : Bool) → movingOf (verdictOf v) ≡ Moving.Nothing → HostData (askedOf v) (namedDrive v) way x → ⊥
+  unfolding progress
+  no-data way is here =
+      let less : here .byte < 0 * B (namedDrive v .unit .geometry) =
+      subst
+      (λ (m : Moving).
+      let t = transferOf (v .world .host) (namedDrive v .unit) m in
+      here .byte < progressOn (namedDrive v .image) t .sectors * B (t .geometry)) is (here .moved) in
+      let none : 0 * B (namedDrive v .unit .geometry) ≡ 0 = zero-mul _ in
+      omega (arith, less, none)
+
+  pub no-words :
+      reportOf (verdictOf v) ≡ Report.Nothing → Among (v .at + wordsBy (askedOf v) .from) (length (wordsBy (askedOf v) .bytes)) x → ⊥
+  no-words is among =
+      let none = subst (λ (r : Report). Among (v .at + wordsOf r .from) (length (wordsOf r .bytes)) x) is among in
+      omega (arith, none)
 
 -- Ranges that have no byte in common, two by two.
 abbrev Clear : ℕ × ℕ → List (ℕ × ℕ) → Type 0

@@ -11,18 +11,18 @@ use lib.ListN.{getD, length}
 use Rattle.wire.specs.Memory.{InMemory}
 use Rattle.answers.specs.declared.BlockAnswer.{BlockAnswer}
 use Rattle.answers.specs.declared.Refusal.{Refusal}
-use Rattle.block.specs.Block.{transferOf}
+use Rattle.block.specs.Block.{transferWith}
 use Rattle.geometry.specs.declared.VolumeNumber.the-variants.{Zero, One}
 use Rattle.geometry.specs.Drive.{driveHeads, marksAt, need, volume, volumeSectors}
 use Rattle.geometry.specs.Drive.Inside.{driveHeads-is, driveSectors-is, marksAt-is, need-is, volumeSectors-is}
 use Rattle.geometry.specs.Limits.{Has, Present}
 use Rattle.geometry.specs.Sectors.Inside.{addressOf-is, firstByte-is, markByte-is, placeOf-is}
 use Rattle.geometry.proofs.Ends.{end-absent, end-present}
-use Rattle.judge.specs.declared.Plan.{Plan}
+use Rattle.judge.specs.declared.Moving.{Moving}
 use Rattle.judge.specs.declared.Standing.{Standing}
 use Rattle.judge.specs.declared.Verdict.{Verdict}
 use Rattle.judge.specs.Given.{asked}
-use Rattle.judge.specs.Asks.{jobOf}
+use Rattle.judge.specs.Asks.{carrying, jobOf}
 use Rattle.judge.specs.Verdict.{verdict}
 use Rattle.judge.proofs.First.{never}
 use Rattle.judge.proofs.Tasks.{move-on, own, piece-done, span-covers, span-on}
@@ -103,7 +103,7 @@ module _ (host : List ℕ) (c : ℕ) (heads : c < 2) where
   pub move-passes :
       (to-host : Bool) (n count at : ℕ) → 0 < count → n + count ≤ 2 → InMemory host at (count * 64) →
       verdict (asked (Task.Move (moveOf to-host n count at)) (standing c 130) host) ≡
-      Verdict.Do (Plan.Move (jobOf (moveOf to-host n count at) n))
+      Verdict.Do (carrying (jobOf (moveOf to-host n count at) n))
   move-passes to-host n count at some fits held =
       let m = moveOf to-host n count at in
       let s = standing c 130 in
@@ -131,7 +131,7 @@ module _ (image : List ℕ) (long : length image ≡ 130) (place : ℕ) (less : 
 -- How far the transfers of the pairs come, all of them from the first sector on. Where their bytes lie in host memory does not matter.
 module _ (image : List ℕ) (long : length image ≡ 130) (at : ℕ) where
   abbrev pub carriedOn : Bool → ℕ → Progress
-  carriedOn to-host count = progressOn image (transferOf (unit 0) (jobOf (moveOf to-host 0 count at) 0) (λ k. k))
+  carriedOn to-host count = progressOn image (transferWith (unit 0) (Moving.Sectors (jobOf (moveOf to-host 0 count at) 0)) (λ k. k))
 
   pub write-of-one : carriedOn false 1 ≡ record { sectors = 1; answer = BlockAnswer.Ended }
   unfolding progress

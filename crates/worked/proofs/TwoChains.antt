@@ -2,9 +2,9 @@
 -- Which bytes are shared is then arithmetic on their addresses.
 use Prim.Native.Nat.{ℕ, _+_, _*_, _≤_, _<_}
 use mathlib.Core.Bool.{true, false}
-use mathlib.Core.List.{[], _∷_}
+use mathlib.Core.List.{[], _∷_, _++_}
 use mathlib.Core.Logic.{inl, inr, ⊎-elim}
-use mathlib.Core.Path.{_≡_, refl, sym, ap, _∙_}
+use mathlib.Core.Path.{_≡_, refl, sym, ap, subst, _∙_}
 use native.Mathlib.Omega.{arith}
 use lib.ListN.{getD, length}
 use Rattle.wire.specs.Memory.{Among}
@@ -16,33 +16,41 @@ use Rattle.iopb.specs.Ask.{taskOf}
 use Rattle.iopb.specs.Layout.{blockAt, uibAt}
 use Rattle.iopb.proofs.Answers.{shapeAt-inside}
 use Rattle.geometry.specs.Limits.{Present, Within}
-use Rattle.judge.specs.declared.Plan.{Plan}
+use Rattle.judge.specs.declared.Leaving.{Leaving}
+use Rattle.judge.specs.declared.Moving.{Moving}
+use Rattle.judge.specs.declared.Report.{Report}
 use Rattle.judge.specs.declared.Verdict.{Verdict}
-use Rattle.judge.specs.Asks.{jobOf}
+use Rattle.judge.specs.Asks.{only, plan}
 use Rattle.judge.specs.Checks.{None}
 use Rattle.judge.proofs.First.{never}
 use Rattle.judge.proofs.Tasks.{handshake, move-11, own, restore-done, restore-refused, shape-given, shape-outside}
-use Rattle.unit.specs.Standing.{CountsAsInitialized}
-use Rattle.transfer.specs.Stores.{after, bytesFrom}
+use Rattle.unit.specs.Standing.{CountsAsInitialized, recordOf}
+use Rattle.transfer.specs.Data.{dataOn}
+use Rattle.transfer.specs.Progress.{progress}
+use Rattle.transfer.specs.Stores.{after, bytesFrom, upTo}
+use Rattle.transfer.specs.Stores as Stores
 use Rattle.block.specs.World.{World, buffersOf, changed}
-use Rattle.block.specs.Block.{dataByte, initialized, reported, transferOf, worldAfter}
-use Rattle.request.specs.declared.Buffer.{Buffer}
-use Rattle.geometry.specs.Drive.{B}
+use Rattle.block.specs.Block.{begun, finish, worldAfter, wordsOf}
+use Rattle.iopb.specs.Identity.{identityBytes}
+use lib.IntN.{pos}
 use Rattle.geometry.specs.Sectors.Inside.{firstByte-is}
-use Rattle.demands.specs.Footprint.{HostWritten, Makes, RunWrites, namedDrive, names, verdictOf}
+use Rattle.demands.specs.Footprint.{RunWrites, WritesHost, askedOf, namedDrive, names, reportOf, transferBy, verdictOf}
+use Rattle.demands.specs.Footprint.HostWritten.{moved as given, report, status-word}
+use Rattle.demands.proofs.BlockLaws.{refusal-moves-nothing}
 use Rattle.demands.specs.Visits.{Passes, Visit, effectOf, worldLeft}
 use Rattle.demands.proofs.VersionTwo.{disk-byte-is-there}
 use Rattle.demands.proofs.Written.{effect-is}
 use Rattle.independence.specs.Chains.{Both, Cell, First, HostReads, HostWrites, Second, Which, both, drive, eventBuffer, hostByte, leaving, runOf, told, worldFor}
 use Rattle.independence.specs.Demand3.{EitherWay, Independent, NoUnitInCommon, NoByteReadByOther, NoByteWrittenByBoth}
 use Rattle.independence.specs.Local.{LeadsAlike}
-use Rattle.independence.specs.Reads.{HostRead}
+use Rattle.independence.specs.Reads.{ReadsHost}
+use Rattle.independence.specs.Reads.HostRead.{its-uib, moved as taken}
 use Rattle.independence.proofs.Blocks.{lawful}
 use Rattle.independence.proofs.Demand3.{run-local}
 use Rattle.independence.proofs.Steps.{unnoticed}
 use Rattle.request.specs.declared.UnitNumber.the-variants.{Zero, One}
 use Rattle.worked.specs.TwoChains.{adjacent, come, driveWith, newDrive, ofFirst, ofSecond, one, readByOther, refusedData, sharedUnit, stoppedRead, tiny, two, writtenTwice, Met, Fails}
-use Rattle.worked.proofs.Carried.{Alone, Carried, alone, differ, met, no-list, no-list-of-a-piece, no-uib, no-unit, no-way, none-read, none-twice, passes-at, read-carried, read-stopped-carried, v, write-carried}
+use Rattle.worked.proofs.Carried.{Alone, Carried, alone, came, comes-still, data-byte, differ, host-byte-is, met, no-list, no-list-of-a-piece, no-uib, no-unit, no-way, none-read, none-twice, passes-at, read-carried, read-stopped-carried, silent, still, v, write-carried}
 use Rattle.worked.proofs.OneBlock.{by-block, done, failed, leaves}
 use Rattle.worked.proofs.Tiny.{counts, moveOf, place-is, unit}
 
@@ -96,9 +104,10 @@ refused-write = own _ _ _ never ∙ move-11 (record { «record» = newDrive .uni
 refused-first : Alone First 0 refusedData Zero ((0, 28) ∷ []) ((2, 2) ∷ [])
 unfolding word taskOf
 refused-first =
-    alone First refusedData 0 (refused-pass .0) _ refused-write [] []
-    (λ x j. ⊎-elim (λ uib. absurd (no-uib _ _ _ x (λ is. omega arith) uib)) (λ list. absurd (no-list-of-a-piece _ (moveOf false 0 1 28) 28 x refl refl list)) j) (λ x d. d) (λ x report among. omega (arith, report))
-    (λ x d. d)
+    alone First refusedData 0 (refused-pass .0) [] []
+    (λ x j. ⊎-elim (λ uib. absurd (no-uib _ _ _ x (λ is. omega arith) uib)) (λ list. absurd (no-list-of-a-piece _ (moveOf false 0 1 28) 28 x refl refl list)) j)
+    (still First refusedData 0 (refused-pass .0) _ refused-write refl false) (silent First refusedData 0 (refused-pass .0) _ refused-write refl)
+    (still First refusedData 0 (refused-pass .0) _ refused-write refl true)
 
 refused-read : Carried Second refusedData 28 true 56 1 1 Ended
 unfolding word taskOf
@@ -110,9 +119,9 @@ refused-met = met refused-first (refused-read .footprint) differ (omega arith) (
 data-not-read :
     (ofFirst refusedData ≡ come RunAnswer.BlockFailed 11 0) × (Among 28 64 30 × HostWrites two (worldFor Second refusedData) 30)
 data-not-read =
-    let e = effect-is (first-of refusedData) _ refused-write in (
-      ap told (failed 0 _ (refused-pass .0) Refusal.NotInitialized 0 (ap (λ e. e .answer) e) (ap (λ e. e .sectors) e)),
-      (omega arith, by-block 28 _ (refused-pass .1) (λ v. HostWritten v 30) (inl (omega arith))),
+    let e = refusal-moves-nothing (first-of refusedData) Refusal.NotInitialized refused-write in (
+      ap told (failed 0 _ (refused-pass .0) Refusal.NotInitialized 0 (e .1) (e .0)),
+      (omega arith, by-block 28 _ (refused-pass .1) (λ v. WritesHost v 30) (status-word (omega arith))),
     )
 
 -- ---- the rest of a stopped read
@@ -137,8 +146,8 @@ rest-not-written = (
   ap told (failed 0 _ (stopped-pass .0) Refusal.Unreadable 1 (stopped-read .answer) (stopped-read .sectors)),
   (
     omega arith,
-    by-block 28 _ (stopped-pass .1) (λ v. HostRead v 120)
-        (inr (inr (_, ((_, (stopped-write .verdict, refl)), (refl, (0, (omega (arith, stopped-write .sectors), refl))))))),
+    by-block 28 _ (stopped-pass .1) (λ v. ReadsHost v 120)
+        (taken (data-byte Second stoppedRead 28 (stopped-pass .1) 9 0 refl false 120 1 1 Ended stopped-write 0 (omega arith))),
   ),
 )
 
@@ -174,19 +183,17 @@ module _
     abbrev u : Visit
     u = v t s at passes
 
-    makes-it : Makes u (transferOf (namedDrive u .unit) (jobOf (moveOf true 0 1 56) 0) (dataByte (s .host) (Buffer.Piece 56)))
-    makes-it = (_, (c .verdict, refl))
-
-    some : 0 < effectOf u .sectors * B (namedDrive u .unit .geometry)
-    some = rw (c .sectors, same) (omega arith)
-
     wrote-56 : RunWrites at 1 (worldFor t s) 56
-    wrote-56 = by-block at _ passes (λ v. HostWritten v 56) (inr (inr (_, (makes-it, (refl, (0, (some, refl)))))))
+    wrote-56 = by-block at _ passes (λ v. WritesHost v 56) (given (data-byte t s at passes byte mark same true 56 1 1 Ended c 0 (omega arith)))
 
     left-56 : (Among (at + 2) 2 56 → ⊥) → 56 < length (s .host) → getD (worldLeft u .host) 56 0 ≡ byte
     left-56 clear room =
-        disk-byte-is-there u _ makes-it refl 0 some room (λ i later less again. omega arith) clear ∙
-        rw (same, place-is 0 0, firstByte-is tiny 0)
+        let lies = host-byte-is t s at passes byte mark same true 56 1 1 Ended c in
+        let reads : transferBy (askedOf u) .to-host ≡ true = rw (c .verdict) in
+        ap (λ (n : ℕ). getD (worldLeft u .host) n 0) (sym (lies 0)) ∙
+        disk-byte-is-there u reads 0 (came t s at passes byte mark same true 56 1 1 Ended c 0 (omega arith)) (omega (arith, lies 0))
+        (λ i later less again. omega (arith, lies i, lies 0, again)) (λ among. clear (omega (arith, lies 0, among))) ∙
+        rw (c .verdict, same, place-is 0 0, firstByte-is tiny 0)
 
 which-number : Which → ℕ
 which-number First = 0
@@ -240,7 +247,7 @@ within-tiny = counts 0 (omega arith) .within
 shared-pass : Passes 0 1 (worldFor First sharedUnit) × Passes 28 1 (worldFor Second sharedUnit)
 shared-pass = both-pass sharedUnit refl refl (omega arith)
 
-shared-initialize : verdictOf (first-of sharedUnit) ≡ Verdict.Do (Plan.Initialize tiny)
+shared-initialize : verdictOf (first-of sharedUnit) ≡ Verdict.Do (only (Leaving.Fresh tiny))
 unfolding word taskOf
 shared-initialize =
     rw (shapeAt-inside (sharedUnit .host) 32 (omega arith))
@@ -253,29 +260,30 @@ shared-restore = own _ _ _ never ∙ restore-refused (record { «record» = newD
 shared-first : Alone First 0 sharedUnit Zero ((0, 28) ∷ (32, 18) ∷ []) ((2, 2) ∷ [])
 unfolding word taskOf
 shared-first =
-    alone First sharedUnit 0 (shared-pass .0) _ shared-initialize ((32, 18) ∷ []) []
-    (λ x j. ⊎-elim (λ uib. inl (uib .among)) (λ list. absurd (no-list _ x (λ is. omega arith) list)) j) (λ x d. absurd d)
-    (λ x report among. absurd (omega (arith, report))) (λ x d. d)
+    alone First sharedUnit 0 (shared-pass .0) ((32, 18) ∷ []) []
+    (λ x j. ⊎-elim (λ uib. inl (uib .among)) (λ list. absurd (no-list _ x (λ is. omega arith) list)) j)
+    (λ x d. absurd (still First sharedUnit 0 (shared-pass .0) _ shared-initialize refl false x d))
+    (silent First sharedUnit 0 (shared-pass .0) _ shared-initialize refl) (still First sharedUnit 0 (shared-pass .0) _ shared-initialize refl true)
 
 shared-second : Alone Second 28 sharedUnit Zero ((28, 28) ∷ []) ((30, 2) ∷ [])
 unfolding word taskOf
 shared-second =
-    alone Second sharedUnit 28 (shared-pass .1) _ shared-restore [] []
-    (λ x j. ⊎-elim (λ uib. absurd (no-uib _ _ _ x (λ is. omega arith) uib)) (λ list. absurd (no-list _ x (λ is. omega arith) list)) j) (λ x d. d)
-    (λ x report among. absurd (omega (arith, report))) (λ x d. d)
+    alone Second sharedUnit 28 (shared-pass .1) [] []
+    (λ x j. ⊎-elim (λ uib. absurd (no-uib _ _ _ x (λ is. omega arith) uib)) (λ list. absurd (no-list _ x (λ is. omega arith) list)) j)
+    (still Second sharedUnit 28 (shared-pass .1) _ shared-restore refl false) (silent Second sharedUnit 28 (shared-pass .1) _ shared-restore refl)
+    (still Second sharedUnit 28 (shared-pass .1) _ shared-restore refl true)
 
 -- What the initialize leaves, and the restore after it.
 abbrev initialized-world : World
 initialized-world =
     let w = worldFor First sharedUnit in
-    let e = initialized (blockAt (w .host) 0) 0 0 tiny in
-    changed w Zero (after (e .stores) (buffersOf w Zero)) (e .unit)
+    changed w Zero (after (begun 0 ++ finish (blockAt (w .host) 0) 0 0 Ended (pos 0)) (buffersOf w Zero)) (recordOf true tiny 0)
 
 initialize-leaves : runOf First one .left sharedUnit ≡ leaving First sharedUnit initialized-world
-unfolding worldAfter
+unfolding worldAfter bytesFrom dataOn progress upTo
 initialize-leaves =
     ap (leaving First sharedUnit)
-    (leaves 0 (worldFor First sharedUnit) (shared-pass .0) refl ∙ rw (effect-is (first-of sharedUnit) _ shared-initialize))
+    (leaves 0 (worldFor First sharedUnit) (shared-pass .0) refl ∙ rw (effect-is (first-of sharedUnit), shared-initialize))
 
 abbrev then-shared : Both
 then-shared = leaving First sharedUnit initialized-world
@@ -284,20 +292,20 @@ then-passes : Passes 28 1 (worldFor Second then-shared)
 unfolding after bytesFrom
 then-passes = passes-at Second then-shared 28 refl refl (omega arith)
 
-then-restore : verdictOf (second-of then-shared) ≡ Verdict.Do (Plan.Heads 0)
+then-restore : verdictOf (second-of then-shared) ≡ Verdict.Do (only (Leaving.HeadsAt 0))
 unfolding word taskOf after bytesFrom
 then-restore = own _ _ _ never ∙ restore-done (record { «record» = unit 0; image = 0 }) (then-shared .host) (counts 0 (omega arith))
 
 then-comes : ofSecond then-shared ≡ come RunAnswer.Done 0 0
 unfolding after bytesFrom
 then-comes =
-    let e = effect-is (second-of then-shared) _ then-restore in
-    ap told (done 28 _ then-passes refl 0 (ap (λ e. e .answer) e) (ap (λ e. e .sectors) e))
+    let e = comes-still (second-of then-shared) _ then-restore refl in
+    ap told (done 28 _ then-passes refl 0 (e .1) (e .0))
 
 alone-comes : ofSecond sharedUnit ≡ come RunAnswer.BlockFailed 11 0
 alone-comes =
-    let e = effect-is (second-of sharedUnit) _ shared-restore in
-    ap told (failed 28 _ (shared-pass .1) Refusal.NotInitialized 0 (ap (λ e. e .answer) e) (ap (λ e. e .sectors) e))
+    let e = refusal-moves-nothing (second-of sharedUnit) Refusal.NotInitialized shared-restore in
+    ap told (failed 28 _ (shared-pass .1) Refusal.NotInitialized 0 (e .1) (e .0))
 
 shared-differs : EitherWay one two sharedUnit → ⊥
 shared-differs e =
@@ -320,11 +328,11 @@ shared-unit = (
 read-pass : Passes 0 1 (worldFor First readByOther) × Passes 28 1 (worldFor Second readByOther)
 read-pass = both-pass readByOther refl refl (omega arith)
 
-read-report : verdictOf (first-of readByOther) ≡ Verdict.Do Plan.Report
+read-report : verdictOf (first-of readByOther) ≡ Verdict.Do (plan Moving.Nothing Report.Identity Leaving.AsItWas)
 unfolding word taskOf
 read-report = handshake (record { «record» = unit 0; image = 130 }) (readByOther .host)
 
-read-initialize : verdictOf (second-of readByOther) ≡ Verdict.Do (Plan.Initialize tiny)
+read-initialize : verdictOf (second-of readByOther) ≡ Verdict.Do (only (Leaving.Fresh tiny))
 unfolding word taskOf
 read-initialize =
     rw (shapeAt-inside (readByOther .host) 4 (omega arith))
@@ -333,28 +341,30 @@ read-initialize =
 read-first : Alone First 0 readByOther Zero ((0, 28) ∷ []) ((2, 2) ∷ (4, 12) ∷ [])
 unfolding word taskOf
 read-first =
-    alone First readByOther 0 (read-pass .0) _ read-report [] ((4, 12) ∷ [])
-    (λ x j. ⊎-elim (λ uib. absurd (no-uib _ _ _ x (λ is. omega arith) uib)) (λ list. absurd (no-list _ x (λ is. omega arith) list)) j) (λ x d. d) (λ x report among. inl among)
-    (λ x d. absurd d)
+    alone First readByOther 0 (read-pass .0) [] ((4, 12) ∷ [])
+    (λ x j. ⊎-elim (λ uib. absurd (no-uib _ _ _ x (λ is. omega arith) uib)) (λ list. absurd (no-list _ x (λ is. omega arith) list)) j)
+    (still First readByOther 0 (read-pass .0) _ read-report refl false)
+    (λ x among. inl (subst (λ (verd : Verdict). Among (0 + wordsOf (reportOf verd) .from) (length (wordsOf (reportOf verd) .bytes)) x) read-report among))
+    (λ x d. absurd (still First readByOther 0 (read-pass .0) _ read-report refl true x d))
 
 read-second : Alone Second 28 readByOther One ((28, 28) ∷ (4, 18) ∷ []) ((30, 2) ∷ [])
 unfolding word taskOf
 read-second =
-    alone Second readByOther 28 (read-pass .1) _ read-initialize ((4, 18) ∷ []) []
-    (λ x j. ⊎-elim (λ uib. inl (uib .among)) (λ list. absurd (no-list _ x (λ is. omega arith) list)) j) (λ x d. absurd d)
-    (λ x report among. absurd (omega (arith, report))) (λ x d. d)
+    alone Second readByOther 28 (read-pass .1) ((4, 18) ∷ []) []
+    (λ x j. ⊎-elim (λ uib. inl (uib .among)) (λ list. absurd (no-list _ x (λ is. omega arith) list)) j)
+    (λ x d. absurd (still Second readByOther 28 (read-pass .1) _ read-initialize refl false x d))
+    (silent Second readByOther 28 (read-pass .1) _ read-initialize refl) (still Second readByOther 28 (read-pass .1) _ read-initialize refl true)
 
 abbrev reported-world : World
 reported-world =
     let w = worldFor First readByOther in
-    let e = reported (blockAt (w .host) 0) 0 0 (unit 0) in
-    changed w Zero (after (e .stores) (buffersOf w Zero)) (e .unit)
+    changed w Zero (after (begun 0 ++ bytesFrom Stores.hostByte 4 identityBytes ++ finish (blockAt (w .host) 0) 0 0 Ended (pos 0)) (buffersOf w Zero)) (unit 0)
 
 report-leaves : runOf First one .left readByOther ≡ leaving First readByOther reported-world
-unfolding worldAfter
+unfolding worldAfter bytesFrom dataOn progress upTo
 report-leaves =
     ap (leaving First readByOther)
-    (leaves 0 (worldFor First readByOther) (read-pass .0) refl ∙ rw (effect-is (first-of readByOther) _ read-report))
+    (leaves 0 (worldFor First readByOther) (read-pass .0) refl ∙ rw (effect-is (first-of readByOther), read-report))
 
 abbrev then-read : Both
 then-read = leaving First readByOther reported-world
@@ -373,13 +383,13 @@ then-outside =
 
 then-read-comes : ofSecond then-read ≡ come RunAnswer.BlockFailed 13 0
 then-read-comes =
-    let e = effect-is (second-of then-read) _ then-outside in
-    ap told (failed 28 _ then-read-passes Refusal.UibOutsideLimits 0 (ap (λ e. e .answer) e) (ap (λ e. e .sectors) e))
+    let e = refusal-moves-nothing (second-of then-read) Refusal.UibOutsideLimits then-outside in
+    ap told (failed 28 _ then-read-passes Refusal.UibOutsideLimits 0 (e .1) (e .0))
 
 read-alone-comes : ofSecond readByOther ≡ come RunAnswer.Done 0 0
 read-alone-comes =
-    let e = effect-is (second-of readByOther) _ read-initialize in
-    ap told (done 28 _ (read-pass .1) refl 0 (ap (λ e. e .answer) e) (ap (λ e. e .sectors) e))
+    let e = comes-still (second-of readByOther) _ read-initialize refl in
+    ap told (done 28 _ (read-pass .1) refl 0 (e .1) (e .0))
 
 read-differs : EitherWay one two readByOther → ⊥
 read-differs e =
@@ -392,9 +402,9 @@ read-by-other :
 unfolding word taskOf None
 read-by-other = (
   λ none.
-      none 4 .0 (by-block 0 _ (read-pass .0) (λ v. HostWritten v 4) (inr (inl (refl, omega arith))))
-      (by-block 28 _ (read-pass .1) (λ v. HostRead v 4)
-      (inr (inl (inl (record { shape = _; asks = refl; passed = (never, (λ bad. rw (shapeAt-inside (readByOther .host) 4 (omega arith)) at bad, tt)); among = omega arith }))))),
+      none 4 .0 (by-block 0 _ (read-pass .0) (λ v. WritesHost v 4) (report (rw read-report (omega arith, omega arith))))
+      (by-block 28 _ (read-pass .1) (λ v. ReadsHost v 4)
+      (its-uib (record { shape = _; asks = refl; passed = (never, (λ bad. rw (shapeAt-inside (readByOther .host) 4 (omega arith)) at bad, tt)); among = omega arith }))),
   (no-unit read-first read-second differ, (none-twice read-first read-second (omega arith), read-differs)),
 )
 

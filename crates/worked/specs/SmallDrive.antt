@@ -9,10 +9,9 @@ use Rattle.geometry.specs.declared.Geometry.{Geometry}
 use Rattle.geometry.specs.declared.VolumeNumber.{VolumeNumber}
 use Rattle.geometry.specs.Drive.{geometryOf, volumeOf}
 use Rattle.geometry.specs.Sectors.{firstByte}
-use Rattle.judge.specs.declared.Plan.{Plan}
 use Rattle.judge.specs.declared.Verdict.{Verdict}
 use Rattle.judge.specs.Given.{Asked}
-use Rattle.judge.specs.Asks.{jobOf}
+use Rattle.judge.specs.Asks.{carrying, jobOf}
 use Rattle.judge.specs.Verdict.{verdict}
 use Rattle.request.specs.declared.Buffer.{Buffer}
 use Rattle.request.specs.declared.Move.{Move}
@@ -59,7 +58,7 @@ pub data Says : Type 0 where
 -- What the table says of a request from a number on: the verdict refuses it so, or has it done from there.
 abbrev pub Judged : Move → ℕ → ℕ → Says → Type 0
 Judged m n image (refused r) = verdict (asking m image) ≡ Verdict.Refused r
-Judged m n image passes = verdict (asking m image) ≡ Verdict.Do (Plan.Move (jobOf m n))
+Judged m n image passes = verdict (asking m image) ≡ Verdict.Do (carrying (jobOf m n))
 
 -- A line of the table.
 pub data Line : Type 0 where

@@ -1,15 +1,11 @@
--- Word 1 and the event entry, each by its own function.
+-- The two words, and the entry.
 use mir.Syntax.{w32}
 use mir.ValLaws.{toZ-ofZ}
+use mathlib.Core.Path.{refl}
+use Rattle.block.proofs.Effects.{finish-made}
 use borrow.Author.Needs.{needs}
 use Rattle.block.proofs.finish.Statement.{statement}
 use Rattle.block.proofs.finish.Tie as tie
-use Rattle.block.proofs.finish.Reads as reads
-use Rattle.block.proofs.finish.Lts as lts
-use Rattle.answers.proofs.BlockAnswer.status.Reads as status-reads
-use Rattle.block.proofs.put_status.Reads as put-status-reads
-use Rattle.block.proofs.events.put_event.Reads as put-event-reads
-use Rattle.iopb.proofs.error_byte.Reads as error-byte-reads
 
 status-requires : tie.Need-status-requires
 status-requires c κs = search needs
@@ -30,7 +26,14 @@ same-length-2 : tie.Need-same-length-2
 same-length-2 c = search needs
 
 returns : tie.Need-returns
-returns c = (rw (c .before .before .before .before .before .before .before .before .status .ensures, c .before .before .before .before .before .before .before .error-byte .ensures) at (c .before .before .before .before .before .before .put-status .ensures), rw (toZ-ofZ w32 (c .before .before .before .before .before .before .before .before .before .before .before .before .args .travel) (c .before .before .before .before .before .before .before .before .before .before .before .before .fits .travel)) at (c .before .before .put-event .ensures))
+returns c =
+    let a = c .before .before .before .before .before .before .before .before .before .before .before .before .before .before .args in (
+      refl,
+      λ image.
+          finish-made (a .b) (a .at) (a .i) (a .p .answer) (a .p .travel) (a .host .now) image (a .events .now) (c .before .before .before .before .before .before .before .put-status .last .0) (c .before .before .put-event .last .0)
+          (rw (c .before .before .before .before .before .before .before .before .before .status .ensures, c .before .before .before .before .before .before .before .before .error-byte .ensures) at (c .before .before .before .before .before .before .before .put-status .ensures))
+          (rw (toZ-ofZ w32 (a .p .travel) (record { sfits = c .before .before .before .struct-told .given .1 .1 .1 .0 .1 })) at (c .before .before .put-event .ensures)),
+    )
 
 pub finish-spec : {M : Type 1} → statement M
 finish-spec =

@@ -5,36 +5,18 @@ use Rattle.wire.proofs.Numbers.{product-below}
 use borrow.Author.Needs.{needs}
 use Rattle.block.proofs.job_bytes.Statement.{statement}
 use Rattle.block.proofs.job_bytes.Tie as tie
-use Rattle.block.proofs.job_bytes.Reads as reads
-use Rattle.block.proofs.job_bytes.Lts as lts
-use Rattle.geometry.proofs.Geometry.bytes_a_sector.Reads as bytes-a-sector-reads
-use Rattle.unit.proofs.Record.geometry.Reads as geometry-reads
 
 cast-result : tie.Need-cast-result
 cast-result c = search needs
 
-geometry-requires : tie.Need-geometry-requires
-geometry-requires c κs = search needs
-
-bytes-a-sector-requires : tie.Need-bytes-a-sector-requires
-bytes-a-sector-requires c κs = search needs
-
-cast-result-2 : tie.Need-cast-result-2
-cast-result-2 c = search needs
+sector-bytes-requires : tie.Need-sector-bytes-requires
+sector-bytes-requires c κs = search needs
 
 mul-result : tie.Need-mul-result
-mul-result c = record { fits = product-below _ (c .bytes-a-sector .result) 65535 65535 (2 ^ 32) (omega arith) (omega arith) tt }
+mul-result c = record { fits = product-below _ (c .sector-bytes .result) 65535 65535 (2 ^ 32) (omega arith) (omega arith) tt }
 
 returns : tie.Need-returns
-returns c = rw (c .bytes-a-sector .ensures, c .before .geometry .ensures)
+returns c = rw (c .sector-bytes .ensures .0)
 
 pub job-bytes-spec : {M : Type 1} → statement M
-job-bytes-spec =
-    tie.close
-    (tie.spec
-    cast-result
-    geometry-requires
-    bytes-a-sector-requires
-    cast-result-2
-    mul-result
-    returns)
+job-bytes-spec = tie.close (tie.spec cast-result sector-bytes-requires mul-result returns)

@@ -6,8 +6,11 @@ use borrow.Author.Needs.{needs}
 use Rattle.wire.proofs.Promises.{denied, granted, says-no, says-yes}
 use Rattle.unit.proofs.Answers.{at-track, no-track}
 use Rattle.unit.specs.declared.Spot.{Spot}
-use Rattle.judge.specs.declared.Plan.{Plan}
+use Rattle.judge.specs.declared.Leaving.{Leaving}
+use Rattle.judge.specs.declared.Moving.{Moving}
+use Rattle.judge.specs.declared.Report.{Report}
 use Rattle.judge.specs.declared.Verdict.{Verdict}
+use Rattle.judge.specs.Asks.{plan}
 use Rattle.judge.proofs.Tasks.{format-11, format-16, format-17, format-19, format-done}
 use Rattle.judge.proofs.judge_format.Statement.{statement}
 use Rattle.judge.proofs.judge_format.Tie as tie
@@ -69,7 +72,7 @@ returns-4 c =
     let long = says-no (short .result) _ (c .before .before .before .if2 .left) (short .ensures) in
     let on = at-track (a .standing .record) (a .k .cylinder) (a .k .head) (c .before .before .before .before .before .before .spot .given .0 .0) (sym (c .before .before .before .before .before .before .before .before .land-track .ensures) ∙ c .before .before .before .before .before .before .spot .given .1) in
     let held = c .before .holds in
-    ap (λ (x : Spot). Verdict.Do (Plan.Format x (a .k .buffer))) (on .1)
+    ap (λ (x : Spot). Verdict.Do (plan (Moving.Track x (a .k .buffer)) Report.Nothing (Leaving.HeadsAt (x .cylinder)))) (on .1)
     ∙ sym
     (format-done (a .standing) (a .host .now) (a .k) (granted (u .result) _ (c .before .before .before .before .before .before .before .before .before .if1 .left) (u .ensures)) (on .0)
     (omega arith)

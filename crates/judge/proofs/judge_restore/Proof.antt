@@ -1,6 +1,6 @@
 -- Check 11 is the one way in which a restore is refused.
 -- Tasks has both cases.
-use mathlib.Core.Path.{sym}
+use mathlib.Core.Path.{sym, _∙_}
 use borrow.Author.Needs.{needs}
 use Rattle.wire.proofs.Promises.{says-no, says-yes}
 use Rattle.judge.proofs.Tasks.{restore-done, restore-refused}
@@ -10,10 +10,13 @@ use Rattle.judge.proofs.judge_restore.Tie as tie
 counts-as-initialized-requires : tie.Need-counts-as-initialized-requires
 counts-as-initialized-requires c κs = search needs
 
+only-requires : tie.Need-only-requires
+only-requires c κs = search needs
+
 returns : tie.Need-returns
 returns c =
-    let u = c .before .counts-as-initialized in
-    sym (restore-done _ _ (says-yes (u .result) _ (c .if1 .taken) (u .ensures)))
+    let u = c .before .before .counts-as-initialized in
+    c .only .ensures ∙ sym (restore-done _ _ (says-yes (u .result) _ (c .before .if1 .taken) (u .ensures)))
 
 returns-2 : tie.Need-returns-2
 returns-2 c =
@@ -21,4 +24,4 @@ returns-2 c =
     sym (restore-refused _ _ (says-no (u .result) _ (c .if1 .left) (u .ensures)))
 
 pub judge-restore-spec : {M : Type 1} → statement M
-judge-restore-spec = tie.close (tie.spec counts-as-initialized-requires returns returns-2)
+judge-restore-spec = tie.close (tie.spec counts-as-initialized-requires only-requires returns returns-2)

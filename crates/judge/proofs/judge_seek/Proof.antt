@@ -6,8 +6,9 @@ use borrow.Author.Needs.{needs}
 use Rattle.wire.proofs.Promises.{denied, granted}
 use Rattle.unit.proofs.Answers.{at-landing, no-landing}
 use Rattle.unit.specs.declared.Spot.{Spot}
-use Rattle.judge.specs.declared.Plan.{Plan}
+use Rattle.judge.specs.declared.Leaving.{Leaving}
 use Rattle.judge.specs.declared.Verdict.{Verdict}
+use Rattle.judge.specs.Asks.{only}
 use Rattle.judge.proofs.Tasks.{seek-11, seek-14, seek-done, seek-nowhere, seek-past}
 use Rattle.judge.proofs.judge_seek.Statement.{statement}
 use Rattle.judge.proofs.judge_seek.Tie as tie
@@ -41,6 +42,9 @@ land-requires c κs = search needs
 enum-known-spot : tie.Need-enum-known-spot
 enum-known-spot c = search needs
 
+only-requires : tie.Need-only-requires
+only-requires c κs = search needs
+
 enum-told : tie.Need-enum-told
 enum-told c = search needs
 
@@ -49,18 +53,20 @@ enum-told-2 c = search needs
 
 returns-3 : tie.Need-returns-3
 returns-3 c =
-    let a = c .before .before .before .before .before .before .before .before .before .before .before .before .before .before .args in
-    let u = c .before .before .before .before .before .before .before .before .before .before .before .counts-as-initialized in
-    let v = c .before .before .before .before .before .before .before .before .before .has-volume in
-    let n = c .before .before .before .before .before .n .given .0 .0 in
-    let spot = c .before .spot .given .0 .0 in
-    let landed = at-landing (a .standing .record) (a .t .volume) n spot (sym (c .before .before .before .land .ensures) ∙ c .before .spot .given .1) in
-    ap (λ (x : Spot). Verdict.Do (Plan.Heads (x .cylinder))) (landed .1)
+    let b = c .before in
+    let a = b .before .before .before .before .before .before .before .before .before .before .before .before .before .before .args in
+    let u = b .before .before .before .before .before .before .before .before .before .before .before .counts-as-initialized in
+    let v = b .before .before .before .before .before .before .before .before .before .has-volume in
+    let n = b .before .before .before .before .before .n .given .0 .0 in
+    let spot = b .before .spot .given .0 .0 in
+    let landed = at-landing (a .standing .record) (a .t .volume) n spot (sym (b .before .before .before .land .ensures) ∙ b .before .spot .given .1) in
+    c .only .ensures
+    ∙ ap (λ (x : Spot). Verdict.Do (only (Leaving.HeadsAt (x .cylinder)))) (landed .1)
     ∙ sym
-    (seek-done (a .standing) (a .host .now) (a .t) (granted (u .result) _ (c .before .before .before .before .before .before .before .before .before .before .if1 .left) (u .ensures))
-    (granted (v .result) _ (c .before .before .before .before .before .before .before .before .if2 .left) (v .ensures))
+    (seek-done (a .standing) (a .host .now) (a .t) (granted (u .result) _ (b .before .before .before .before .before .before .before .before .before .before .if1 .left) (u .ensures))
+    (granted (v .result) _ (b .before .before .before .before .before .before .before .before .if2 .left) (v .ensures))
     n
-    (sym (c .before .before .before .before .before .before .before .number .ensures) ∙ c .before .before .before .before .before .n .given .1)
+    (sym (b .before .before .before .before .before .before .before .number .ensures) ∙ b .before .before .before .before .before .n .given .1)
     (omega (arith, landed)))
 
 returns-4 : tie.Need-returns-4
@@ -98,6 +104,7 @@ judge-seek-spec =
     enum-known-n
     land-requires
     enum-known-spot
+    only-requires
     enum-told
     enum-told-2
     returns-3

@@ -1,6 +1,6 @@
 -- Checks 12 and 13 are the two ways in which an initialize is refused.
 -- Tasks has each case.
-use mathlib.Core.Path.{_≡_, sym}
+use mathlib.Core.Path.{_≡_, sym, _∙_}
 use borrow.Author.Needs.{needs}
 use Rattle.wire.proofs.Promises.{says-no, says-yes}
 use Rattle.request.specs.declared.Shape.{Shape}
@@ -17,6 +17,9 @@ enum-known-s c = search needs
 is-within-requires : tie.Need-is-within-requires
 is-within-requires c κs = search needs
 
+only-requires : tie.Need-only-requires
+only-requires c κs = search needs
+
 returns : tie.Need-returns
 returns c =
     let is : c .before .before .before .args .s ≡ Shape.Misplaced = cc in
@@ -24,10 +27,11 @@ returns c =
 
 returns-2 : tie.Need-returns-2
 returns-2 c =
-    let g = c .before .before .before .s .given .0 .0 in
-    let is : c .before .before .before .before .before .before .args .s ≡ Shape.Given g = cc in
-    let within = c .before .is-within in
-    rw is (sym (shape-given _ _ g (says-yes (within .result) _ (c .if1 .taken) (within .ensures))))
+    let t = c .before in
+    let g = t .before .before .before .s .given .0 .0 in
+    let is : t .before .before .before .before .before .before .args .s ≡ Shape.Given g = cc in
+    let within = t .before .is-within in
+    rw is (c .only .ensures ∙ sym (shape-given _ _ g (says-yes (within .result) _ (t .if1 .taken) (within .ensures))))
 
 returns-3 : tie.Need-returns-3
 returns-3 c =
@@ -38,4 +42,4 @@ returns-3 c =
 
 pub judge-shape-spec : {M : Type 1} → statement M
 judge-shape-spec =
-    tie.close (tie.spec enum-told enum-known-s is-within-requires returns returns-2 returns-3)
+    tie.close (tie.spec enum-told enum-known-s is-within-requires only-requires returns returns-2 returns-3)

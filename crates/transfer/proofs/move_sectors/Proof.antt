@@ -48,7 +48,7 @@ heeds-requires : tie.Need-heeds-requires
 heeds-requires c κs = search needs
 
 survey-requires : tie.Need-survey-requires
-survey-requires c κs = (fits (c .before .before) .some, spans (c .before .before))
+survey-requires c κs = spans (c .before .before)
 
 carry-requires : tie.Need-carry-requires
 carry-requires c κs =

@@ -1,10 +1,7 @@
 -- The run lies on the drive, so that it can be scanned.
 -- What its places in a row come to is what its sectors come to.
-use mathlib.Core.Path.{ap, sym, _∙_}
 use native.Mathlib.Omega.{arith}
-use Rattle.transfer.specs.Progress.{Progress}
-use Rattle.transfer.specs.declared.reach.Reached.{Reached}
-use Rattle.transfer.proofs.Tracks.{run-comes, run-cylinder, run-inside}
+use Rattle.transfer.proofs.Tracks.{run-comes, run-inside}
 use borrow.Author.Needs.{needs}
 use Rattle.transfer.proofs.reach.advance.Statement.{statement}
 use Rattle.transfer.proofs.reach.advance.Tie as tie
@@ -20,9 +17,6 @@ run-at-requires c κs = search needs
 geometry-requires : tie.Need-geometry-requires
 geometry-requires c κs = search needs
 
-abbrev asProgress : Reached → Progress
-asProgress x = record { sectors = x .sectors; answer = x .answer }
-
 reach-requires : tie.Need-reach-requires
 reach-requires c κs =
     let a = c .before .before .before .args in
@@ -33,15 +27,13 @@ returns : tie.Need-returns
 returns c =
     let a = c .before .before .before .before .args in
     let run = c .before .before .run-at in
-    let is = rw (c .before .geometry .ensures) at (c .reach .ensures) in
     record {
       run = run .result .sectors;
       some = run .ensures .some;
       asked = run .ensures .asked;
       comes =
-          run-comes (a .u) (a .v) (a .number) (a .most) (run .result) (omega arith) (run .ensures) (a .image .now) (a .heeds)
-          ∙ sym (ap (λ (x : Reached). asProgress x) is);
-      cylinder = run-cylinder (a .u) (a .v) (a .number) (a .most) (run .result) (omega arith) (run .ensures);
+          rw (c .reach .ensures, c .before .geometry .ensures)
+          (run-comes (a .u) (a .v) (a .number) (a .most) (run .result) (omega arith) (run .ensures) (a .image .now) (a .heeds));
     }
 
 pub advance-spec : {M : Type 1} → statement M

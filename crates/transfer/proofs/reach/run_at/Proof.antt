@@ -39,7 +39,6 @@ returns-2 c =
     let is = landed .1 in
     record {
       place = ap (λ (x : Spot). x .place) is;
-      cylinder = ap (λ (x : Spot). x .cylinder) is;
       some = omega (arith, ap (λ (x : Spot). x .rest) is, inside .some);
       asked = omega arith;
       track = omega (arith, ap (λ (x : Spot). x .rest) is);

@@ -1,0 +1,70 @@
+-- The last sector tried is one of the span's, which the volume has; so its landing is there.
+use Prim.Native.Nat.{_+_, _<_}
+use mathlib.Core.Path.{_≡_, sym, ap, _∙_}
+use native.Mathlib.Omega.{arith}
+use Rattle.geometry.specs.Drive.{volumeSectors}
+use Rattle.transfer.specs.Progress.{lastTried}
+use Rattle.unit.proofs.Answers.{at-landing, no-landing}
+use Rattle.unit.specs.declared.Spot.{Spot}
+use borrow.Author.Needs.{needs}
+use Rattle.block.proofs.last_tried.Statement.{statement}
+use Rattle.block.proofs.last_tried.Tie as tie
+
+geometry-requires : tie.Need-geometry-requires
+geometry-requires c κs = search needs
+
+volume-sectors-requires : tie.Need-volume-sectors-requires
+volume-sectors-requires c κs = search needs
+
+sub-lesser : tie.Need-sub-lesser
+sub-lesser c = search needs
+
+lesser-requires : tie.Need-lesser-requires
+lesser-requires c κs = search needs
+
+cast-last : tie.Need-cast-last
+cast-last c = search needs
+
+add-land : tie.Need-add-land
+add-land c =
+    let all = rw (c .before .before .before .before .geometry .ensures) at (c .before .before .before .volume-sectors .ensures) in
+    omega (arith, c .before .before .before .before .before .pre .inside, c .before .before .before .before .before .pre .some, all, c .before .lesser .ensures)
+
+land-requires : tie.Need-land-requires
+land-requires c κs = search needs
+
+enum-known-spot : tie.Need-enum-known-spot
+enum-known-spot c = search needs
+
+enum-told : tie.Need-enum-told
+enum-told c = search needs
+
+returns : tie.Need-returns
+returns c =
+    let a = c .before .before .before .before .before .before .before .before .args in
+    let n = a .span .first + lastTried (a .sectors) (a .span .count) in
+    let past = no-landing (a .u) (a .span .volume) n (sym (rw (c .before .before .before .before .lesser .ensures) at (c .before .before .land .ensures)) ∙ c .enum-told .given .1) in
+    absurd (omega (arith, past, c .before .before .before .before .before .before .before .before .pre .inside, c .before .before .before .before .before .before .before .before .pre .some))
+
+returns-2 : tie.Need-returns-2
+returns-2 c =
+    let a = c .before .before .before .before .before .before .before .before .before .args in
+    let n = a .span .first + lastTried (a .sectors) (a .span .count) in
+    let landed = at-landing (a .u) (a .span .volume) n (c .before .spot .given .0 .0) (sym (rw (c .before .before .before .before .before .lesser .ensures) at (c .before .before .before .land .ensures)) ∙ c .before .spot .given .1) in
+    ap (λ (x : Spot). x .cylinder) (landed .1)
+
+pub last-tried-spec : {M : Type 1} → statement M
+last-tried-spec =
+    tie.close
+    (tie.spec
+    geometry-requires
+    volume-sectors-requires
+    sub-lesser
+    lesser-requires
+    cast-last
+    add-land
+    land-requires
+    enum-known-spot
+    enum-told
+    returns
+    returns-2)

@@ -1,0 +1,75 @@
+-- The list fits, so its elements are copied out, their pieces fit, and their bytes are the block's data.
+use Prim.Native.Nat.{_*_, _≤_}
+use mathlib.Core.Path.{_≡_, sym, ap, _∙_}
+use lib.ListN.{length, take}
+use lib.Seq.{length-take-le}
+use Rattle.geometry.specs.Drive.{B}
+use Rattle.memory.specs.Pieces.{addressesOf, filled, lengthsOf}
+use Rattle.transfer.specs.Runs.{pieceByte}
+use Rattle.block.specs.Block.{dataByte}
+use Rattle.block.proofs.Gathered.{copied-out, elements-fit, list-byte, list-good, made-same, slots-enough}
+use borrow.Author.Needs.{needs}
+use Rattle.block.proofs.through_list.Statement.{statement}
+use Rattle.block.proofs.through_list.Tie as tie
+
+copy-out-requires : tie.Need-copy-out-requires
+copy-out-requires c κs = search needs
+
+-- What was copied out are the elements, and there are slots enough for them.
+out : (c : tie.After-copy-out) → c .copy-out .result ≡ filled (c .before .before .before .before .args .host .now) (c .before .before .before .before .args .address) (c .before .before .before .before .args .elements)
+out c = c .copy-out .ensures ∙ copied-out (c .before .before .before .before .args .host .now) (c .before .before .before .before .args .image .now) (c .before .before .before .before .args .u) (c .before .before .before .before .args .job) (c .before .before .before .before .pre .1 .1) (c .before .before .before .before .args .address) (c .before .before .before .before .args .elements) (c .before .before .before .before .pre .1 .0)
+
+room :
+    (c : tie.After-copy-out) →
+    (c .before .before .before .before .args .elements ≤ length (lengthsOf (c .before .before .before .before .args .host .now) (c .before .before .before .before .args .address) (c .before .before .before .before .args .elements))) ×
+    (c .before .before .before .before .args .elements ≤ length (addressesOf (c .before .before .before .before .args .host .now) (c .before .before .before .before .args .address) (c .before .before .before .before .args .elements)))
+room c = slots-enough (c .before .before .before .before .args .host .now) (c .before .before .before .before .args .image .now) (c .before .before .before .before .args .u) (c .before .before .before .before .args .job) (c .before .before .before .before .pre .1 .1) (c .before .before .before .before .args .address) (c .before .before .before .before .args .elements) (c .before .before .before .before .pre .1 .0)
+
+array-share-prefix-lengths : tie.Need-array-share-prefix-lengths
+array-share-prefix-lengths c = rw (out (c .before .before .before .before)) (room (c .before .before .before .before) .0)
+
+slice-aggregate-begin : tie.Need-slice-aggregate-begin
+slice-aggregate-begin c = rw (out (c .before .before .before .before .before)) (sym (length-take-le _ _ (room (c .before .before .before .before .before) .0)))
+
+array-share-prefix-addresses : tie.Need-array-share-prefix-addresses
+array-share-prefix-addresses c = rw (out (c .before .before .before .before .before)) (room (c .before .before .before .before .before) .1)
+
+slice-aggregate-begin-2 : tie.Need-slice-aggregate-begin-2
+slice-aggregate-begin-2 c = rw (out (c .before .before .before .before .before .before)) (sym (length-take-le _ _ (room (c .before .before .before .before .before .before) .1)))
+
+begin-requires : tie.Need-begin-requires
+begin-requires c κs = (c .before .before .before .before .before .before .before .before .before .before .pre .0, rw (out (c .before .before .before .before .before .before)) (elements-fit (c .before .before .before .before .before .before .before .before .before .before .args .host .now) (c .before .before .before .before .before .before .before .before .before .before .args .image .now) (c .before .before .before .before .before .before .before .before .before .before .args .u) (c .before .before .before .before .before .before .before .before .before .before .args .job) (c .before .before .before .before .before .before .before .before .before .before .pre .1 .1) (c .before .before .before .before .before .before .before .before .before .before .args .address) (c .before .before .before .before .before .before .before .before .before .before .args .elements) (c .before .before .before .before .before .before .before .before .before .before .pre .1 .0)))
+
+same-length : tie.Need-same-length
+same-length c = search needs
+
+same-length-2 : tie.Need-same-length-2
+same-length-2 c = search needs
+
+returns : tie.Need-returns
+returns c =
+    let a = c .before .before .before .before .before .before .before .before .before .before .before .before .before .before .before .args in
+    let pre = c .before .before .before .before .before .before .before .before .before .before .before .before .before .before .before .pre in
+    let n = a .elements in
+    let host = a .host .now in
+    made-same (a .image .now) (a .u) (a .job)
+    (pieceByte (take n (lengthsOf host (a .address) n)) (take n (addressesOf host (a .address) n))) (dataByte host (a .job .buffer))
+    (λ k h.
+    list-byte host (a .address) n (a .job .span .count * B (a .u .geometry))
+    (list-good host (a .image .now) (a .u) (a .job) (pre .1 .1) (a .address) n (pre .1 .0)) k
+    ∙ ap (λ x. dataByte host x k) (sym (pre .1 .0)))
+    (a .at) host _ _ _ (rw (out (c .before .before .before .before .before .before .before .before .before .before .before)) at (c .before .before .before .before .begin .ensures))
+
+pub through-list-spec : {M : Type 1} → statement M
+through-list-spec =
+    tie.close
+    (tie.spec
+    copy-out-requires
+    array-share-prefix-lengths
+    slice-aggregate-begin
+    array-share-prefix-addresses
+    slice-aggregate-begin-2
+    begin-requires
+    same-length
+    same-length-2
+    returns)
