@@ -1,6 +1,5 @@
 pub mod Carried
 pub mod Drive
-pub mod Former
 pub mod Memory
 pub mod OneBlock
 pub mod Starred
