@@ -9,7 +9,7 @@ use geometry::VolumeNumber;
 ghost use mathlib.Core.Path.{_≡_};
 ghost use Prim.Native.Nat.{_+_, _≤_};
 ghost use lib.ListN.{length};
-ghost use Rattle.iopb.specs.Errors.{errorByte};
+ghost use Rattle.iopb.specs.Errors.{errorByte, errorIn, errorTable};
 ghost use Rattle.iopb.specs.Identity.{identityBytes};
 ghost use Rattle.iopb.specs.Layout.{blockAt, elementAt, optionsOf, uibAt};
 
@@ -135,33 +135,66 @@ pub fn uib(host: &[u8], at: usize) -> Geometry
     )
 }
 
-// The answers in the order of their numbers, each with its error byte.
-const ERROR_BYTES: [u8; 24] = [
-    10,
-    0x14,
-    11,
-    0x40,
-    12,
-    0x62,
-    13,
-    0x51,
-    14,
-    0x21,
-    15,
-    0xFF,
-    16,
-    0x16,
-    17,
-    0xFF,
-    18,
-    0xFF,
-    19,
-    0x62,
-    20,
-    0x13,
-    21,
-    0x20,
+// An answer's number, and its error byte.
+pub(crate) struct ErrorLine {
+    number: u8,
+    error: u8,
+}
+
+// The answers for which the manual has a line.
+const ERROR_LINES: [ErrorLine; 9] = [
+    ErrorLine {
+        number: 10,
+        error: 0x14,
+    },
+    ErrorLine {
+        number: 11,
+        error: 0x40,
+    },
+    ErrorLine {
+        number: 12,
+        error: 0x62,
+    },
+    ErrorLine {
+        number: 13,
+        error: 0x51,
+    },
+    ErrorLine {
+        number: 14,
+        error: 0x21,
+    },
+    ErrorLine {
+        number: 16,
+        error: 0x16,
+    },
+    ErrorLine {
+        number: 19,
+        error: 0x62,
+    },
+    ErrorLine {
+        number: 20,
+        error: 0x13,
+    },
+    ErrorLine {
+        number: 21,
+        error: 0x20,
+    },
 ];
+
+// The error byte of the line with an answer's number, or FF where there is none.
+fn error_of(number: u8) -> u8
+    ensures { λ r. ⌜ r ≡ errorIn errorTable number ⌝ }
+{
+    let mut i = 0;
+    while i < ERROR_LINES.len() {
+        let line = ERROR_LINES[i];
+        if line.number == number {
+            return line.error;
+        }
+        i += 1;
+    }
+    0xFF
+}
 
 // The error byte of an answer: 00 at status 80.
 pub fn error_byte(answer: BlockAnswer) -> u8
@@ -169,10 +202,7 @@ pub fn error_byte(answer: BlockAnswer) -> u8
 {
     match answer {
         BlockAnswer::Ended => 0,
-        BlockAnswer::Failed(refusal) => {
-            let row = (refusal.number() - 10) as usize;
-            ERROR_BYTES[2 * row + 1]
-        }
+        BlockAnswer::Failed(refusal) => error_of(refusal.number()),
     }
 }
 

@@ -1,0 +1,60 @@
+-- The lines before the i-th do not have the number, so looking on from there finds the same.
+-- Each way out is the law of the same name.
+use Prim.Native.Nat.{_≤_, _-_}
+use mathlib.Core.Path.{_≡_, refl, sym, _∙_}
+use native.Mathlib.Omega.{arith}
+use borrow.Author.Needs.{needs}
+use lib.ListN.{drop}
+use Rattle.iopb.specs.Errors.{errorIn, errorTable}
+use Rattle.iopb.proofs.Lookup.{found, none-left, passed}
+use Rattle.iopb.proofs.error_of.Statement.{statement}
+use Rattle.iopb.proofs.error_of.Tie as tie
+
+abbrev Inv-loop : tie.InvT-loop
+Inv-loop number i₀ i = (i ≤ 9) × (errorIn (drop i errorTable) number ≡ errorIn errorTable number)
+
+abbrev μ-loop : tie.MeasureT-loop
+μ-loop number i₀ i = 9 - i
+
+loop-holds : tie.Need-loop-holds Inv-loop μ-loop
+loop-holds c = (omega arith, refl)
+
+mul-line : tie.Need-mul-line Inv-loop μ-loop
+mul-line c = search needs
+
+array-copy-out-line : tie.Need-array-copy-out-line Inv-loop μ-loop
+array-copy-out-line c = search needs
+
+returns : tie.Need-returns Inv-loop μ-loop
+returns c =
+    let i = c .before .before .before .before .loop .i in
+    sym (found errorTable (c .before .before .before .before .before .args .number) i (omega arith) (c .if1 .taken)) ∙ c .before .before .before .before .loop .inv .1
+
+add-i : tie.Need-add-i Inv-loop μ-loop
+add-i c = omega arith
+
+loop-less : tie.Need-loop-less Inv-loop μ-loop
+loop-less c = omega arith
+
+loop-again : tie.Need-loop-again Inv-loop μ-loop
+loop-again c =
+    let i = c .before .before .before .before .loop .i in
+    (omega arith, sym (passed errorTable (c .before .before .before .before .before .args .number) i (omega arith) (c .if1 .left)) ∙ c .before .before .before .before .loop .inv .1)
+
+returns-2 : tie.Need-returns-2 Inv-loop μ-loop
+returns-2 c = sym (none-left errorTable (c .before .before .args .number) (c .before .loop .i) (omega arith)) ∙ c .before .loop .inv .1
+
+pub error-of-spec : {M : Type 1} → statement M
+error-of-spec =
+    tie.close
+    (tie.spec
+    Inv-loop
+    μ-loop
+    loop-holds
+    mul-line
+    array-copy-out-line
+    returns
+    add-i
+    loop-less
+    loop-again
+    returns-2)
