@@ -1,9 +1,10 @@
--- Two worlds that agree on what a block reads lead it to the same effect: the same stores, answer, sectors and record.
+-- Two worlds that agree on what a block reads lead it to the same effect, the same stores, answer, sectors and record, and to read the same.
 -- Its 28 bytes are the same, and so it names the same unit; the judgement reads no byte that is not alike; and of what is done only a
 -- transfer through a list goes by host memory, by bytes that the judgement has read.
-use Prim.Native.Nat.{ℕ, _+_, _<_}
+use Prim.Native.Nat.{ℕ, _+_, _*_, _<_}
 use mathlib.Core.List.{List, _++_}
-use mathlib.Core.Path.{_≡_, refl, sym, _∙_, ap}
+use mathlib.Core.Logic.{_↔_, Iff·trans}
+use mathlib.Core.Path.{_≡_, refl, sym, _∙_, ap, fun-ext, subst, transport, transport⁻¹}
 use native.Mathlib.Nat.{zero-add}
 use native.Mathlib.Omega.{arith}
 use lib.ListN.{getD, length}
@@ -11,34 +12,32 @@ use Rattle.wire.specs.Memory.{Among}
 use Rattle.wire.proofs.Laws.{word-same}
 use Rattle.request.specs.declared.Buffer.{Buffer}
 use Rattle.request.specs.declared.Buffer.the-variants.{Piece, List as Elements}
+use Rattle.geometry.specs.Drive.{B}
 use Rattle.iopb.specs.declared.Block.{Block}
 use Rattle.iopb.specs.Ask.{taskOf, unitOf}
 use Rattle.iopb.specs.Layout.{blockAt, optionsOf}
 use Rattle.memory.specs.Lists.{elementOf}
 use Rattle.memory.proofs.Locality.{element-same}
 use Rattle.judge.specs.declared.Job.{Job}
-use Rattle.judge.specs.declared.Leaving.{Leaving}
 use Rattle.judge.specs.declared.Moving.{Moving}
 use Rattle.judge.specs.declared.Moving.the-variants.{Nothing, Sectors, Track}
-use Rattle.judge.specs.declared.Plan.{Plan}
-use Rattle.judge.specs.declared.Report.{Report}
 use Rattle.judge.specs.declared.Verdict.{Verdict}
 use Rattle.judge.specs.declared.Verdict.the-variants.{Refused, Do}
-use Rattle.judge.specs.Asks.{plan}
+use Rattle.judge.specs.Given.{Asked}
+use Rattle.judge.specs.Reads.{InList, InUib}
 use Rattle.judge.specs.Verdict.{verdict}
 use Rattle.judge.proofs.LetThrough.{list-let-through}
 use Rattle.judge.proofs.Locality.{block-local}
-use Rattle.transfer.specs.Data.{progressOn}
-use Rattle.transfer.specs.Stores.{Store}
+use Rattle.transfer.specs.Data.{Transfer, dataOn, progressOn}
 use Rattle.transfer.proofs.Joined.{joined-same}
-use Rattle.block.specs.Block.{Performance, asking, begun, dataByte, finished, judged, leftBy, performed, reported, transferOf, travelled}
+use Rattle.block.specs.Block.{Performance, asking, begun, bufferOf, dataByte, finished, judged, leftBy, reported, transferOf, transferWith, travelled}
 use Rattle.block.specs.World.{Drive, World, driveOf}
-use Rattle.block.proofs.Gathered.{data-same}
-use Rattle.demands.specs.Footprint.{askedOf, namedDrive, names, verdictOf}
+use Rattle.demands.specs.Footprint.{askedOf, movingOf, namedDrive, names, transferBy, verdictOf}
 use Rattle.demands.specs.Visits.{Visit, blockOf, effectOf}
 use Rattle.demands.proofs.Written.{effect-is}
-use Rattle.independence.specs.Reads.{ReadsHost}
-use Rattle.independence.specs.Reads.HostRead.{block, its-list, its-uib}
+use Rattle.independence.specs.Reads.{HostRead, ReadsHost}
+use Rattle.independence.specs.Reads.HostRead.{block, its-list, its-uib, moved}
+use Rattle.independence.proofs.Lengths.{list-read-alike, uib-read-alike}
 
 block-same : (h k : List ℕ) (at : ℕ) → ((x : ℕ) → Among at 28 x → getD h x 0 ≡ getD k x 0) → blockAt h at ≡ blockAt k at
 block-same h k at alike =
@@ -67,6 +66,23 @@ block-same h k at alike =
       elements = byte 27 (omega arith) i;
     }
 
+-- What is read by one that is judged is read by another that reads what the first reads of its UIB and of its list, and makes the same
+-- transfer.
+read-too :
+    (at uib : ℕ) (a b : Asked) (d : Drive) → ((x : ℕ) → InUib a uib 18 x → InUib b uib 18 x) → ((x : ℕ) → InList a x → InList b x) →
+    transferBy a ≡ transferBy b → (x : ℕ) → HostRead at uib a d x → HostRead at uib b d x
+read-too at uib a b d uibs lists same x (block among) = block among
+read-too at uib a b d uibs lists same x (its-uib r) = its-uib (uibs x r)
+read-too at uib a b d uibs lists same x (its-list r) = its-list (lists x r)
+read-too at uib a b d uibs lists same x (moved m) =
+    moved
+    (record {
+      goes = ap (λ t. t .to-host) (sym same) ∙ m .goes;
+      byte = m .byte;
+      moved = subst (λ t. m .byte < progressOn (d .image) t .sectors * B (t .geometry)) same (m .moved);
+      here = ap (λ t. t .host-byte (m .byte)) (sym same) ∙ m .here;
+    })
+
 module _
     (v : Visit) (k : World) (long : length (v .world .host) ≡ length (k .host))
     (alike : (x : ℕ) → ReadsHost v x → getD (v .world .host) x 0 ≡ getD (k .host) x 0)
@@ -85,55 +101,59 @@ module _
     pub names-alike : names v ≡ names there
     names-alike = ap unitOf block-alike
 
-    pub drive-alike : namedDrive v ≡ namedDrive there
+    drive-alike : namedDrive v ≡ namedDrive there
     drive-alike = drive ∙ ap (driveOf k) names-alike
 
-    abbrev on : Block → Drive → List ℕ → Verdict
-    on b d host = verdict (asking (taskOf host b) d host)
+    -- What is judged of the same block and drive in the other memory.
+    abbrev judged-there : Block → Drive → Asked
+    judged-there b d = asking (taskOf (k .host) b) d (k .host)
 
-    pub verdict-alike : verdictOf v ≡ verdictOf there
-    verdict-alike =
+    verdict-there : verdictOf v ≡ verdict (judged-there (blockOf v) (namedDrive v))
+    verdict-there =
         block-local (namedDrive v .unit) (length (namedDrive v .image)) h (k .host) long (blockOf v) (λ x read. alike x (its-uib read))
-        (λ x read. alike x (its-list read)) ∙
-        (λ i. on (block-alike i) (drive-alike i) (k .host))
+        (λ x read. alike x (its-list read))
 
-    -- Where byte y of the data of a job lies.
+    verdict-alike : verdictOf v ≡ verdictOf there
+    verdict-alike = verdict-there ∙ (λ i. verdict (judged-there (block-alike i) (drive-alike i)))
+
+    -- Where the data of the block lies.
     data-alike :
-        (plan : Plan) (j : Job) → verdictOf v ≡ Do plan → plan .moving ≡ Sectors j → (b : Buffer) → j .buffer ≡ b → (y : ℕ) →
-        dataByte h b y ≡ dataByte (k .host) b y
-    data-alike plan j is moves (Piece at) here y = refl
-    data-alike plan j is moves (Elements at n) here y =
-        let same : (i : ℕ) → i < n → elementOf h at i ≡ elementOf (k .host) at i =
-        element-same h (k .host) at n (λ x among. alike x (its-list (list-let-through (askedOf v) plan j at n x is moves here among))) in
-        joined-same (λ i. elementOf h at i .bytes) (λ i. elementOf (k .host) at i .bytes) (λ i. elementOf h at i .address)
-        (λ i. elementOf (k .host) at i .address) n 0 y
-        (λ t less. rw zero-add (ap (λ e. e .bytes) (same t less), ap (λ e. e .address) (same t less)))
+        (verd : Verdict) → verdictOf v ≡ verd → dataByte h (bufferOf (movingOf verd)) ≡ dataByte (k .host) (bufferOf (movingOf verd))
+    data-alike (Refused r) is = refl
+    data-alike (Do p) is = by-moving (p .moving) refl
+      where
+        of-buffer : (j : Job) → p .moving ≡ Sectors j → (b : Buffer) → j .buffer ≡ b → (y : ℕ) → dataByte h b y ≡ dataByte (k .host) b y
+        of-buffer j moves (Piece at) here y = refl
+        of-buffer j moves (Elements at n) here y =
+            let same : (i : ℕ) → i < n → elementOf h at i ≡ elementOf (k .host) at i =
+            element-same h (k .host) at n (λ x among. alike x (its-list (list-let-through (askedOf v) p j at n x is moves here among))) in
+            joined-same (λ i. elementOf h at i .bytes) (λ i. elementOf (k .host) at i .bytes) (λ i. elementOf h at i .address)
+            (λ i. elementOf (k .host) at i .address) n 0 y
+            (λ t less. rw zero-add (ap (λ e. e .bytes) (same t less), ap (λ e. e .address) (same t less)))
 
-    -- Performing is the same: only the data of a job goes by host memory.
-    performed-alike :
-        (m : Moving) (r : Report) (l : Leaving) → verdictOf v ≡ Do (plan m r l) →
-        performed h (namedDrive v) (v .at) (plan m r l) ≡ performed (k .host) (namedDrive v) (v .at) (plan m r l)
-    performed-alike Nothing r l is = refl
-    performed-alike (Track spot at) r l is = refl
-    performed-alike (Sectors j) r l is =
-        let d = namedDrive v in
-        let p = progressOn (d .image) (transferOf h (d .unit) (Sectors j)) in
-        let left = leftBy (d .unit) (p .sectors) l in
-        ap
-        (λ (ss : List Store).
-        record {
-          stores = begun (v .at) ++ ss ++ reported (v .at) r;
-          unit = left;
-          answer = p .answer;
-          sectors = p .sectors;
-          travel = travelled (d .unit) l left;
-        })
-        (data-same (d .image) (d .unit) j (dataByte h (j .buffer)) (dataByte (k .host) (j .buffer))
-        (λ y less. data-alike (plan (Sectors j) r l) j is refl (j .buffer) refl y))
+        by-moving : (m : Moving) → p .moving ≡ m → dataByte h (bufferOf m) ≡ dataByte (k .host) (bufferOf m)
+        by-moving Nothing moves = refl
+        by-moving (Track spot at) moves = refl
+        by-moving (Sectors j) moves = fun-ext (of-buffer j moves (j .buffer) refl)
 
-    judged-alike : (verd : Verdict) → verdictOf v ≡ verd → judged h (namedDrive v) (v .at) verd ≡ judged (k .host) (namedDrive v) (v .at) verd
+    -- So what is done is the same.
+    judged-alike :
+        (verd : Verdict) → verdictOf v ≡ verd → judged h (namedDrive v) (v .at) verd ≡ judged (k .host) (namedDrive v) (v .at) verd
     judged-alike (Refused r) is = refl
-    judged-alike (Do p) is = performed-alike (p .moving) (p .report) (p .leaving) is
+    judged-alike (Do p) is =
+        let d = namedDrive v in
+        ap
+        (λ (t : Transfer).
+        let q = progressOn (d .image) t in
+        let unit = leftBy (d .unit) (q .sectors) (p .leaving) in
+        record {
+          stores = begun (v .at) ++ dataOn (d .image) t ++ reported (v .at) (p .report);
+          unit = unit;
+          answer = q .answer;
+          sectors = q .sectors;
+          travel = travelled (d .unit) (p .leaving) unit;
+        })
+        (ap (transferWith (d .unit) (p .moving)) (data-alike (Do p) is))
 
     pub effect-alike : effectOf v ≡ effectOf there
     effect-alike =
@@ -141,3 +161,23 @@ module _
         ∙ ap (λ (p : Performance). finished (blockOf v) (v .at) (v .index) p) (judged-alike (verdictOf v) refl)
         ∙ (λ i. finished (block-alike i) (v .at) (v .index) (judged (k .host) (drive-alike i) (v .at) (verdict-alike i)))
         ∙ sym (effect-is there)
+
+    -- It reads the same bytes there.
+    transfer-there : transferBy (askedOf v) ≡ transferBy (judged-there (blockOf v) (namedDrive v))
+    transfer-there =
+        ap (transferWith (namedDrive v .unit) (movingOf (verdictOf v))) (data-alike (verdictOf v) refl) ∙
+        ap (λ verd. transferOf (k .host) (namedDrive v .unit) (movingOf verd)) verdict-there
+
+    pub reads-alike : (x : ℕ) → ReadsHost v x ↔ ReadsHost there x
+    reads-alike x =
+        let b = blockOf v in
+        let d = namedDrive v in
+        let moved-along : HostRead (v .at) (b .address) (judged-there b d) d x ≡ ReadsHost there x =
+        λ i. HostRead (v .at) (block-alike i .address) (judged-there (block-alike i) (drive-alike i)) (drive-alike i) x in
+        Iff·trans (
+          read-too (v .at) (b .address) (askedOf v) (judged-there b d) d (uib-read-alike h (k .host) long d b)
+              (list-read-alike h (k .host) long d b) transfer-there x,
+          read-too (v .at) (b .address) (judged-there b d) (askedOf v) d (uib-read-alike (k .host) h (sym long) d b)
+              (list-read-alike (k .host) h (sym long) d b) (sym transfer-there) x,
+        )
+        (transport moved-along, transport⁻¹ moved-along)

@@ -1,8 +1,14 @@
 pub mod Alike
 pub mod Blocks
+pub mod Both
+pub mod Branches
 pub mod Demand3
 pub mod Followed
+pub mod Lengths
 pub mod Meets
-pub mod OneBlock
+pub mod Places
+pub mod Runs
 pub mod Sources
 pub mod Steps
+pub mod Works
+pub mod Worlds

@@ -6,6 +6,7 @@ use mathlib.Core.Logic.{_⊎_, inl, inr, ⊎-elim}
 use mathlib.Core.Path.{_≡_, refl, sym, _∙_, ap}
 use native.Mathlib.Omega.{arith}
 use lib.ListN.{getD, length, length-set, set}
+use Rattle.wire.proofs.Promises.{never}
 use Rattle.transfer.specs.Stores.{Buffers, Cell, Store, Stored, Value, after, copyOf, eventByte, hostByte, imageByte, number, with, worth}
 
 -- Some store of a list takes its value from this byte of host memory.
@@ -35,23 +36,6 @@ set-meets (b ∷ h) (d ∷ k) (suc y) a zero long (inr e) = e
 set-meets (b ∷ h) (d ∷ k) (suc y) a (suc x) long (inl e) = set-meets h k y a x (omega (arith, long)) (inl (omega (arith, e)))
 set-meets (b ∷ h) (d ∷ k) (suc y) a (suc x) long (inr e) = set-meets h k y a x (omega (arith, long)) (inr e)
 
-one-not-zero : _≡_ {A = ℕ} 1 0 → ⊥
-one-not-zero e = omega arith
-
-two-not-zero : _≡_ {A = ℕ} 2 0 → ⊥
-two-not-zero e = omega arith
-
--- A cell by its kind and its index.
-kind : Cell → ℕ
-kind (hostByte x) = 0
-kind (imageByte x) = 1
-kind (eventByte x) = 2
-
-index : Cell → ℕ
-index (hostByte x) = x
-index (imageByte x) = x
-index (eventByte x) = x
-
 worth-meets : (P : ℕ → Type 0) (m n : Buffers) → Meet P m n → (v : Value) → ((x : ℕ) → v ≡ copyOf (hostByte x) → P x) → worth m v ≡ worth n v
 worth-meets P m n meet (number a) from = refl
 worth-meets P m n meet (copyOf (hostByte x)) from = meet .host x (from x refl)
@@ -61,28 +45,27 @@ worth-meets P m n meet (copyOf (eventByte x)) from = ap (λ b. getD b x 0) (meet
 with-meets :
     (P : ℕ → Type 0) (m n : Buffers) → Meet P m n → (c : Cell) (a b : ℕ) → a ≡ b →
     Meet (λ x. P x ⊎ (c ≡ hostByte x)) (with m c a) (with n c b)
-unfolding kind index
 with-meets P m n meet (hostByte y) a b same =
     record {
       long = length-set (m .host) y a ∙ meet .long ∙ sym (length-set (n .host) y b);
       host = λ x known.
           ap (λ v. getD (set (m .host) y v) x 0) same ∙
           set-meets (m .host) (n .host) y b x (meet .long)
-          (⊎-elim (λ p. inr (meet .host x p)) (λ e. inl (ap index e)) known);
+          (⊎-elim (λ p. inr (meet .host x p)) (λ e. inl cc) known);
       image = meet .image;
       events = meet .events;
     }
 with-meets P m n meet (imageByte y) a b same =
     record {
       long = meet .long;
-      host = λ x known. ⊎-elim (λ p. meet .host x p) (λ e. absurd (one-not-zero (ap kind e))) known;
+      host = λ x known. ⊎-elim (λ p. meet .host x p) (λ e. absurd (never cc)) known;
       image = λ i. set (meet .image i) y (same i);
       events = meet .events;
     }
 with-meets P m n meet (eventByte y) a b same =
     record {
       long = meet .long;
-      host = λ x known. ⊎-elim (λ p. meet .host x p) (λ e. absurd (two-not-zero (ap kind e))) known;
+      host = λ x known. ⊎-elim (λ p. meet .host x p) (λ e. absurd (never cc)) known;
       image = meet .image;
       events = λ i. set (meet .events i) y (same i);
     }

@@ -4,9 +4,10 @@ use Prim.Native.Nat.{ℕ, zero, suc, _+_, _*_, _<_}
 use mathlib.Core.Bool.{Bool, true, false}
 use mathlib.Core.List.{List, [], _∷_, _++_}
 use mathlib.Core.Logic.{_⊎_, inl, inr, ⊎-elim}
-use mathlib.Core.Path.{_≡_, refl, ap, subst}
+use mathlib.Core.Path.{_≡_, refl, subst}
 use native.Mathlib.Omega.{arith}
 use lib.IntN.{ℤ}
+use Rattle.wire.proofs.Promises.{never}
 use Rattle.answers.specs.declared.BlockAnswer.{BlockAnswer}
 use Rattle.answers.specs.Numbers.{statusOf}
 use Rattle.geometry.specs.Drive.{B}
@@ -15,7 +16,7 @@ use Rattle.iopb.specs.Errors.{errorByte}
 use Rattle.judge.specs.declared.Verdict.{Verdict}
 use Rattle.judge.specs.declared.Verdict.the-variants.{Refused, Do}
 use Rattle.transfer.specs.Data.{Transfer, dataOn, moveAt, progressOn}
-use Rattle.transfer.specs.Stores.{Cell, Store, Value, bytesFrom, copyOf, eventByte, hostByte, imageByte, number, upTo}
+use Rattle.transfer.specs.Stores.{Cell, Store, bytesFrom, copyOf, eventByte, hostByte, imageByte, upTo}
 use Rattle.block.specs.Block.{Effect, begun, finish, judged, reported, transferOf, wordsOf}
 use Rattle.block.specs.Events.{entry}
 use Rattle.block.specs.World.{Drive}
@@ -26,33 +27,13 @@ use Rattle.independence.specs.Reads.{ReadsHost}
 use Rattle.independence.specs.Reads.HostRead.{moved}
 use Rattle.independence.proofs.Meets.{Sourced}
 
--- ---- where a value comes from
-
-source-kind : Value → ℕ
-source-kind (number n) = 0
-source-kind (copyOf (hostByte x)) = 1
-source-kind (copyOf (imageByte x)) = 2
-source-kind (copyOf (eventByte x)) = 3
-
-source-index : Value → ℕ
-source-index (number n) = n
-source-index (copyOf (hostByte x)) = x
-source-index (copyOf (imageByte x)) = x
-source-index (copyOf (eventByte x)) = x
-
-not-0-1 : _≡_ {A = ℕ} 0 1 → ⊥
-not-0-1 e = omega arith
-
-not-2-1 : _≡_ {A = ℕ} 2 1 → ⊥
-not-2-1 e = omega arith
-
 -- ---- segments
 
 numbers-have-none : (cell : ℕ → Cell) (at : ℕ) (ns : List ℕ) (x : ℕ) → Sourced (bytesFrom cell at ns) x → ⊥
-unfolding Sourced bytesFrom source-kind
+unfolding Sourced bytesFrom
 numbers-have-none cell at [] x there = there
 numbers-have-none cell at (n ∷ ns) x there =
-    ⊎-elim (λ is. not-0-1 (ap source-kind is)) (λ later. numbers-have-none cell (at + 1) ns x later) there
+    ⊎-elim (λ is. never cc) (λ later. numbers-have-none cell (at + 1) ns x later) there
 
 of-append : (ss ts : List Store) (x : ℕ) → Sourced (ss ++ ts) x → Sourced ss x ⊎ Sourced ts x
 unfolding Sourced
@@ -73,10 +54,16 @@ of-upTo (suc n) f x there =
 
 -- ---- the data
 
+same-byte : {x y : ℕ} → copyOf (hostByte x) ≡ copyOf (hostByte y) → x ≡ y
+same-byte e = cc
+
+not-from-the-image : {x y : ℕ} → copyOf (imageByte x) ≡ copyOf (hostByte y) → ⊥
+not-from-the-image e = never cc
+
 data-sources :
     (image : List ℕ) (t : Transfer) (x : ℕ) → Sourced (dataOn image t) x →
     (t .to-host ≡ false) × ((k : ℕ) × ((k < progressOn image t .sectors * B (t .geometry)) × (t .host-byte k ≡ x)))
-unfolding dataOn source-kind source-index
+unfolding dataOn
 data-sources image t x there =
     let s = of-upTo (progressOn image t .sectors * B (t .geometry)) (moveAt t) x there in
     by-way (t .to-host) refl (s .0) (s .1 .0) (s .1 .1)
@@ -85,8 +72,8 @@ data-sources image t x there =
         (way : Bool) → t .to-host ≡ way → (k : ℕ) → k < progressOn image t .sectors * B (t .geometry) →
         moveAt t k .value ≡ copyOf (hostByte x) →
         (t .to-host ≡ false) × ((k : ℕ) × ((k < progressOn image t .sectors * B (t .geometry)) × (t .host-byte k ≡ x)))
-    by-way false is k less same = (is, (k, (less, ap source-index (rw is at same))))
-    by-way true is k less same = absurd (not-2-1 (ap source-kind (rw is at same)))
+    by-way false is k less same = (is, (k, (less, same-byte (rw is at same))))
+    by-way true is k less same = absurd (not-from-the-image (rw is at same))
 
 -- ---- a block
 

@@ -1,4 +1,5 @@
--- Two chains on one host memory and two drives, each with an event buffer of its own (00, demand 3), as steps with a footprint.
+-- A chain run on its world, and two chains on one host memory and two drives, each with an event buffer of its own (00, demand 3), as steps
+-- with a footprint.
 use Prim.Native.Nat.{ℕ}
 use mathlib.Core.List.{List}
 use mathlib.Core.Path.{_≡_}
@@ -8,13 +9,47 @@ use Rattle.request.specs.declared.UnitNumber.{UnitNumber}
 use Rattle.block.specs.World.{Drive, World, driveOf}
 use Rattle.board.specs.Chain.{Ending, Tally, ran}
 use Rattle.demands.specs.Footprint.{RunNames, RunWrites}
-use Rattle.independence.specs.Local.{Kind, Step}
+use Rattle.independence.specs.Local.{Kind, Place, Step, placed}
 use Rattle.independence.specs.Reads.{RunReads}
+use Rattle.independence.specs.Worlds.{Touches, byte, disk, events, worlds}
 
 -- A chain as it is asked for: "the address of a first IOPB (a "block") and an allowance".
 pub record Chain : Type 0 where
   pub first : ℕ
   pub allowance : ℕ
+
+-- What a chain comes to: "an answer, with answer 4 the failed block's answer number .., the number of blocks run and the number of sectors
+-- moved" (01, What the board answers for).
+pub record Told : Type 0 where
+  pub answer : RunAnswer
+  pub failed : ℕ
+  pub tally : Tally
+
+abbrev pub told : Ending → Told
+told e = record { answer = e .answer; failed = e .failed; tally = e .tally }
+
+-- What a chain followed alone names, reads and writes: its units and its bytes of host memory.
+module _ (c : Chain) (w : World) where
+  abbrev pub Names : UnitNumber → Type 0
+  Names = RunNames (c .first) (c .allowance) w
+
+  abbrev pub HostReads : ℕ → Type 0
+  HostReads = RunReads (c .first) (c .allowance) w
+
+  abbrev pub HostWrites : ℕ → Type 0
+  HostWrites = RunWrites (c .first) (c .allowance) w
+
+-- The run of a chain as a step on its world. Its footprint is that of the chain followed alone.
+abbrev pub runOn : Chain → Step worlds Told
+runOn c =
+    record {
+      out = λ w. told (ran (c .first) (c .allowance) w);
+      left = λ w. ran (c .first) (c .allowance) w .world;
+      Reads = λ w. Touches (HostReads c w) (Names c w);
+      Writes = λ w. Touches (HostWrites c w) (Names c w);
+    }
+
+-- ---- two of them
 
 -- Which of two chains, by name and not by order.
 pub data Which : Type 0 where
@@ -69,40 +104,16 @@ both =
       get = holds;
     }
 
--- What a chain comes to: "an answer, with answer 4 the failed block's answer number .., the number of blocks run and the number of sectors
--- moved" (01, What the board answers for).
-pub record Told : Type 0 where
-  pub answer : RunAnswer
-  pub failed : ℕ
-  pub tally : Tally
+-- The cells that are some cells of the world of one of the two.
+abbrev pub cellsOf : Which → (worlds .Cell → Type 0) → Cell → Type 0
+cellsOf t P (hostByte x) = P (byte x)
+cellsOf t P (drive n) = P (disk n)
+cellsOf t P (eventBuffer u) = (t ≡ u) × P events
 
-abbrev pub told : Ending → Told
-told e = record { answer = e .answer; failed = e .failed; tally = e .tally }
+-- Where the world of one of the two lies: everywhere but in the event buffer of the other.
+abbrev pub placeOf : Which → Place worlds both
+placeOf t = record { seen = worldFor t; back = leaving t; Cells = cellsOf t }
 
--- The cells that something on the world of one of the two touches: some bytes of host memory, the drives of some units, and its own
--- event buffer. Drives and event buffers are taken whole, as read and written: more than a chain touches, and all that demand 3 asks.
-abbrev pub Touches : Which → (World → ℕ → Type 0) → (World → UnitNumber → Type 0) → Both → Cell → Type 0
-Touches t bytes units s (hostByte x) = bytes (worldFor t s) x
-Touches t bytes units s (drive n) = units (worldFor t s) n
-Touches t bytes units s (eventBuffer u) = t ≡ u
-
--- What a chain followed alone names, reads and writes: its units and its bytes of host memory.
-module _ (c : Chain) (w : World) where
-  abbrev pub Names : UnitNumber → Type 0
-  Names = RunNames (c .first) (c .allowance) w
-
-  abbrev pub HostReads : ℕ → Type 0
-  HostReads = RunReads (c .first) (c .allowance) w
-
-  abbrev pub HostWrites : ℕ → Type 0
-  HostWrites = RunWrites (c .first) (c .allowance) w
-
--- The run of a chain as a step. Its footprint is that of the chain followed alone.
+-- The run of a chain, as one of the two.
 abbrev pub runOf : Which → Chain → Step both Told
-runOf t c =
-    record {
-      out = λ s. told (ran (c .first) (c .allowance) (worldFor t s));
-      left = λ s. leaving t s (ran (c .first) (c .allowance) (worldFor t s) .world);
-      Reads = Touches t (HostReads c) (Names c);
-      Writes = Touches t (HostWrites c) (Names c);
-    }
+runOf t c = placed (placeOf t) (runOn c)

@@ -5,9 +5,10 @@
 -- answer, the failed number, the counts and the events that it gives alone. A run that is refused fetches no block and is covered too;
 -- so is a chain that writes over its own blocks, for a chain may read what it wrote itself.
 use Prim.Native.Nat.{ℕ}
+use mathlib.Core.Path.{_≡_}
 use Rattle.request.specs.declared.UnitNumber.{UnitNumber}
-use Rattle.independence.specs.Chains.{Both, Chain, First, HostReads, HostWrites, Names, Second, both, runOf, worldFor}
-use Rattle.independence.specs.Local.{EitherOrder}
+use Rattle.independence.specs.Chains.{Both, Cell, Chain, First, HostReads, HostWrites, Names, Second, Told, both, holds, runOf, worldFor}
+use Rattle.independence.specs.Local.{Step}
 
 module _ (one two : Chain) (s : Both) where
   -- "the blocks they fetch name no unit in common"
@@ -31,9 +32,21 @@ module _ (one two : Chain) (s : Both) where
     pub written : NoByteWrittenByBoth
     pub read : NoByteReadByOther
 
-  -- "running them in either order gives the same"
-  abbrev pub EitherWay : Type 0
-  EitherWay = EitherOrder both (runOf First one) (runOf Second two) s
+  -- The two runs.
+  abbrev firstRun : Step both Told
+  firstRun = runOf First one
+
+  abbrev secondRun : Step both Told
+  secondRun = runOf Second two
+
+  -- "running them in either order gives the same memory, images, unit records, events, answers and counts": all that is left is the same;
+  -- each comes to what it comes to alone; and what each stores is what it stores alone.
+  pub record EitherWay : Type 0 where
+    pub left : secondRun .left (firstRun .left s) ≡ firstRun .left (secondRun .left s)
+    pub first : firstRun .out (secondRun .left s) ≡ firstRun .out s
+    pub second : secondRun .out (firstRun .left s) ≡ secondRun .out s
+    pub by-first : (c : Cell) → firstRun .Writes s c → holds (secondRun .left (firstRun .left s)) c ≡ holds (firstRun .left s) c
+    pub by-second : (c : Cell) → secondRun .Writes s c → holds (secondRun .left (firstRun .left s)) c ≡ holds (secondRun .left s) c
 
 abbrev pub Demand3 : Type 0
 Demand3 = (one two : Chain) (s : Both) → Independent one two s → EitherWay one two s

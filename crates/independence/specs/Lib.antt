@@ -2,3 +2,4 @@ pub mod Chains
 pub mod Demand3
 pub mod Local
 pub mod Reads
+pub mod Worlds

@@ -12,10 +12,12 @@ pub record Kind : Type 1 where
   pub Value : Cell → Type 0
   pub get : State → (c : Cell) → Value c
 
--- What the laws below ask of a kind: an equation of values that cannot fail holds, and states of one shape that differ in no cell are
--- one.
-pub record Lawful (K : Kind) : Type 0 where
+-- What a law may ask of a kind, each where it needs it: an equation of values that cannot fail holds;
+pub record Stable (K : Kind) : Type 0 where
   pub stable : (c : K .Cell) (x y : K .Value c) → ((x ≡ y → ⊥) → ⊥) → x ≡ y
+
+-- and states of one shape that differ in no cell are one.
+pub record Extensional (K : Kind) : Type 0 where
   pub extensional : (s t : K .State) → K .shape s ≡ K .shape t → ((c : K .Cell) → K .get s c ≡ K .get t c) → s ≡ t
 
 -- A step: what it comes to, what it leaves, and its footprint, all from the state that it finds.
@@ -30,9 +32,10 @@ pub record AgreeOn (K : Kind) (P : K .Cell → Type 0) (s t : K .State) : Type 0
   pub shape : K .shape s ≡ K .shape t
   pub cells : (c : K .Cell) → P c → K .get s c ≡ K .get t c
 
--- What two states lead a step to is the same: its outcome, where it stores, and what.
+-- What two states lead a step to is the same: its outcome, what it reads, where it stores, and what.
 pub record LeadsAlike (K : Kind) {Out : Type 0} (S : Step K Out) (s t : K .State) : Type 0 where
   pub outcome : S .out s ≡ S .out t
+  pub read : (c : K .Cell) → S .Reads s c ↔ S .Reads t c
   pub written : (c : K .Cell) → S .Writes s c ↔ S .Writes t c
   pub stored : (c : K .Cell) → S .Writes s c → K .get (S .left s) c ≡ K .get (S .left t) c
 
@@ -53,16 +56,35 @@ then S T =
       Writes = λ s c. S .Writes s c ⊎ T (S .out s) .Writes (S .left s) c;
     }
 
--- No cell that one step writes is read or written by the other.
+-- A state that is seen in a larger one, from a place there: what is seen, the larger state once something is put back, and the cells of the
+-- larger state that are some of its cells.
+pub record Place (K L : Kind) : Type 1 where
+  pub seen : L .State → K .State
+  pub back : L .State → K .State → L .State
+  pub Cells : (K .Cell → Type 0) → L .Cell → Type 0
+
+-- A step on what is seen, as a step on the larger state.
+abbrev pub placed : {K L : Kind} {A : Type 0} → Place K L → Step K A → Step L A
+placed p S =
+    record {
+      out = λ s. S .out (p .seen s);
+      left = λ s. p .back s (S .left (p .seen s));
+      Reads = λ s. p .Cells (S .Reads (p .seen s));
+      Writes = λ s. p .Cells (S .Writes (p .seen s));
+    }
+
+-- No cell that one step writes is read by the other, and where both write they store the same.
 pub record Apart (K : Kind) {A B : Type 0} (S : Step K A) (T : Step K B) (s : K .State) : Type 0 where
-  pub written : (c : K .Cell) → S .Writes s c → T .Writes s c → ⊥
+  pub written : (c : K .Cell) → S .Writes s c → T .Writes s c → K .get (S .left s) c ≡ K .get (T .left s) c
   pub unread-by-second : (c : K .Cell) → S .Writes s c → T .Reads s c → ⊥
   pub unread-by-first : (c : K .Cell) → T .Writes s c → S .Reads s c → ⊥
 
--- Two steps in either order: what each comes to and stores is what it comes to and stores alone, and what is left is the same.
+-- Two steps in either order: what each comes to and stores is what it comes to and stores alone, and what is left has one shape and holds
+-- the same in every cell.
 pub record EitherOrder (K : Kind) {A B : Type 0} (S : Step K A) (T : Step K B) (s : K .State) : Type 0 where
   pub first : S .out (T .left s) ≡ S .out s
   pub second : T .out (S .left s) ≡ T .out s
-  pub left : T .left (S .left s) ≡ S .left (T .left s)
   pub by-first : (c : K .Cell) → S .Writes s c → K .get (T .left (S .left s)) c ≡ K .get (S .left s) c
   pub by-second : (c : K .Cell) → T .Writes s c → K .get (T .left (S .left s)) c ≡ K .get (T .left s) c
+  pub shape : K .shape (T .left (S .left s)) ≡ K .shape (S .left (T .left s))
+  pub cells : (c : K .Cell) → K .get (T .left (S .left s)) c ≡ K .get (S .left (T .left s)) c

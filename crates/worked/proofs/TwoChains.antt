@@ -45,7 +45,7 @@ use Rattle.independence.specs.Demand3.{EitherWay, Independent, NoUnitInCommon, 
 use Rattle.independence.specs.Local.{LeadsAlike}
 use Rattle.independence.specs.Reads.{ReadsHost}
 use Rattle.independence.specs.Reads.HostRead.{its-uib, moved as taken}
-use Rattle.independence.proofs.Blocks.{lawful}
+use Rattle.independence.proofs.Both.{no-chain-is-both}
 use Rattle.independence.proofs.Demand3.{run-local}
 use Rattle.independence.proofs.Steps.{unnoticed}
 use Rattle.request.specs.declared.UnitNumber.the-variants.{Zero, One}
@@ -195,20 +195,15 @@ module _
         (λ i later less again. omega (arith, lies i, lies 0, again)) (λ among. clear (omega (arith, lies 0, among))) ∙
         rw (c .verdict, same, place-is 0 0, firstByte-is tiny 0)
 
-which-number : Which → ℕ
-which-number First = 0
-which-number Second = 1
-
 -- A second chain that names another unit and reads no byte that the first writes goes after the first as it goes alone.
 module _ (s : Both) (units : NoUnitInCommon one two s) (read : NoByteReadByOther one two s) where
   unread : (c : Cell) → runOf First one .Writes s c → runOf Second two .Reads s c → ⊥
-  unfolding which-number
   unread (hostByte x) w r = read x .0 w r
   unread (drive n) w r = units n w r
-  unread (eventBuffer k) w r = omega (arith, ap which-number (w ∙ sym r))
+  unread (eventBuffer k) w r = no-chain-is-both (w .0 ∙ sym (r .0))
 
   as-alone : LeadsAlike both (runOf Second two) s (runOf First one .left s)
-  as-alone = unnoticed both lawful (runOf Second two) (runOf First one) (run-local Second two) (run-local First one) s unread
+  as-alone = unnoticed both (runOf Second two) (runOf First one) (run-local Second two) (run-local First one) s unread
 
 wrote-first : HostWrites one (worldFor First writtenTwice) 56
 wrote-first = wrote-56 First writtenTwice 0 (twice-pass .0) 7 0 refl twice-first

@@ -1,0 +1,100 @@
+-- Whether judging a block reads its UIB, and which list it reads, goes by the length of host memory and by no byte of it.
+-- What an 87 asks looks at the place of its UIB before it looks at its bytes; what the others ask looks at no byte, and neither do the
+-- checks before a list.
+use Prim.Native.Nat.{ℕ, _*_}
+use mathlib.Core.List.{List}
+use mathlib.Core.Logic.{by-cases}
+use mathlib.Core.Path.{_≡_, sym, _∙_, subst}
+use native.Mathlib.Decide.{ℕ-discrete}
+use lib.ListN.{length}
+use Rattle.wire.specs.Memory.{inMemory?}
+use Rattle.wire.proofs.Memory.{range-same}
+use Rattle.wire.proofs.Promises.{never}
+use Rattle.answers.specs.declared.Refusal.the-variants.{ListBad, UibOutsideLimits}
+use Rattle.request.specs.declared.Buffer.the-variants.{List as Elements}
+use Rattle.request.specs.declared.Move.{Move}
+use Rattle.request.specs.declared.Shape.{Shape}
+use Rattle.request.specs.declared.Task.{Task}
+use Rattle.request.specs.declared.Task.the-variants.{Move as Moves, Initialize}
+use Rattle.iopb.specs.declared.Block.{Block}
+use Rattle.iopb.specs.Ask.{shapeAt, taskOf}
+use Rattle.iopb.proofs.Answers.{shapeAt-inside, shapeAt-outside}
+use Rattle.iopb.proofs.Locality.{asked-by-87, task-apart}
+use Rattle.judge.specs.Asks.{checks}
+use Rattle.judge.specs.Checks.{None, before}
+use Rattle.judge.specs.Given.{Asked, BadPlace}
+use Rattle.judge.specs.Reads.{InList, InUib}
+use Rattle.block.specs.Block.{asking}
+use Rattle.block.specs.World.{Drive}
+
+no-shape-moves : {s : Shape} {m : Move} → Initialize s ≡ Moves m → ⊥
+no-shape-moves e = never cc
+
+module _ (h k : List ℕ) (long : length h ≡ length k) (d : Drive) where
+  -- The checks before 18 and before 13, of the same task.
+  before-list-alike :
+      (t : Task) (m : Move) (at n : ℕ) → t ≡ Moves m → m .buffer ≡ Elements at n → None (before ListBad (checks (asking t d h))) →
+      None (before ListBad (checks (asking t d k)))
+  before-list-alike t m at n asks buffer passed = rw (asks, buffer) (rw (asks, buffer) at passed)
+
+  before-limits-alike :
+      (t : Task) (s : Shape) → t ≡ Initialize s → None (before UibOutsideLimits (checks (asking t d h))) →
+      None (before UibOutsideLimits (checks (asking t d k)))
+  before-limits-alike t s asks passed = rw asks (rw asks at passed)
+
+  -- A UIB that is where it can be read in one memory is so in the other.
+  placed-alike : (at : ℕ) → (BadPlace (shapeAt h at) → ⊥) → BadPlace (shapeAt k at) → ⊥
+  placed-alike at good bad =
+      by-cases (inMemory? h at 18)
+      (λ place. rw (shapeAt-inside k at (range-same h k at 18 long place)) at bad)
+      (λ out. good (rw (shapeAt-outside h at out) tt))
+
+  module _ (b : Block) where
+    abbrev in-h : Asked
+    in-h = asking (taskOf h b) d h
+
+    abbrev in-k : Asked
+    in-k = asking (taskOf k b) d k
+
+    pub list-read-alike : (x : ℕ) → InList in-h x → InList in-k x
+    list-read-alike x l =
+        let same = task-apart h k b (λ is. no-shape-moves (sym (asked-by-87 h b is) ∙ l .asks)) in
+        record {
+          move = l .move;
+          asks = sym same ∙ l .asks;
+          at = l .at;
+          elements = l .elements;
+          buffer = l .buffer;
+          passed =
+              subst (λ t. None (before ListBad (checks (asking t d k)))) same
+              (before-list-alike (taskOf h b) (l .move) (l .at) (l .elements) (l .asks) (l .buffer) (l .passed));
+          some = l .some;
+          most = l .most;
+          place = range-same h k (l .at) (8 * l .elements) long (l .place);
+          among = l .among;
+        }
+
+    pub uib-read-alike : (x : ℕ) → InUib in-h (b .address) 18 x → InUib in-k (b .address) 18 x
+    unfolding None
+    uib-read-alike x u =
+        by-cases (ℕ-discrete (b .command) 0x87)
+        (λ is.
+        let in-h = asked-by-87 h b is in
+        let in-k = asked-by-87 k b is in
+        let passed = subst (λ t. None (before UibOutsideLimits (checks (asking t d h)))) in-h (u .passed) in
+        record {
+          shape = shapeAt k (b .address);
+          asks = in-k;
+          passed = rw in-k (passed .0, (placed-alike (b .address) (passed .1 .0), tt));
+          among = u .among;
+        })
+        (λ other.
+        let same = task-apart h k b other in
+        record {
+          shape = u .shape;
+          asks = sym same ∙ u .asks;
+          passed =
+              subst (λ t. None (before UibOutsideLimits (checks (asking t d k)))) same
+              (before-limits-alike (taskOf h b) (u .shape) (u .asks) (u .passed));
+          among = u .among;
+        })

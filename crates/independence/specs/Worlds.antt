@@ -1,0 +1,41 @@
+-- A world as a state with cells (Local): what a block or a chain on it touches.
+use Prim.Native.Nat.{ℕ}
+use mathlib.Core.List.{List}
+use lib.ListN.{getD, length}
+use Rattle.request.specs.declared.UnitNumber.{UnitNumber}
+use Rattle.block.specs.World.{Drive, World, driveOf}
+use Rattle.independence.specs.Local.{Kind}
+
+-- The cells: each byte of host memory, each unit's drive, record and image together, and the event buffer. Host memory keeps its length.
+pub data Cell : Type 0 where
+  byte : ℕ → Cell
+  disk : UnitNumber → Cell
+  events : Cell
+
+abbrev pub Holds : Cell → Type 0
+Holds (byte x) = ℕ
+Holds (disk n) = Drive
+Holds events = List ℕ
+
+abbrev pub holds : World → (c : Cell) → Holds c
+holds w (byte x) = getD (w .host) x 0
+holds w (disk n) = driveOf w n
+holds w events = w .events
+
+abbrev pub worlds : Kind
+worlds =
+    record {
+      State = World;
+      Shape = ℕ;
+      shape = λ w. length (w .host);
+      Cell = Cell;
+      Value = Holds;
+      get = holds;
+    }
+
+-- Some bytes of host memory, the drives of some units, and the event buffer. Drives and event buffer are taken whole, as read and written:
+-- more than a chain touches, and all that demand 3 asks.
+abbrev pub Touches : (ℕ → Type 0) → (UnitNumber → Type 0) → Cell → Type 0
+Touches bytes units (byte x) = bytes x
+Touches bytes units (disk n) = units n
+Touches bytes units events = Unit {0}
