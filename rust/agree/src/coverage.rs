@@ -2,7 +2,8 @@
 
 use crate::case::{record_in, Case};
 use crate::worlds::Way;
-use model::{Outcome, Record, Trace, Visit, COMMANDS};
+use model::{Outcome, Record, Trace, Visit, CHECKS, COMMANDS, NEVER_GIVEN, STOPS};
+use std::collections::BTreeMap;
 
 /// How often each thing has to have occurred.
 pub const LEAST: u64 = 100;
@@ -10,9 +11,9 @@ pub const LEAST: u64 = 100;
 /// What a block can walk into, and whether it did.
 type Trap = (&'static str, fn(&Visit) -> bool);
 
-/// The lists were read, the blocks ran: an accepted block ends 80, or at an unreadable sector.
+/// The lists were read, the blocks ran: an accepted block ends 80, or where it is stopped.
 fn accepted(visit: &Visit) -> bool {
-    visit.answer == 0 || visit.answer == 20
+    visit.answer == 0 || STOPS.contains(&visit.answer)
 }
 
 const TRAPS: [Trap; 15] = [
@@ -53,7 +54,7 @@ pub struct Coverage {
     blocks: u64,
     answers: [u64; 7],
     /// Block answers by number; those that ended 80 at 0.
-    block_answers: [u64; 22],
+    block_answers: BTreeMap<u8, u64>,
     /// Blocks that ended 80, by command.
     ended: [u64; COMMANDS.len()],
     traps: [u64; TRAPS.len()],
@@ -83,7 +84,7 @@ impl Coverage {
     }
 
     fn visit(&mut self, visit: &Visit) {
-        self.block_answers[visit.answer as usize] += 1;
+        *self.block_answers.entry(visit.answer).or_default() += 1;
         if visit.answer == 0 {
             for (k, command) in COMMANDS.iter().enumerate() {
                 self.ended[k] += (visit.command == *command) as u64;
@@ -117,7 +118,9 @@ impl Coverage {
         self.loops += other.loops;
         self.opening += other.opening;
         add_all(&mut self.answers, &other.answers);
-        add_all(&mut self.block_answers, &other.block_answers);
+        for (answer, count) in &other.block_answers {
+            *self.block_answers.entry(*answer).or_default() += count;
+        }
         add_all(&mut self.ended, &other.ended);
         add_all(&mut self.traps, &other.traps);
         add_all(&mut self.ways, &other.ways);
@@ -134,11 +137,8 @@ impl Coverage {
         for (number, count) in self.answers.iter().enumerate() {
             things.push((format!("run answer {}", number), *count));
         }
-        for number in 10..=20 {
-            things.push((
-                format!("block answer {}", number),
-                self.block_answers[number],
-            ));
+        for number in CHECKS.iter().chain(&STOPS) {
+            things.push((format!("block answer {}", number), self.answered(number)));
         }
         for (command, count) in COMMANDS.iter().zip(self.ended) {
             things.push((format!("{:02X} ended 80", command), count));
@@ -174,7 +174,11 @@ impl Coverage {
         table
     }
 
-    /// What occurred too seldom. 21 is never to occur.
+    fn answered(&self, number: &u8) -> u64 {
+        self.block_answers.get(number).copied().unwrap_or(0)
+    }
+
+    /// What occurred too seldom, and what is never to occur.
     pub fn missing(&self) -> Vec<String> {
         let mut missing: Vec<String> = self
             .things()
@@ -182,8 +186,10 @@ impl Coverage {
             .filter(|(_, count)| *count < LEAST)
             .map(|(name, count)| format!("{}: {} times, and {} are asked", name, count, LEAST))
             .collect();
-        if self.block_answers[21] > 0 {
-            missing.push("the model gave answer 21".to_string());
+        for number in &NEVER_GIVEN {
+            if self.answered(number) > 0 {
+                missing.push(format!("the model gave answer {}", number));
+            }
         }
         missing
     }

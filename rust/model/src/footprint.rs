@@ -2,6 +2,7 @@
 //! it reads and those that it writes. The paper lists them by the block; here the list is marked,
 //! byte by byte, over the blocks that were fetched. Nothing here has a part in what a run does.
 
+use crate::answers::{let_through, passed};
 use crate::block::{Block, BLOCK_BYTES};
 use crate::faults::{seeded, Fault};
 use crate::geometry::UIB_BYTES;
@@ -124,7 +125,7 @@ impl Fetched {
     }
 
     fn refused(&self) -> bool {
-        (10..=19).contains(&self.answer)
+        !let_through(self.answer)
     }
 
     /// "the 28 of each fetched block; a UIB that passed check 12; a list of 1 to 64 elements that
@@ -133,7 +134,7 @@ impl Fetched {
     fn read(&self, host: &[u8]) -> Touched {
         let block = &self.block;
         let mut read = vec![(Line::Block, range(self.at, BLOCK_BYTES as u64))];
-        if block.command == 0x87 && self.answer != 12 {
+        if block.command == 0x87 && passed(12, self.answer) {
             let uib = range(block.buffer_address, UIB_BYTES as u64);
             read.push((Line::Uib, uib));
         }

@@ -1,6 +1,7 @@
 //! The checks 10 to 19 on a block that has been copied out. Nothing is stored here: a list and a
 //! UIB are read as they stand before the block's word 1 changes.
 
+use crate::answers::passed;
 use crate::block::{in_memory, odd, Block, Element, ELEMENT_BYTES};
 use crate::faults::{seeded, Fault};
 use crate::geometry::{Address, Geometry, UIB_BYTES};
@@ -224,9 +225,7 @@ pub(crate) fn list_bytes(block: &Block) -> u64 {
 
 /// Whether the block's list was read, its answer being known: "once checks 10 to 17 are passed".
 pub(crate) fn list_was_read(host: &[u8], block: &Block, answer: u8) -> bool {
-    ASKED_18.contains(&block.command)
-        && !(10..=17).contains(&answer)
-        && list_can_be_read(host, block)
+    ASKED_18.contains(&block.command) && passed(17, answer) && list_can_be_read(host, block)
 }
 
 /// The pieces of the list in list order; None where check 18 fails.

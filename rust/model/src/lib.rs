@@ -6,6 +6,7 @@
 //! paper's formula. Both are handed the same world; where they leave different worlds, one of
 //! them has misread the paper. It is slow on purpose, and shares nothing with the other.
 
+mod answers;
 mod block;
 mod errors;
 mod faults;
@@ -17,6 +18,7 @@ mod run;
 mod session;
 mod trace;
 
+pub use answers::{CHECKS, NEVER_GIVEN, STOPS};
 pub use block::{Block, Element, BLOCK_BYTES, ELEMENT_BYTES};
 pub use errors::{error_byte, ERROR_BYTES};
 pub use faults::{with_fault, Fault};

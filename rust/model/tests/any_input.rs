@@ -226,7 +226,7 @@ fn traps(visit: &Visit) -> [bool; 5] {
 fn any_world_at_all() {
     let mut draw = Draw(0x2545_f491_4f6c_dd1d);
     let mut answers = [0u32; 7];
-    let mut failed = [0u32; 22];
+    let mut failed = [0u32; 256];
     let mut met = [0u32; 5];
     for _ in 0..5_000 {
         let mut w = any_world(&mut draw);
@@ -257,7 +257,10 @@ fn any_world_at_all() {
     }
     assert!(answers.iter().all(|count| *count > 0), "{:?}", answers);
     assert!(
-        failed[10..21].iter().all(|count| *count > 0),
+        CHECKS
+            .iter()
+            .chain(&STOPS)
+            .all(|answer| failed[*answer as usize] > 0),
         "{:?}",
         failed
     );
