@@ -8,7 +8,6 @@ use native.Mathlib.Decide.{decLt}
 use native.Mathlib.Omega.{arith}
 use lib.ListN.{length}
 use Rattle.answers.specs.Numbers.{runNumber}
-use Rattle.unit.specs.declared.Record.{Record}
 use Rattle.board.specs.declared.chain.Outcome.{Outcome}
 use Rattle.board.specs.declared.inspection.Part.{Part}
 use Rattle.board.specs.Chain.{Ending, ran}
@@ -18,6 +17,7 @@ use Rattle.block.specs.Steps.{written}
 use Rattle.board.specs.Lent.{worldOf}
 use Rattle.abi.specs.Calls.{Lent, answered, called, calledOf, imageNumber, inspectedOf, inspection, lentOf, made, outcomeShort, record0Short, record1Short, recordLeft, worldIn}
 use Rattle.abi.specs.Layouts.{outcomeBytes, recordIn}
+use Rattle.unit.specs.Standing.{UnitRecord}
 
 -- A run that was made, from what the code ran and stored, and from what it read.
 pub answered-is :
@@ -42,7 +42,7 @@ answered-is l e came left0 left1 is-number left =
     cc
 
 pub made-is :
-    (first allowance : ℕ) (l : Lent) {zero one : Record} {r : Outcome} {number : ℕ}
+    (first allowance : ℕ) (l : Lent) {zero one : UnitRecord} {r : Outcome} {number : ℕ}
     {host image0 image1 events record0 record1 outcome : List ℕ} →
     zero ≡ recordIn (l .record0) →
     one ≡ recordIn (l .record1) →

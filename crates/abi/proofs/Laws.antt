@@ -10,8 +10,8 @@ use lib.Seq.{sets-eq}
 use Rattle.wire.specs.Words.{word}
 use Rattle.geometry.specs.Drive.{B, C, S}
 use Rattle.geometry.proofs.Same.{geometry-is}
-use Rattle.unit.specs.declared.Record.{Record}
 use Rattle.unit.proofs.Decided.{record-is, same?}
+use Rattle.unit.specs.Standing.{UnitRecord, cylinder, geometry, initialized}
 use Rattle.board.specs.Chain.{Ending}
 use Rattle.block.specs.Steps.{written}
 use Rattle.abi.specs.Calls.{recordLeft}
@@ -19,18 +19,18 @@ use Rattle.abi.specs.Layouts.{endingBytes, geometryBytes, openingBytes, 
 use Rattle.abi.proofs.Left.{left-anew, left-as-it-came}
 use mathlib.Core.Logic.{by-cases}
 
-pub record-length : (u : Record) → length (recordBytes u) ≡ recordLength
+pub record-length : (u : UnitRecord) → length (recordBytes u) ≡ recordLength
 record-length u = refl
 
 pub outcome-length : (e : Ending) → length (endingBytes e) ≡ outcomeLength
 outcome-length e = refl
 
 -- What the types of a record's numbers leave room for.
-pub record Narrow (u : Record) : Type 0 where
-  pub few-cylinders : C (u .geometry) < 65536
-  pub few-sectors : S (u .geometry) < 65536
-  pub few-bytes : B (u .geometry) < 65536
-  pub low-cylinder : u .cylinder < 65536
+pub record Narrow (u : UnitRecord) : Type 0 where
+  pub few-cylinders : C (geometry u) < 65536
+  pub few-sectors : S (geometry u) < 65536
+  pub few-bytes : B (geometry u) < 65536
+  pub low-cylinder : cylinder u < 65536
 
 two-back : (n : ℕ) → n < 65536 → (0 * 256 + n / 256 % 256) * 256 + n % 256 ≡ n
 two-back n fits = omega arith
@@ -40,20 +40,20 @@ unfolding word
 opening-back true rest = refl
 opening-back false rest = refl
 
-at-the-head : (bytes : List ℕ) (u : Record) → recordLength ≤ length bytes → written bytes 0 (recordBytes u) ≡ recordBytes u ++ drop 16 bytes
+at-the-head : (bytes : List ℕ) (u : UnitRecord) → recordLength ≤ length bytes → written bytes 0 (recordBytes u) ≡ recordBytes u ++ drop 16 bytes
 unfolding written
 at-the-head bytes u fits = sets-eq (recordBytes u) bytes 0 fits
 
-reads-back : (rest : List ℕ) (u : Record) → Narrow u → recordIn (recordBytes u ++ rest) ≡ u
+reads-back : (rest : List ℕ) (u : UnitRecord) → Narrow u → recordIn (recordBytes u ++ rest) ≡ u
 unfolding word
 reads-back rest u n =
-    let g = u .geometry in
-    record-is _ u (opening-back (u .initialized) (geometryBytes g ++ twoBytes (u .cylinder) ++ rest))
+    let g = geometry u in
+    record-is _ u (opening-back (initialized u) (geometryBytes g ++ twoBytes (cylinder u) ++ rest))
     (geometry-is _ g (two-back (C g) (n .few-cylinders)) (two-back (S g) (n .few-sectors)) (two-back (B g) (n .few-bytes)) refl refl)
-    (two-back (u .cylinder) (n .low-cylinder))
+    (two-back (cylinder u) (n .low-cylinder))
 
 -- What stands in a record's bytes after a run is the record that the run left.
-pub left-reads-back : (bytes : List ℕ) (u : Record) → recordLength ≤ length bytes → Narrow u → recordIn (recordLeft bytes u) ≡ u
+pub left-reads-back : (bytes : List ℕ) (u : UnitRecord) → recordLength ≤ length bytes → Narrow u → recordIn (recordLeft bytes u) ≡ u
 left-reads-back bytes u fits n =
     by-cases (same? (recordIn bytes) u) (λ same. ap recordIn (left-as-it-came bytes u same) ∙ same)
     (λ other. ap recordIn (left-anew bytes u other ∙ at-the-head bytes u fits) ∙ reads-back (drop 16 bytes) u n)

@@ -8,8 +8,8 @@ use lib.ListN.{length}
 use Rattle.answers.specs.Numbers.{runNumber}
 use Rattle.request.specs.declared.UnitNumber.{UnitNumber}
 use Rattle.request.specs.declared.UnitNumber.the-variants.{Zero, One}
-use Rattle.unit.specs.declared.Record.{Record}
 use Rattle.unit.proofs.Decided.{same?}
+use Rattle.unit.specs.Standing.{UnitRecord}
 use Rattle.board.specs.declared.inspection.Part.{Part}
 use Rattle.board.specs.Chain.{Ending, ran}
 use Rattle.board.specs.Inspection.{partOf}
@@ -65,7 +65,7 @@ worldIn l =
     (record { zero = recordIn (l .record0); one = recordIn (l .record1) })
 
 -- A record's bytes after a run: stored anew where the record is another, and else left as they came, byte for byte.
-unfoldable pub recordLeft : List ℕ → Record → List ℕ
+unfoldable pub recordLeft : List ℕ → UnitRecord → List ℕ
 recordLeft bytes u = ite (same? (recordIn bytes) u) bytes (written bytes 0 (recordBytes u))
 
 -- A run that was made: its answer is returned, and the world that it leaves stands in the bytes.

@@ -22,8 +22,7 @@ use Rattle.geometry.specs.declared.Geometry.{Geometry}
 use Rattle.geometry.specs.declared.Volume.{Volume}
 use Rattle.geometry.specs.declared.VolumeNumber.the-variants.{Zero, One}
 use Rattle.geometry.specs.Drive.{B, C, N, S, geometryOf, start, volume, volumeOf}
-use Rattle.unit.specs.declared.Record.{Record}
-use Rattle.unit.specs.Standing.{recordOf}
+use Rattle.unit.specs.Standing.{UnitRecord, cylinder, geometry, initialized, recordOf}
 use Rattle.answers.specs.Numbers.{runNumber}
 use Rattle.board.specs.Chain.{Ending}
 use Rattle.block.specs.Events.{bigEndian}
@@ -47,7 +46,7 @@ geometryIn bytes =
     geometryOf (be16 bytes 4) (be16 bytes 6) (be16 bytes 8) (volumeIn bytes 10) (volumeIn bytes 12)
 
 -- The record that stands in some bytes.
-abbrev pub recordIn : List ℕ → Record
+abbrev pub recordIn : List ℕ → UnitRecord
 recordIn bytes = recordOf (saysInitialized bytes) (geometryIn bytes) (be16 bytes 14)
 
 abbrev pub twoBytes : ℕ → List ℕ
@@ -64,8 +63,8 @@ abbrev pub openingBytes : Bool → List ℕ
 openingBytes initialized = 0x01 ∷ cond initialized 0x01 0x00 ∷ 0x00 ∷ 0x10 ∷ []
 
 -- The bytes of a record.
-abbrev pub recordBytes : Record → List ℕ
-recordBytes u = openingBytes (u .initialized) ++ geometryBytes (u .geometry) ++ twoBytes (u .cylinder)
+abbrev pub recordBytes : UnitRecord → List ℕ
+recordBytes u = openingBytes (initialized u) ++ geometryBytes (geometry u) ++ twoBytes (cylinder u)
 
 -- The bytes of an outcome.
 abbrev pub outcomeBytes : (answer failed blocks sectors : ℕ) → List ℕ

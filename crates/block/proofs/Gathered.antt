@@ -18,8 +18,8 @@ use Rattle.judge.specs.declared.Job.{Job}
 use Rattle.judge.specs.declared.Moving.{Moving}
 use Rattle.judge.specs.Fits.{JobGood, TrackGood}
 use Rattle.request.specs.declared.Buffer.{Buffer}
-use Rattle.unit.specs.declared.Record.{Record}
 use Rattle.unit.specs.declared.Spot.{Spot}
+use Rattle.unit.specs.Standing.{UnitRecord, geometry}
 use Rattle.transfer.specs.declared.Moved.{Moved}
 use Rattle.transfer.specs.Data.{Transfer, dataOn, moveAt, progressOn}
 use Rattle.transfer.specs.Pieces.{joined, sum}
@@ -35,22 +35,22 @@ use Rattle.block.specs.Block.{begun, dataByte, transferWith}
 use Rattle.block.specs.Steps.{Made, three}
 
 -- Two ways to say where the data of a job lies that agree on all its bytes are one transfer.
-module _ (image : List ℕ) (u : Record) (j : Job) (f g : ℕ → ℕ) (same : (k : ℕ) → k < j .span .count * B (u .geometry) → f k ≡ g k) where
+module _ (image : List ℕ) (u : UnitRecord) (j : Job) (f g : ℕ → ℕ) (same : (k : ℕ) → k < j .span .count * B (geometry u) → f k ≡ g k) where
   abbrev with : (ℕ → ℕ) → Transfer
   with h = transferWith u (Moving.Sectors j) h
 
   come : progressOn image (with f) .sectors ≤ j .span .count
   come =
       rw zero-add at
-      (progress-most (λ x. fateAt image (u .geometry) (with f .heeds) (placeFrom u (j .span .volume) (j .span .first) x)) 0 (j .span .count))
+      (progress-most (λ x. fateAt image (geometry u) (with f .heeds) (placeFrom u (j .span .volume) (j .span .first) x)) 0 (j .span .count))
 
   pub data-same : dataOn image (with f) ≡ dataOn image (with g)
   unfolding dataOn
   data-same =
-      upTo-same (progressOn image (with f) .sectors * B (u .geometry)) _ _
+      upTo-same (progressOn image (with f) .sectors * B (geometry u)) _ _
       (λ k h.
       ap (λ (x : ℕ). moveAt (with (λ y. x)) k)
-      (same k (omega (arith, h, mul-le-mul-right (B (u .geometry)) come))))
+      (same k (omega (arith, h, mul-le-mul-right (B (geometry u)) come))))
 
   pub made-same :
       (at : ℕ) (host host′ image′ : List ℕ) (m : Moved) → Made (with f) at host image host′ image′ m → Made (with g) at host image host′ image′ m
@@ -125,18 +125,18 @@ module _ (host : List ℕ) (at n bytes : ℕ) (good : ListGood host at n bytes) 
 
 -- ---- a job that fits
 
-module _ (host image : List ℕ) (u : Record) (j : Job) (good : JobGood u (length image) host j) where
+module _ (host image : List ℕ) (u : UnitRecord) (j : Job) (good : JobGood u (length image) host j) where
   fits-with :
-      (lengths addresses : List ℕ) → PiecesFit (length host) (j .span .count * B (u .geometry)) lengths addresses →
+      (lengths addresses : List ℕ) → PiecesFit (length host) (j .span .count * B (geometry u)) lengths addresses →
       SectorsFit u (j .span) lengths addresses (length host)
   fits-with lengths addresses pieces = record { some = good .span .some; inside = good .span .inside; pieces = pieces }
 
   pub piece-fits :
-      (at : ℕ) → j .buffer ≡ Buffer.Piece at → SectorsFit u (j .span) (j .span .count * B (u .geometry) ∷ []) (at ∷ []) (length host)
-  piece-fits at is = fits-with _ _ (one-piece-fits host at (j .span .count * B (u .geometry)) (rw is at (good .buffer)))
+      (at : ℕ) → j .buffer ≡ Buffer.Piece at → SectorsFit u (j .span) (j .span .count * B (geometry u) ∷ []) (at ∷ []) (length host)
+  piece-fits at is = fits-with _ _ (one-piece-fits host at (j .span .count * B (geometry u)) (rw is at (good .buffer)))
 
   module _ (at n : ℕ) (is : j .buffer ≡ Buffer.List at n) where
-    pub list-good : ListGood host at n (j .span .count * B (u .geometry))
+    pub list-good : ListGood host at n (j .span .count * B (geometry u))
     list-good = (rw is at (good .buffer)) .0
 
     -- The elements are copied out as they stand.
@@ -145,12 +145,12 @@ module _ (host image : List ℕ) (u : Record) (j : Job) (good : JobGood u (lengt
     copied-out = if-pos (listPlace? host at n) (record { most = list-good .most; place = list-good .place }) _ _
 
     pub elements-fit : SectorsFit u (j .span) (take n (lengthsOf host at n)) (take n (addressesOf host at n)) (length host)
-    elements-fit = fits-with _ _ (list-fits host at n (j .span .count * B (u .geometry)) list-good ((rw is at (good .buffer)) .1))
+    elements-fit = fits-with _ _ (list-fits host at n (j .span .count * B (geometry u)) list-good ((rw is at (good .buffer)) .1))
 
     pub slots-enough : (n ≤ length (lengthsOf host at n)) × (n ≤ length (addressesOf host at n))
     slots-enough = (omega (arith, list-good .most, lengths-long host at n), omega (arith, list-good .most, addresses-long host at n))
 
 -- A track that fits.
 pub track-fits :
-    (host : List ℕ) (image : ℕ) (u : Record) (spot : Spot) (at : ℕ) → TrackGood u image host spot at → TrackFits u spot at (length host)
+    (host : List ℕ) (image : ℕ) (u : UnitRecord) (spot : Spot) (at : ℕ) → TrackGood u image host spot at → TrackFits u spot at (length host)
 track-fits host image u spot at good = record { some = good .some; inside = good .track; memory = good .buffer .inside }

@@ -10,11 +10,11 @@ use Rattle.transfer.specs.Progress.{progress}
 use Rattle.transfer.specs.Runs.{lent}
 use Rattle.transfer.specs.Stores.{Buffers, Store, after, upTo}
 use Rattle.transfer.proofs.Stores.{after-more}
-use Rattle.unit.specs.declared.Record.{Record}
 use Rattle.judge.specs.declared.Moving.{Moving}
 use Rattle.block.specs.Block.{begun, transferWith}
 use Rattle.block.specs.Steps.{Stores, three, written}
 use Rattle.block.proofs.Effects.{host-written, then-made}
+use Rattle.unit.specs.Standing.{UnitRecord}
 
 abbrev beside : Buffers → List ℕ → Buffers
 beside m events = three (m .host) (m .image) events
@@ -54,7 +54,7 @@ begun-made t at host image host′ image′ is events =
 
 -- One of no sectors stores no data.
 pub nothing-made :
-    (u : Record) (at : ℕ) (host image : List ℕ) (data-byte : ℕ → ℕ) →
+    (u : UnitRecord) (at : ℕ) (host image : List ℕ) (data-byte : ℕ → ℕ) →
     Stores (begun at ++ dataOn image (transferWith u Moving.Nothing data-byte)) host image (written host (at + 2) (0x81 ∷ 0x00 ∷ [])) image
 unfolding after dataOn progress upTo
 nothing-made u at host image data-byte events =

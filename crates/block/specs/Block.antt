@@ -14,9 +14,8 @@ use Rattle.request.specs.declared.Buffer.the-variants.{Piece, List as Elements}
 use Rattle.request.specs.declared.Request.{Request}
 use Rattle.request.specs.declared.Task.{Task}
 use Rattle.request.specs.declared.UnitNumber.{UnitNumber}
-use Rattle.unit.specs.declared.Record.{Record}
 use Rattle.unit.specs.Landing.{spotOf}
-use Rattle.unit.specs.Standing.{recordOf}
+use Rattle.unit.specs.Standing.{UnitRecord, cylinder, fresh, movedTo}
 use Rattle.transfer.specs.Data.{Transfer, dataOn, formatting, moving, progressOn}
 use Rattle.transfer.specs.Pieces.{joined}
 use Rattle.transfer.specs.Progress.{lastTried}
@@ -53,7 +52,7 @@ asking task d host = record { task = task; unit = d .unit; image = length (d .im
 -- went.
 pub record Performance : Type 0 where
   pub stores : List Store
-  pub unit : Record
+  pub unit : UnitRecord
   pub answer : BlockAnswer
   pub sectors : ℕ
   pub travel : ℤ
@@ -64,7 +63,7 @@ dataByte host (Piece at) k = at + k
 dataByte host (Elements at n) k = joined (λ i. elementOf host at i .bytes) (λ i. elementOf host at i .address) n 0 k
 
 -- The transfer that is made, with byte k of a job's data at an index of host memory. To move nothing is a transfer of no sectors.
-abbrev pub transferWith : Record → Moving → (ℕ → ℕ) → Transfer
+abbrev pub transferWith : UnitRecord → Moving → (ℕ → ℕ) → Transfer
 transferWith u Nothing data-byte = moving u false false VolumeNumber.Zero 0 0 (λ k. 0)
 transferWith u (Sectors j) data-byte =
     moving u (j .«to_host») (j .«past_marks») (j .span .volume) (j .span .first) (j .span .count) data-byte
@@ -75,7 +74,7 @@ bufferOf Nothing = Piece 0
 bufferOf (Sectors j) = j .buffer
 bufferOf (Track spot at) = Piece at
 
-abbrev pub transferOf : List ℕ → Record → Moving → Transfer
+abbrev pub transferOf : List ℕ → UnitRecord → Moving → Transfer
 transferOf host u m = transferWith u m (dataByte host (bufferOf m))
 
 -- The words that are reported: from which byte of the block on, and their bytes. 86 "writes words 2 to 7 with this board's own identity".
@@ -89,18 +88,18 @@ wordsOf Identity = record { from = 4; bytes = identityBytes }
 
 -- The record afterwards, of so many sectors moved. "After 81, 82, A1 or A2 the heads stand on the cylinder of the last sector tried"; "87
 -- replaces the unit record; the heads are at cylinder 0."
-abbrev pub leftBy : Record → ℕ → Leaving → Record
+abbrev pub leftBy : UnitRecord → ℕ → Leaving → UnitRecord
 leftBy u moved AsItWas = u
-leftBy u moved (HeadsAt c) = recordOf (u .initialized) (u .geometry) c
+leftBy u moved (HeadsAt c) = movedTo u c
 leftBy u moved (HeadsAtLastTried s) =
-    recordOf (u .initialized) (u .geometry) (spotOf u (s .volume) (s .first + lastTried moved (s .count)) .cylinder)
-leftBy u moved (Fresh g) = recordOf true g 0
+    movedTo u (spotOf u (s .volume) (s .first + lastTried moved (s .count)) .cylinder)
+leftBy u moved (Fresh g) = fresh g
 
 -- "Travel is the new cylinder minus the old one, and zero for 86, 87"
-abbrev pub travelled : Record → Leaving → Record → ℤ
+abbrev pub travelled : UnitRecord → Leaving → UnitRecord → ℤ
 travelled old AsItWas new = pos 0
-travelled old (HeadsAt c) new = travelTo (old .cylinder) (new .cylinder)
-travelled old (HeadsAtLastTried s) new = travelTo (old .cylinder) (new .cylinder)
+travelled old (HeadsAt c) new = travelTo (cylinder old) (cylinder new)
+travelled old (HeadsAtLastTried s) new = travelTo (cylinder old) (cylinder new)
 travelled old (Fresh g) new = pos 0
 
 -- "status 81 and error 00 are stored in the block; then the transfer happens"; the words that are reported come after it.
@@ -136,7 +135,7 @@ judged host d at (Do plan) = performed host d at plan
 -- What a block comes to: its stores, its unit's record afterwards, its answer, and the sectors it moved.
 pub record Effect : Type 0 where
   pub stores : List Store
-  pub unit : Record
+  pub unit : UnitRecord
   pub answer : BlockAnswer
   pub sectors : ℕ
 

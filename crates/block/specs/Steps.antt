@@ -10,11 +10,11 @@ use Rattle.transfer.specs.declared.Moved.{Moved}
 use Rattle.transfer.specs.Data.{Transfer, dataOn}
 use Rattle.transfer.specs.Stores.{Buffers, Store, after}
 use Rattle.transfer.specs.Whole.{SectorsFit, TrackFits, movedOn}
-use Rattle.unit.specs.declared.Record.{Record}
 use Rattle.block.specs.declared.Done.{Done}
 use Rattle.block.specs.declared.Performed.{Performed}
 use Rattle.block.specs.Block.{Effect, Performance, begun}
 use Rattle.block.specs.World.{Drive}
+use Rattle.unit.specs.Standing.{UnitRecord}
 
 -- Bytes once some numbers are stored in them one after the other, from an index on.
 unfoldable pub written : List ℕ → ℕ → List ℕ → List ℕ
@@ -29,7 +29,7 @@ pub record Room (host events : List ℕ) (at i : ℕ) : Type 0 where
   pub block : at + 28 ≤ length host
   pub entry : 8 * i + 8 ≤ length events
 
-abbrev pub driveWith : Record → List ℕ → Drive
+abbrev pub driveWith : UnitRecord → List ℕ → Drive
 driveWith u image = record { unit = u; image = image }
 
 -- Some stores were made on host memory and an image, whatever the event buffer beside them holds.
@@ -37,7 +37,7 @@ abbrev pub Stores : List Store → (host image host′ image′ : List ℕ) → 
 Stores ss host image host′ image′ = (events : List ℕ) → three host′ image′ events ≡ after ss (three host image events)
 
 -- What is to be moved fits, to or from these pieces.
-abbrev pub Ready : Record → Moving → (lengths addresses : List ℕ) → ℕ → Type 0
+abbrev pub Ready : UnitRecord → Moving → (lengths addresses : List ℕ) → ℕ → Type 0
 Ready u Nothing lengths addresses long = Unit {0}
 Ready u (Sectors j) lengths addresses long = SectorsFit u (j .span) lengths addresses long
 Ready u (Track spot at) lengths addresses long = TrackFits u spot at long

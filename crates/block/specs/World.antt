@@ -3,12 +3,12 @@ use Prim.Native.Nat.{ℕ}
 use mathlib.Core.List.{List}
 use Rattle.request.specs.declared.UnitNumber.{UnitNumber}
 use Rattle.request.specs.declared.UnitNumber.the-variants.{Zero, One}
-use Rattle.unit.specs.declared.Record.{Record}
 use Rattle.transfer.specs.Stores.{Buffers}
+use Rattle.unit.specs.Standing.{UnitRecord}
 
 -- A unit's drive: its record and its image.
 pub record Drive : Type 0 where
-  pub unit : Record
+  pub unit : UnitRecord
   pub image : List ℕ
 
 pub record World : Type 0 where
@@ -26,7 +26,7 @@ driveOf w One = w .drive1
 abbrev pub buffersOf : World → UnitNumber → Buffers
 buffersOf w n = record { host = w .host; image = driveOf w n .image; events = w .events }
 
-abbrev pub changed : World → UnitNumber → Buffers → Record → World
+abbrev pub changed : World → UnitNumber → Buffers → UnitRecord → World
 changed w Zero m u =
     record { host = m .host; drive0 = record { unit = u; image = m .image }; drive1 = w .drive1; events = m .events }
 changed w One m u =

@@ -36,6 +36,7 @@ ghost use Rattle.transfer.specs.Progress.{lastTried};
 ghost use Rattle.transfer.specs.Runs.{pieceByte};
 ghost use Rattle.transfer.specs.Stores.{after};
 ghost use Rattle.unit.specs.Landing.{spotOf};
+ghost use Rattle.unit.specs.Standing.{geometry};
 
 mod events;
 
@@ -121,14 +122,14 @@ fn begin(
 }
 
 fn sector_bytes(u: Record) -> u32
-    ensures { λ r. ⌜ (r ≡ B (u .geometry)) × (r < 65536) ⌝ }
+    ensures { λ r. ⌜ (r ≡ B (geometry u)) × (r < 65536) ⌝ }
 {
     u.geometry().bytes_a_sector() as u32
 }
 
 // The bytes of a job's sectors, all in one piece: an element's byte count would be too narrow for them.
 fn job_bytes(u: Record, span: Span) -> u32
-    ensures { λ r. ⌜ r ≡ span .count * B (u .geometry) ⌝ }
+    ensures { λ r. ⌜ r ≡ span .count * B (geometry u) ⌝ }
 {
     (span.count as u32) * sector_bytes(u)
 }
@@ -257,7 +258,7 @@ fn left(u: Record, leaving: Leaving, sectors: u16) -> Record
         Leaving::AsItWas => u,
         Leaving::HeadsAt(cylinder) => u.moved_to(cylinder),
         Leaving::HeadsAtLastTried(span) => u.moved_to(last_tried(u, span, sectors)),
-        Leaving::Fresh(g) => Record::new(true, g, 0),
+        Leaving::Fresh(g) => Record::fresh(g),
     }
 }
 

@@ -12,22 +12,22 @@ use Rattle.geometry.specs.Sectors.{firstByte}
 use Rattle.geometry.proofs.Laws.{sector-in-image}
 use Rattle.request.specs.declared.UnitNumber.{UnitNumber}
 use Rattle.request.specs.declared.UnitNumber.the-variants.{Zero, One}
-use Rattle.unit.specs.declared.Record.{Record}
 use Rattle.board.specs.Inspection.{Inspectable, bytesOf, imageOf, inspectable?, noPart, partOf, sectorPart}
 use Rattle.board.specs.declared.inspection.Part.{Part}
+use Rattle.unit.specs.Standing.{UnitRecord, geometry}
 
 -- One unit: its sector, or nothing.
-module _ (n : UnitNumber) (u : Record) (long place : ℕ) where
+module _ (n : UnitNumber) (u : UnitRecord) (long place : ℕ) where
   pub sector-there :
       Inspectable u long place →
-      sectorPart n u long place ≡ record { unit = n; at = firstByte (u .geometry) place; bytes = B (u .geometry) }
+      sectorPart n u long place ≡ record { unit = n; at = firstByte (geometry u) place; bytes = B (geometry u) }
   sector-there there = if-pos (inspectable? u long place) there _ _
 
   pub sector-not-there : (Inspectable u long place → ⊥) → sectorPart n u long place ≡ noPart
   sector-not-there not-there = if-neg (inspectable? u long place) not-there _ _
 
 -- The unit's number picks the unit.
-module _ (u0 u1 : Record) (long0 long1 place : ℕ) where
+module _ (u0 u1 : UnitRecord) (long0 long1 place : ℕ) where
   pub of-unit-zero : partOf u0 u1 long0 long1 0 place ≡ sectorPart Zero u0 long0 place
   unfolding partOf
   of-unit-zero = refl
@@ -47,15 +47,15 @@ module _ (image0 image1 : List ℕ) where
   abbrev pub InItsImage : Part → Type 0
   InItsImage p = p .at + p .bytes ≤ length (imageOf image0 image1 (p .unit))
 
-  sector-lies : (n : UnitNumber) (u : Record) (place : ℕ) → InItsImage (sectorPart n u (length (imageOf image0 image1 n)) place)
+  sector-lies : (n : UnitNumber) (u : UnitRecord) (place : ℕ) → InItsImage (sectorPart n u (length (imageOf image0 image1 n)) place)
   sector-lies n u place =
       let long = length (imageOf image0 image1 n) in
       by-cases (inspectable? u long place)
-      (λ there. rw (sector-there n u long place there) (sector-in-image (u .geometry) long place (there .image) (there .inside) .0))
+      (λ there. rw (sector-there n u long place there) (sector-in-image (geometry u) long place (there .image) (there .inside) .0))
       (λ not-there. rw (sector-not-there n u long place not-there) (omega arith))
 
   pub part-lies :
-      (u0 u1 : Record) (unit place : ℕ) → InItsImage (partOf u0 u1 (length image0) (length image1) unit place)
+      (u0 u1 : UnitRecord) (unit place : ℕ) → InItsImage (partOf u0 u1 (length image0) (length image1) unit place)
   unfolding partOf
   part-lies u0 u1 zero place = sector-lies Zero u0 place
   part-lies u0 u1 (suc zero) place = sector-lies One u1 place

@@ -8,34 +8,33 @@ use Rattle.geometry.specs.Drive.{B, driveSectors, need}
 use Rattle.geometry.specs.Sectors.{firstByte}
 use Rattle.request.specs.declared.UnitNumber.{UnitNumber}
 use Rattle.request.specs.declared.UnitNumber.the-variants.{Zero, One}
-use Rattle.unit.specs.declared.Record.{Record}
-use Rattle.unit.specs.Standing.{CountsAsInitialized}
+use Rattle.unit.specs.Standing.{CountsAsInitialized, UnitRecord, geometry}
 use Rattle.unit.proofs.Decided.{counts?}
 use Rattle.board.specs.declared.inspection.Part.{Part}
 
 -- "not initialized, place too large or image too short as in 17": none of it, of a unit's record, an image of so many bytes and
 -- a place.
-pub record Inspectable (u : Record) (long place : ℕ) : Type 0 where
+pub record Inspectable (u : UnitRecord) (long place : ℕ) : Type 0 where
   pub initialized : CountsAsInitialized u
-  pub inside : place < driveSectors (u .geometry)
-  pub image : need (u .geometry) ≤ long
+  pub inside : place < driveSectors (geometry u)
+  pub image : need (geometry u) ≤ long
 
-pub inspectable? : (u : Record) (long place : ℕ) → Dec (Inspectable u long place)
+pub inspectable? : (u : UnitRecord) (long place : ℕ) → Dec (Inspectable u long place)
 inspectable? u long place =
     map-dec (λ d. record { initialized = d .0; inside = d .1 .0; image = d .1 .1 }) (λ i. (i .initialized, (i .inside, i .image)))
-    (Dec·and (counts? u) (Dec·and (decLt place (driveSectors (u .geometry))) (decLe (need (u .geometry)) long)))
+    (Dec·and (counts? u) (Dec·and (decLt place (driveSectors (geometry u))) (decLe (need (geometry u)) long)))
 
 -- "a part of length 0 at the start of unit 0's image"
 abbrev pub noPart : Part
 noPart = record { unit = Zero; at = 0; bytes = 0 }
 
 -- The sector at a place of a unit, "as that part of the right unit's image".
-abbrev pub sectorPart : UnitNumber → Record → ℕ → ℕ → Part
+abbrev pub sectorPart : UnitNumber → UnitRecord → ℕ → ℕ → Part
 sectorPart n u long place =
-    ite (inspectable? u long place) (record { unit = n; at = firstByte (u .geometry) place; bytes = B (u .geometry) }) noPart
+    ite (inspectable? u long place) (record { unit = n; at = firstByte (geometry u) place; bytes = B (geometry u) }) noPart
 
 -- "takes a unit and a sector place"; "Unit over 1" gives no part. Each unit has its record and the length of its image.
-unfoldable pub partOf : (u0 u1 : Record) (long0 long1 : ℕ) (unit place : ℕ) → Part
+unfoldable pub partOf : (u0 u1 : UnitRecord) (long0 long1 : ℕ) (unit place : ℕ) → Part
 partOf u0 u1 long0 long1 zero place = sectorPart Zero u0 long0 place
 partOf u0 u1 long0 long1 (suc zero) place = sectorPart One u1 long1 place
 partOf u0 u1 long0 long1 (suc (suc unit)) place = noPart

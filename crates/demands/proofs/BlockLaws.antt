@@ -29,6 +29,7 @@ use Rattle.demands.specs.Visits.{Visit, effectOf, worldLeft}
 use Rattle.demands.proofs.Fits.{all-in-image, drives-geometry, on-drive}
 use Rattle.demands.proofs.Keeps.{block-keeps-events, block-keeps-host, block-keeps-image, block-keeps-record}
 use Rattle.demands.proofs.Written.{data-disk, effect-is, event-written-exactly, host-written-exactly, image-written-exactly, sectors-come}
+use Rattle.unit.specs.Standing.{geometry}
 
 module _ (v : Visit) where
   -- ---- a block refused before transfer
@@ -82,7 +83,7 @@ module _ (v : Visit) where
   -- ---- marks
 
   -- No store of a block reaches a mark, or a byte after the marks.
-  pub no-mark : (x : ℕ) → marksAt (namedDrive v .unit .geometry) ≤ x → Stored (effectOf v .stores) (imageByte x) → ⊥
+  pub no-mark : (x : ℕ) → marksAt (geometry (namedDrive v .unit)) ≤ x → Stored (effectOf v .stores) (imageByte x) → ⊥
   no-mark x from there =
       let d = image-written-exactly v x .1 there in
       no-mark-stored (namedDrive v .image) (transferBy (askedOf v)) (on-drive (askedOf v)) x (rw (drives-geometry (askedOf v)) from)
@@ -91,7 +92,7 @@ module _ (v : Visit) where
   -- "No command changes a mark" (01, One run), and "Bytes after that are never touched" (01, Geometry): whatever a block does, every
   -- byte of its unit's image from the marks on is as it was.
   pub no-mark-changes :
-      (x : ℕ) → marksAt (namedDrive v .unit .geometry) ≤ x →
+      (x : ℕ) → marksAt (geometry (namedDrive v .unit)) ≤ x →
       getD (driveOf (worldLeft v) (names v) .image) x 0 ≡ getD (namedDrive v .image) x 0
   no-mark-changes x from = block-keeps-image v (names v) x (λ there. no-mark x from (there .1))
 

@@ -15,9 +15,8 @@ use Rattle.judge.specs.declared.Verdict.the-variants.{Refused, Do}
 use Rattle.judge.specs.Fits.{LeavingFits}
 use Rattle.transfer.specs.Progress.{lastTried}
 use Rattle.transfer.specs.Stores.{Store, bytesFrom, eventByte, hostByte}
-use Rattle.unit.specs.declared.Record.{Record}
 use Rattle.unit.specs.Landing.{spotOf}
-use Rattle.unit.specs.Standing.{CountsAsInitialized}
+use Rattle.unit.specs.Standing.{CountsAsInitialized, UnitRecord, cylinder, geometry}
 use Rattle.unit.proofs.Laws.{spot-inside}
 use Rattle.block.specs.Block.{Effect, judged, leftBy, travelled}
 use Rattle.block.specs.Events.{InRange, entry, travelTo}
@@ -36,11 +35,11 @@ nowhere = travel-in-range 0 0 (omega arith) (omega arith)
 
 module _ (v : Visit) where
   -- The two cylinders of a block that moves the heads.
-  below : (u : Record) (new : ℕ) → CountsAsInitialized u → new < C (u .geometry) → InRange (travelTo (u .cylinder) new)
+  below : (u : UnitRecord) (new : ℕ) → CountsAsInitialized u → new < C (geometry u) → InRange (travelTo (cylinder u) new)
   below u new counts inside =
-      travel-in-range (u .cylinder) new (omega (arith, counts .cylinder, counts .within .sizes .cylinders)) (omega (arith, counts .within .sizes .cylinders))
+      travel-in-range (cylinder u) new (omega (arith, counts .cylinder, counts .within .sizes .cylinders)) (omega (arith, counts .within .sizes .cylinders))
 
-  in-range : (u : Record) (moved : ℕ) (l : Leaving) → LeavingFits u l → InRange (travelled u l (leftBy u moved l))
+  in-range : (u : UnitRecord) (moved : ℕ) (l : Leaving) → LeavingFits u l → InRange (travelled u l (leftBy u moved l))
   in-range u moved AsItWas fits = nowhere
   in-range u moved (HeadsAt c) fits = below u c (fits .0) (fits .1)
   in-range u moved (HeadsAtLastTried s) fits =

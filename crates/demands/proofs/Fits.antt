@@ -19,6 +19,7 @@ use Rattle.transfer.specs.Progress.{InImage}
 use Rattle.transfer.proofs.Marks.{StandsOnDrive, formatting-on-drive, moving-on-drive}
 use Rattle.block.specs.Block.{bufferOf, dataByte, transferOf}
 use Rattle.demands.specs.Footprint.{leavingOf, movingOf, transferBy}
+use Rattle.unit.specs.Standing.{geometry}
 
 module _ (a : Asked) where
   pub leaving-fits : LeavingFits (a .unit) (leavingOf (verdict a))
@@ -46,10 +47,10 @@ module _ (a : Asked) where
           (dataByte (a .host) (j .buffer)) (fits .span .inside)
       by-moving (Track spot at) fits = formatting-on-drive (a .unit) spot at (fits .track)
 
-  pub drives-geometry : transferBy a .geometry ≡ a .unit .geometry
+  pub drives-geometry : transferBy a .geometry ≡ geometry (a .unit)
   drives-geometry = by-moving (movingOf (verdict a))
     where
-      by-moving : (m : Moving) → transferOf (a .host) (a .unit) m .geometry ≡ a .unit .geometry
+      by-moving : (m : Moving) → transferOf (a .host) (a .unit) m .geometry ≡ geometry (a .unit)
       by-moving Nothing = refl
       by-moving (Sectors j) = refl
       by-moving (Track spot at) = refl

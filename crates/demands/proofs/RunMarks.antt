@@ -13,7 +13,6 @@ use Rattle.judge.specs.declared.Leaving.{Leaving}
 use Rattle.judge.specs.declared.Leaving.the-variants.{AsItWas, HeadsAt, HeadsAtLastTried, Fresh}
 use Rattle.request.specs.declared.UnitNumber.{UnitNumber}
 use Rattle.request.specs.declared.UnitNumber.the-variants.{Zero, One}
-use Rattle.unit.specs.declared.Record.{Record}
 use Rattle.block.specs.Block.{leftBy}
 use Rattle.board.specs.Chain.{ran}
 use Rattle.demands.specs.Footprint.{Renews, Some, askedOf, leavingOf, namedDrive, names, verdictOf}
@@ -21,13 +20,14 @@ use Rattle.demands.specs.Visits.{Visit, effectOf, fetchedBy, worldLeft}
 use Rattle.block.specs.World.{Drive, World, driveOf}
 use Rattle.demands.proofs.BlockLaws.{no-mark}
 use Rattle.demands.proofs.Keeps.{block-keeps-drive, block-keeps-image, named-record, run-hands, run-keeps, same-unit?, unit-left}
+use Rattle.unit.specs.Standing.{UnitRecord, geometry}
 
 -- A block keeps an image byte of a unit that it does not name, and one from the marks on of the unit that it names.
 block-keeps-marks :
-    (v : Visit) (n : UnitNumber) (x : ℕ) → ((names v ≡ n) × (x < marksAt (namedDrive v .unit .geometry)) → ⊥) →
+    (v : Visit) (n : UnitNumber) (x : ℕ) → ((names v ≡ n) × (x < marksAt (geometry (namedDrive v .unit))) → ⊥) →
     getD (driveOf (worldLeft v) n .image) x 0 ≡ getD (driveOf (v .world) n .image) x 0
 block-keeps-marks v n x out =
-    by-cases (decLt x (marksAt (namedDrive v .unit .geometry)))
+    by-cases (decLt x (marksAt (geometry (namedDrive v .unit))))
     (λ before. block-keeps-image v n x (λ there. out (there .0, before)))
     (λ from.
     block-keeps-image v n x (λ there. no-mark v x (omega arith) (there .1)))
@@ -35,10 +35,10 @@ block-keeps-marks v n x out =
 -- From the marks on.
 pub no-mark-in-a-run :
     (first allowance : ℕ) (w : World) (n : UnitNumber) (x : ℕ) →
-    (Some (λ v. (names v ≡ n) × (x < marksAt (namedDrive v .unit .geometry))) (fetchedBy first allowance w) → ⊥) →
+    (Some (λ v. (names v ≡ n) × (x < marksAt (geometry (namedDrive v .unit)))) (fetchedBy first allowance w) → ⊥) →
     getD (driveOf (ran first allowance w .world) n .image) x 0 ≡ getD (driveOf w n .image) x 0
 no-mark-in-a-run first allowance w n x none =
-    run-keeps (λ u. getD (driveOf u n .image) x 0) first allowance w (λ v. (names v ≡ n) × (x < marksAt (namedDrive v .unit .geometry)))
+    run-keeps (λ u. getD (driveOf u n .image) x 0) first allowance w (λ v. (names v ≡ n) × (x < marksAt (geometry (namedDrive v .unit))))
     (λ v out. block-keeps-marks v n x out) none
 
 -- ---- a run in which no 87 for the unit succeeds
@@ -46,29 +46,29 @@ no-mark-in-a-run first allowance w n x none =
 -- Only an 87 replaces a geometry.
 block-keeps-geometry :
     (v : Visit) (n : UnitNumber) → ((names v ≡ n) × Renews (askedOf v) → ⊥) →
-    driveOf (worldLeft v) n .unit .geometry ≡ driveOf (v .world) n .unit .geometry
-block-keeps-geometry v n none = by-cases (same-unit? (names v) n) (λ named. here named) (λ other. ap (λ (d : Drive). d .unit .geometry) (block-keeps-drive v n other))
+    geometry (driveOf (worldLeft v) n .unit) ≡ geometry (driveOf (v .world) n .unit)
+block-keeps-geometry v n none = by-cases (same-unit? (names v) n) (λ named. here named) (λ other. ap (λ (d : Drive). geometry (d .unit)) (block-keeps-drive v n other))
   where
-    kept : (l : Leaving) → leavingOf (verdictOf v) ≡ l → (Renews (askedOf v) → ⊥) → leftBy (namedDrive v .unit) (effectOf v .sectors) l .geometry ≡ namedDrive v .unit .geometry
+    kept : (l : Leaving) → leavingOf (verdictOf v) ≡ l → (Renews (askedOf v) → ⊥) → geometry (leftBy (namedDrive v .unit) (effectOf v .sectors) l) ≡ geometry (namedDrive v .unit)
     kept AsItWas is out = refl
     kept (HeadsAt c) is out = refl
     kept (HeadsAtLastTried s) is out = refl
     kept (Fresh g) is out = absurd (out (g, is))
 
-    here : names v ≡ n → driveOf (worldLeft v) n .unit .geometry ≡ driveOf (v .world) n .unit .geometry
+    here : names v ≡ n → geometry (driveOf (worldLeft v) n .unit) ≡ geometry (driveOf (v .world) n .unit)
     here named =
-        subst (λ (m : UnitNumber). driveOf (worldLeft v) m .unit .geometry ≡ driveOf (v .world) m .unit .geometry) named
-        (ap (λ (u : Record). u .geometry) (named-record v ∙ unit-left v) ∙ kept (leavingOf (verdictOf v)) refl (λ renews. none (named, renews)))
+        subst (λ (m : UnitNumber). geometry (driveOf (worldLeft v) m .unit) ≡ geometry (driveOf (v .world) m .unit)) named
+        (ap (λ (u : UnitRecord). geometry u) (named-record v ∙ unit-left v) ∙ kept (leavingOf (verdictOf v)) refl (λ renews. none (named, renews)))
 
 -- So every byte of its image from the marks on, as its record says where they begin, is as it was.
 pub no-mark-without-an-87 :
-    (first allowance : ℕ) (w : World) (n : UnitNumber) (x : ℕ) → marksAt (driveOf w n .unit .geometry) ≤ x →
+    (first allowance : ℕ) (w : World) (n : UnitNumber) (x : ℕ) → marksAt (geometry (driveOf w n .unit)) ≤ x →
     (Some (λ v. (names v ≡ n) × Renews (askedOf v)) (fetchedBy first allowance w) → ⊥) →
     getD (driveOf (ran first allowance w .world) n .image) x 0 ≡ getD (driveOf w n .image) x 0
 no-mark-without-an-87 first allowance w n x from none =
     run-hands
     (λ u.
-    (driveOf u n .unit .geometry ≡ driveOf w n .unit .geometry) ×
+    (geometry (driveOf u n .unit) ≡ geometry (driveOf w n .unit)) ×
     (getD (driveOf u n .image) x 0 ≡ getD (driveOf w n .image) x 0))
     first allowance w (λ v. (names v ≡ n) × Renews (askedOf v))
     (λ v out so. (
@@ -78,9 +78,9 @@ no-mark-without-an-87 first allowance w n x from none =
     none (refl, refl) .1
   where
     before :
-        (v : Visit) → names v ≡ n → driveOf (v .world) n .unit .geometry ≡ driveOf w n .unit .geometry →
-        x < marksAt (namedDrive v .unit .geometry) → ⊥
+        (v : Visit) → names v ≡ n → geometry (driveOf (v .world) n .unit) ≡ geometry (driveOf w n .unit) →
+        x < marksAt (geometry (namedDrive v .unit)) → ⊥
     before v named same less =
-        let here : namedDrive v .unit .geometry ≡ driveOf w n .unit .geometry =
-        ap (λ (m : UnitNumber). driveOf (v .world) m .unit .geometry) named ∙ same in
+        let here : geometry (namedDrive v .unit) ≡ geometry (driveOf w n .unit) =
+        ap (λ (m : UnitNumber). geometry (driveOf (v .world) m .unit)) named ∙ same in
         omega (arith, from, ap (λ (g : Geometry). marksAt g) here)

@@ -7,7 +7,6 @@ use mathlib.Core.Path.{_≡_, refl, sym, _∙_, ap, subst}
 use lib.ListN.{getD, length}
 use Rattle.request.specs.declared.UnitNumber.{UnitNumber}
 use Rattle.request.specs.declared.UnitNumber.the-variants.{Zero, One}
-use Rattle.unit.specs.declared.Record.{Record}
 use Rattle.transfer.specs.Stores.{Buffers, Stored, after, held, hostByte}
 use Rattle.transfer.proofs.Stays.{lengths-stay, unstored-stays}
 use Rattle.block.specs.Block.{Effect}
@@ -15,6 +14,7 @@ use Rattle.block.specs.World.{World, buffersOf, changed, driveOf}
 use Rattle.independence.specs.Local.{AgreeOn, LeadsAlike, Local, Step}
 use Rattle.independence.specs.Worlds.{Cell, Touches, byte, disk, events, holds, worlds}
 use Rattle.independence.proofs.Meets.{Meet, Sourced, stores-meet}
+use Rattle.unit.specs.Standing.{UnitRecord}
 
 -- Work on a world: the unit that it names, its effect on that unit's drive, what else it comes to, and the host bytes that it reads and
 -- writes, all from the world that it finds.
@@ -54,7 +54,7 @@ pub record ByWhatItReads {Out : Type 0} (k : Work Out) : Type 0 where
 
 -- ---- a world with one drive changed
 
-module _ (w : World) (m : Buffers) (r : Record) where
+module _ (w : World) (m : Buffers) (r : UnitRecord) where
   buffers-changed : (n : UnitNumber) → buffersOf (changed w n m r) n ≡ m
   buffers-changed Zero = refl
   buffers-changed One = refl
@@ -66,7 +66,7 @@ module _ (w : World) (m : Buffers) (r : Record) where
   other-drive One One other = absurd (other refl)
 
 -- Two worlds of which one drive is changed alike.
-module _ (P : ℕ → Type 0) (w u : World) (m n : Buffers) (meet : Meet P m n) (r : Record) where
+module _ (P : ℕ → Type 0) (w u : World) (m n : Buffers) (meet : Meet P m n) (r : UnitRecord) where
   host-changed : (k : UnitNumber) (x : ℕ) → P x → getD (changed w k m r .host) x 0 ≡ getD (changed u k n r .host) x 0
   host-changed Zero x p = meet .host x p
   host-changed One x p = meet .host x p

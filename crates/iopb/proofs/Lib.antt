@@ -3,3 +3,4 @@ pub mod Handshake
 pub mod Locality
 pub mod Lookup
 pub mod Outcomes
+pub mod Table

@@ -1,4 +1,5 @@
 pub mod Ask
+pub mod ErrorTable
 pub mod Errors
 pub mod Identity
 pub mod Layout

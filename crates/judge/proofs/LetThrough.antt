@@ -20,10 +20,9 @@ use Rattle.request.specs.declared.Buffer.the-variants.{Piece, List as Elements}
 use Rattle.request.specs.declared.Shape.the-variants.{Misplaced, Given as Uib}
 use Rattle.request.specs.declared.Task.{Task}
 use Rattle.request.specs.declared.Task.the-variants.{Unknown, Move as Moves, Handshake, Initialize, Restore, Seek, Format}
-use Rattle.unit.specs.declared.Record.{Record}
 use Rattle.unit.specs.declared.Spot.{Spot}
 use Rattle.unit.specs.Landing.{spotOf}
-use Rattle.unit.specs.Standing.{CountsAsInitialized}
+use Rattle.unit.specs.Standing.{CountsAsInitialized, UnitRecord, geometry}
 use Rattle.unit.proofs.Decided.{counts?}
 use Rattle.unit.proofs.Laws.{spot-inside, track-inside, track-whole}
 use Rattle.memory.specs.Lists.{ListGood, Ranges}
@@ -90,7 +89,7 @@ record Accepted (a : Asked) (p : Plan) : Type 0 where
   quiet : Quiet (p .moving) (p .report)
   list : ListKnown a (p .moving)
 
-module _ (u : Record) (image : ℕ) (host : List ℕ) where
+module _ (u : UnitRecord) (image : ℕ) (host : List ℕ) where
   abbrev asking : Task → Asked
   asking t = record { task = t; unit = u; image = image; host = host }
 
@@ -100,11 +99,11 @@ module _ (u : Record) (image : ℕ) (host : List ℕ) where
   good-buffer a (Elements at n) bytes none = (so (listGood? (a .host) at n bytes) (none .0), so (ranges? (a .host) at n) (none .1 .0))
 
   covered :
-      (v : VolumeNumber) (x : Number) (count : ℕ) → 0 < count → Covers u v x count → found x + count ≤ volumeSectors (u .geometry) v
+      (v : VolumeNumber) (x : Number) (count : ℕ) → 0 < count → Covers u v x count → found x + count ≤ volumeSectors (geometry u) v
   covered v (Is n) count some c = omega arith
   covered v Outside count some c = absurd c
 
-  seek-inside : (v : VolumeNumber) (x : Number) → Covers u v x 1 → spotOf u v (found x) .cylinder < C (u .geometry)
+  seek-inside : (v : VolumeNumber) (x : Number) → Covers u v x 1 → spotOf u v (found x) .cylinder < C (geometry u)
   seek-inside v (Is n) c = spot-inside u v n (c .0) .cylinder
   seek-inside v Outside c = absurd c
 
@@ -162,7 +161,7 @@ module _ (u : Record) (image : ℕ) (host : List ℕ) where
       (so (counts? u) initialized, seek-inside (t .volume) begin (so (covers? u (t .volume) begin 1) inside))
   by-task (Format k) first (initialized, (inside, (long, (held, rest)))) =
       let counts = so (counts? u) initialized in
-      let on = so (onDrive? (u .geometry) (address (k .cylinder) (k .head) 0)) inside in
+      let on = so (onDrive? (geometry u) (address (k .cylinder) (k .head) 0)) inside in
       record {
         fits =
             record {
@@ -171,9 +170,9 @@ module _ (u : Record) (image : ℕ) (host : List ℕ) where
                     some = counts .within .sizes .sectors .0;
                     track = omega (arith, track-inside u (k .cylinder) (k .head) on, track-whole u (k .cylinder) (k .head));
                     long = omega arith;
-                    buffer = so (inMemory? host (k .buffer) (B (u .geometry))) held;
+                    buffer = so (inMemory? host (k .buffer) (B (geometry u))) held;
                   };
-              leaving = (counts, track-inside u (k .cylinder) (k .head) on .cylinder);
+              leaving = (counts, on .cylinder);
             };
         report = tt;
         quiet = tt;

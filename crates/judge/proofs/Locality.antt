@@ -23,7 +23,6 @@ use Rattle.request.specs.declared.Move.{Move}
 use Rattle.request.specs.declared.Shape.{Shape}
 use Rattle.request.specs.declared.Task.{Task}
 use Rattle.request.specs.declared.Task.the-variants.{Unknown, Move as Moves, Handshake, Initialize, Restore, Seek, Format}
-use Rattle.unit.specs.declared.Record.{Record}
 use Rattle.wire.specs.Memory.{Among, InMemory}
 use Rattle.wire.proofs.Memory.{range-same}
 use Rattle.judge.specs.declared.Plan.{Plan}
@@ -34,6 +33,7 @@ use Rattle.judge.specs.Given.{Asked}
 use Rattle.judge.specs.Reads.{InList, InUib}
 use Rattle.judge.specs.Verdict.{verdict}
 use Rattle.judge.proofs.First.{early, none-of-all, none?, pass, skip, stop}
+use Rattle.unit.specs.Standing.{UnitRecord, geometry}
 
 -- ---- two lists of checks
 
@@ -62,7 +62,7 @@ before-list a m at n asks buffer none =
     subst (λ (t : Task). None (before Refusal.ListBad (firstChecks a ++ ownChecks a t))) (sym asks)
     (subst (λ (b : Buffer). None (before Refusal.ListBad (firstChecks a ++ beforeBuffer a m ++ ofBuffer a b (bytesOf a m)))) (sym buffer) none)
 
-module _ (u : Record) (image : ℕ) (h k : List ℕ) (long : length h ≡ length k) where
+module _ (u : UnitRecord) (image : ℕ) (h k : List ℕ) (long : length h ≡ length k) where
   abbrev on : Task → List ℕ → Asked
   on t host = record { task = t; unit = u; image = image; host = host }
 
@@ -127,7 +127,7 @@ module _ (u : Record) (image : ℕ) (h k : List ℕ) (long : length h ≡ length
   verdict-local (Format x) alike =
       let a = on (Format x) h in
       after-the-same (firstChecks a ++ notInitialized a ∷ trackOutside a x ∷ imageShort a ∷ []) _ _ (planOf u (Format x))
-      (λ passed. same-range (Format x) (x .buffer) (B (u .geometry)) (planOf u (Format x)))
+      (λ passed. same-range (Format x) (x .buffer) (B (geometry u)) (planOf u (Format x)))
 
   -- ---- the verdict on a block
 

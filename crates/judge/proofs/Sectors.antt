@@ -12,9 +12,9 @@ use Rattle.geometry.specs.declared.VolumeNumber.{VolumeNumber}
 use Rattle.geometry.specs.Drive.{B, volumeSectors}
 use Rattle.geometry.specs.Sectors.{firstByte, markByte}
 use Rattle.geometry.proofs.Laws.{sector-in-image}
-use Rattle.unit.specs.declared.Record.{Record}
 use Rattle.unit.specs.Landing.{spotOf}
 use Rattle.unit.proofs.Laws.{spot-inside}
+use Rattle.unit.specs.Standing.{UnitRecord, geometry}
 use Rattle.request.specs.declared.Move.{Move}
 use Rattle.request.specs.declared.Task.{Task}
 use Rattle.judge.specs.declared.Standing.{Standing}
@@ -24,10 +24,10 @@ use Rattle.judge.specs.Decided.{covers?}
 use Rattle.judge.specs.Given.{Covers, asked, beginsAt}
 
 -- A sector of a transfer: in its volume, its bytes and its mark in the image.
-pub record Reachable (u : Record) (image : ℕ) (v : VolumeNumber) (n : ℕ) : Type 0 where
-  pub in-volume : n < volumeSectors (u .geometry) v
-  pub bytes : firstByte (u .geometry) (spotOf u v n .place) + B (u .geometry) ≤ image
-  pub mark : markByte (u .geometry) (spotOf u v n .place) < image
+pub record Reachable (u : UnitRecord) (image : ℕ) (v : VolumeNumber) (n : ℕ) : Type 0 where
+  pub in-volume : n < volumeSectors (geometry u) v
+  pub bytes : firstByte (geometry u) (spotOf u v n .place) + B (geometry u) ≤ image
+  pub mark : markByte (geometry u) (spotOf u v n .place) < image
 
 module _ (m : Move) (s : Standing) (host : List ℕ) where
   abbrev v : VolumeNumber
@@ -52,9 +52,9 @@ module _ (m : Move) (s : Standing) (host : List ℕ) where
         (
           is,
           λ j j<.
-              let within : n + j < volumeSectors (s .record .geometry) v = omega arith in
+              let within : n + j < volumeSectors (geometry (s .record)) v = omega arith in
               let spot = spot-inside (s .record) v (n + j) within in
-              let image = sector-in-image (s .record .geometry) (s .image) (spotOf (s .record) v (n + j) .place) (omega (arith, long)) (omega arith) in
+              let image = sector-in-image (geometry (s .record)) (s .image) (spotOf (s .record) v (n + j) .place) (omega (arith, long)) (omega arith) in
               record { in-volume = within; bytes = image .0; mark = image .1 },
         ),
       )

@@ -16,9 +16,8 @@ use Rattle.request.specs.declared.Shape.{Shape}
 use Rattle.request.specs.declared.Target.{Target}
 use Rattle.request.specs.declared.Task.{Task}
 use Rattle.request.specs.declared.Track.{Track}
-use Rattle.unit.specs.declared.Record.{Record}
 use Rattle.unit.specs.Landing.{spotOf}
-use Rattle.unit.specs.Standing.{CountsAsInitialized}
+use Rattle.unit.specs.Standing.{CountsAsInitialized, UnitRecord, geometry}
 use Rattle.memory.specs.Lists.{ListGood, Ranges}
 use Rattle.wire.specs.Memory.{InMemory}
 use Rattle.judge.specs.declared.Leaving.{Leaving}
@@ -33,11 +32,11 @@ use Rattle.judge.specs.Verdict.{byItsOwn, fromBuffer, fromSectors, verdi
 use Rattle.judge.proofs.First.{done, never, on-its-own, pass, skip, stop}
 
 module _ (s : Standing) (host : List ℕ) where
-  abbrev u : Record
+  abbrev u : UnitRecord
   u = s .record
 
   abbrev g : Geometry
-  g = u .geometry
+  g = geometry u
 
   -- A listed command passes what all are asked first.
   pub own : (t : Task) → (T (unlisted t) → ⊥) → verdict (asked t s host) ≡ byItsOwn (asked t s host)

@@ -26,9 +26,8 @@ use Rattle.request.specs.declared.Target.{Target}
 use Rattle.request.specs.declared.Task.{Task}
 use Rattle.request.specs.declared.Task.the-variants.{Unknown, Move as Moves, Handshake, Initialize, Restore, Seek, Format}
 use Rattle.request.specs.declared.Track.{Track}
-use Rattle.unit.specs.declared.Record.{Record}
 use Rattle.unit.specs.Landing.{spotOf, trackOf}
-use Rattle.unit.specs.Standing.{CountsAsInitialized}
+use Rattle.unit.specs.Standing.{CountsAsInitialized, UnitRecord, geometry}
 use Rattle.unit.proofs.Decided.{counts?}
 use Rattle.wire.specs.Memory.{InMemory, inMemory?}
 use Rattle.judge.specs.declared.Job.{Job}
@@ -74,7 +73,7 @@ module _ (a : Asked) where
   -- "volume absent"
   abbrev pub volumeAbsent : VolumeNumber → Check
   volumeAbsent v =
-      check VolumeAbsent (Present (volume (a .unit .geometry) v) → ⊥) (Dec·not (present? (volume (a .unit .geometry) v)))
+      check VolumeAbsent (Present (volume (geometry (a .unit)) v) → ⊥) (Dec·not (present? (volume (geometry (a .unit)) v)))
 
   -- "count 0"
   abbrev pub countZero : ℕ → Check
@@ -89,11 +88,11 @@ module _ (a : Asked) where
   -- "8C: track outside the drive"
   abbrev pub trackOutside : Track → Check
   trackOutside k =
-      check SectorOutside (HasTrack (a .unit) k → ⊥) (Dec·not (onDrive? (a .unit .geometry) (address (k .cylinder) (k .head) 0)))
+      check SectorOutside (HasTrack (a .unit) k → ⊥) (Dec·not (onDrive? (geometry (a .unit)) (address (k .cylinder) (k .head) 0)))
 
   -- "image shorter than the geometry needs"
   abbrev pub imageShort : Check
-  imageShort = check ImageShort (a .image < need (a .unit .geometry)) (decLt (a .image) (need (a .unit .geometry)))
+  imageShort = check ImageShort (a .image < need (geometry (a .unit))) (decLt (a .image) (need (geometry (a .unit))))
 
   -- "list: 0 or over 64 elements, .. or the sum not count × B"
   abbrev pub listBad : ℕ → ℕ → ℕ → Check
@@ -127,7 +126,7 @@ module _ (a : Asked) where
   ofBuffer (Elements at n) bytes = listBad at n bytes ∷ elementMisplaced at n ∷ []
 
   abbrev pub bytesOf : Move → ℕ
-  bytesOf m = m .count * B (a .unit .geometry)
+  bytesOf m = m .count * B (geometry (a .unit))
 
   -- What each command is asked then.
   abbrev pub ownChecks : Task → List Check
@@ -137,7 +136,7 @@ module _ (a : Asked) where
   ownChecks (Initialize s) = uibMisplaced s ∷ uibOutsideLimits s ∷ []
   ownChecks Restore = notInitialized ∷ []
   ownChecks (Seek t) = notInitialized ∷ volumeAbsent (t .volume) ∷ sectorOutside t 1 ∷ []
-  ownChecks (Format k) = notInitialized ∷ trackOutside k ∷ imageShort ∷ dataMisplaced (k .buffer) (B (a .unit .geometry)) ∷ []
+  ownChecks (Format k) = notInitialized ∷ trackOutside k ∷ imageShort ∷ dataMisplaced (k .buffer) (B (geometry (a .unit))) ∷ []
 
   abbrev pub checks : List Check
   checks = firstChecks ++ ownChecks (a .task)
@@ -172,7 +171,7 @@ carrying j = plan (Sectors j) Report.Nothing (HeadsAtLastTried (j .span))
 
 -- What is to be done, of a task that no check refuses. A task that some check always refuses has no plan: what stands for it
 -- here is never asked for.
-abbrev pub planOf : Record → Task → Plan
+abbrev pub planOf : UnitRecord → Task → Plan
 planOf u Unknown = only AsItWas
 planOf u (Moves m) = carrying (jobOf m (found (beginsAt u (m .target))))
 -- 86 "writes words 2 to 7 with this board's own identity"
@@ -184,6 +183,4 @@ planOf u (Initialize (Uib g)) = only (Fresh g)
 planOf u Restore = only (HeadsAt 0)
 planOf u (Seek t) = only (HeadsAt (spotOf u (t .volume) (found (beginsAt u t)) .cylinder))
 -- 8C: "The heads end on the named cylinder."
-planOf u (Format k) =
-    let spot = trackOf u (k .cylinder) (k .head) in
-    plan (Tracked spot (k .buffer)) Report.Nothing (HeadsAt (spot .cylinder))
+planOf u (Format k) = plan (Tracked (trackOf u (k .cylinder) (k .head)) (k .buffer)) Report.Nothing (HeadsAt (k .cylinder))

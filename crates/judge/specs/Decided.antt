@@ -11,16 +11,16 @@ use Rattle.geometry.specs.Drive.{volumeSectors}
 use Rattle.geometry.proofs.Decided.{within?}
 use Rattle.request.specs.declared.Shape.{Shape}
 use Rattle.request.specs.declared.Shape.the-variants.{Misplaced, Given as Uib}
-use Rattle.unit.specs.declared.Record.{Record}
 use Rattle.judge.specs.Given.{BadPlace, BadShape, Covers}
+use Rattle.unit.specs.Standing.{UnitRecord, geometry}
 
 pub test? : (b : Bool) → Dec (T b)
 test? true = yes tt
 test? false = no (λ x. x)
 
-pub covers? : (u : Record) (v : VolumeNumber) (n : Number) (count : ℕ) → Dec (Covers u v n count)
+pub covers? : (u : UnitRecord) (v : VolumeNumber) (n : Number) (count : ℕ) → Dec (Covers u v n count)
 covers? u v (Is n) count =
-    Dec·and (decLt n (volumeSectors (u .geometry) v)) (decLt (n + (count - 1)) (volumeSectors (u .geometry) v))
+    Dec·and (decLt n (volumeSectors (geometry u) v)) (decLt (n + (count - 1)) (volumeSectors (geometry u) v))
 covers? u v Outside count = no (λ x. x)
 
 pub badPlace? : (s : Shape) → Dec (BadPlace s)

@@ -7,10 +7,9 @@ use Rattle.geometry.specs.Limits.{Within}
 use Rattle.memory.specs.Lists.{ListGood, Ranges}
 use Rattle.request.specs.declared.Buffer.{Buffer}
 use Rattle.request.specs.declared.Buffer.the-variants.{Piece, List as Elements}
-use Rattle.unit.specs.declared.Record.{Record}
 use Rattle.unit.specs.declared.Span.{Span}
 use Rattle.unit.specs.declared.Spot.{Spot}
-use Rattle.unit.specs.Standing.{CountsAsInitialized}
+use Rattle.unit.specs.Standing.{CountsAsInitialized, UnitRecord, geometry}
 use Rattle.wire.specs.Memory.{InMemory}
 use Rattle.judge.specs.declared.Job.{Job}
 use Rattle.judge.specs.declared.Leaving.{Leaving}
@@ -25,33 +24,33 @@ BufferGood host (Piece at) bytes = InMemory host at bytes
 BufferGood host (Elements at n) bytes = ListGood host at n bytes × Ranges host at n
 
 -- Some sectors, which their volume has.
-pub record SpanGood (u : Record) (s : Span) : Type 0 where
+pub record SpanGood (u : UnitRecord) (s : Span) : Type 0 where
   pub some : 0 < s .count
-  pub inside : s .first + s .count ≤ volumeSectors (u .geometry) (s .volume)
+  pub inside : s .first + s .count ≤ volumeSectors (geometry u) (s .volume)
 
-pub record JobGood (u : Record) (image : ℕ) (host : List ℕ) (j : Job) : Type 0 where
+pub record JobGood (u : UnitRecord) (image : ℕ) (host : List ℕ) (j : Job) : Type 0 where
   pub span : SpanGood u (j .span)
-  pub long : need (u .geometry) ≤ image
-  pub buffer : BufferGood host (j .buffer) (j .span .count * B (u .geometry))
+  pub long : need (geometry u) ≤ image
+  pub buffer : BufferGood host (j .buffer) (j .span .count * B (geometry u))
 
-pub record TrackGood (u : Record) (image : ℕ) (host : List ℕ) (spot : Spot) (at : ℕ) : Type 0 where
-  pub some : 0 < S (u .geometry)
-  pub track : spot .place + S (u .geometry) ≤ driveSectors (u .geometry)
-  pub long : need (u .geometry) ≤ image
-  pub buffer : InMemory host at (B (u .geometry))
+pub record TrackGood (u : UnitRecord) (image : ℕ) (host : List ℕ) (spot : Spot) (at : ℕ) : Type 0 where
+  pub some : 0 < S (geometry u)
+  pub track : spot .place + S (geometry u) ≤ driveSectors (geometry u)
+  pub long : need (geometry u) ≤ image
+  pub buffer : InMemory host at (B (geometry u))
 
-abbrev pub MovingFits : Record → ℕ → List ℕ → Moving → Type 0
+abbrev pub MovingFits : UnitRecord → ℕ → List ℕ → Moving → Type 0
 MovingFits u image host Nothing = Unit {0}
 MovingFits u image host (Sectors j) = JobGood u image host j
 MovingFits u image host (Track spot at) = TrackGood u image host spot at
 
 -- The heads are moved on a unit that counts as initialized, and to a cylinder of its drive; a new record has a geometry inside the limits.
-abbrev pub LeavingFits : Record → Leaving → Type 0
+abbrev pub LeavingFits : UnitRecord → Leaving → Type 0
 LeavingFits u AsItWas = Unit {0}
-LeavingFits u (HeadsAt c) = CountsAsInitialized u × (c < C (u .geometry))
+LeavingFits u (HeadsAt c) = CountsAsInitialized u × (c < C (geometry u))
 LeavingFits u (HeadsAtLastTried s) = CountsAsInitialized u × SpanGood u s
 LeavingFits u (Fresh g) = Within g
 
-pub record PlanFits (u : Record) (image : ℕ) (host : List ℕ) (p : Plan) : Type 0 where
+pub record PlanFits (u : UnitRecord) (image : ℕ) (host : List ℕ) (p : Plan) : Type 0 where
   pub moving : MovingFits u image host (p .moving)
   pub leaving : LeavingFits u (p .leaving)

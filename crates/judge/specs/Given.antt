@@ -14,14 +14,14 @@ use Rattle.request.specs.declared.Start.the-variants.{Logical, Physical}
 use Rattle.request.specs.declared.Target.{Target}
 use Rattle.request.specs.declared.Task.{Task}
 use Rattle.request.specs.declared.Track.{Track}
-use Rattle.unit.specs.declared.Record.{Record}
 use Rattle.unit.specs.Landing.{numberOn}
+use Rattle.unit.specs.Standing.{UnitRecord, geometry}
 use Rattle.judge.specs.declared.Standing.{Standing}
 
 -- What is judged: a task, its unit's record and image length, and the host memory.
 pub record Asked : Type 0 where
   pub task : Task
-  pub unit : Record
+  pub unit : UnitRecord
   pub image : ℕ
   pub host : List ℕ
 
@@ -29,21 +29,21 @@ abbrev pub asked : Task → Standing → List ℕ → Asked
 asked t s host = record { task = t; unit = s .record; image = s .image; host = host }
 
 -- The number at which a request begins: a logical number as it came, and a physical address's where the volume has it.
-abbrev pub numberOf : Record → VolumeNumber → Start → Number
+abbrev pub numberOf : UnitRecord → VolumeNumber → Start → Number
 numberOf u v (Logical n) = Is n
 numberOf u v (Physical c h s) = numberOn u v c h s
 
-abbrev pub beginsAt : Record → Target → Number
+abbrev pub beginsAt : UnitRecord → Target → Number
 beginsAt u t = numberOf u (t .volume) (t .start)
 
 -- "first sector outside the volume, or the last": neither is, of a request for so many sectors.
-abbrev pub Covers : Record → VolumeNumber → Number → ℕ → Type 0
-Covers u v (Is n) count = (n < volumeSectors (u .geometry) v) × (n + (count - 1) < volumeSectors (u .geometry) v)
+abbrev pub Covers : UnitRecord → VolumeNumber → Number → ℕ → Type 0
+Covers u v (Is n) count = (n < volumeSectors (geometry u) v) × (n + (count - 1) < volumeSectors (geometry u) v)
 Covers u v Outside count = ⊥
 
 -- "8C: track outside the drive": it is not.
-abbrev pub HasTrack : Record → Track → Type 0
-HasTrack u k = OnDrive (u .geometry) (address (k .cylinder) (k .head) 0)
+abbrev pub HasTrack : UnitRecord → Track → Type 0
+HasTrack u k = OnDrive (geometry u) (address (k .cylinder) (k .head) 0)
 
 -- The two cases of 87: its UIB does not lie where it can be read, or it does and says a geometry that is outside the limits.
 abbrev pub BadPlace : Shape → Type 0

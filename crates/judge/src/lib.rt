@@ -30,6 +30,7 @@ ghost use Rattle.judge.specs.Verdict.{Begins, byItsOwn, fromBuffer, from
 ghost use Rattle.judge.specs.declared.Verdict.{Verdict};
 ghost use Rattle.request.specs.declared.Task.{Task};
 ghost use Rattle.wire.specs.Promise.{Says};
+ghost use Rattle.unit.specs.Standing.{geometry};
 
 // What is judged of a unit beside the request: its record, and how long its image is.
 pub struct Standing {
@@ -137,25 +138,25 @@ fn judge_restore(standing: Standing, host: &[u8]) -> Verdict
 
 // What the checks ask of a unit's geometry.
 fn has_volume(u: Record, v: VolumeNumber) -> bool
-    ensures { λ r. ⌜ Says r (Present (volume (u .geometry) v)) ⌝ }
+    ensures { λ r. ⌜ Says r (Present (volume (geometry u) v)) ⌝ }
 {
     u.geometry().volume(v).is_present()
 }
 
 fn sectors_of(u: Record, v: VolumeNumber) -> u64
-    ensures { λ r. ⌜ r ≡ volumeSectors (u .geometry) v ⌝ }
+    ensures { λ r. ⌜ r ≡ volumeSectors (geometry u) v ⌝ }
 {
     u.geometry().volume_sectors(v)
 }
 
 fn sector_bytes(u: Record) -> u64
-    ensures { λ r. ⌜ (r ≡ B (u .geometry)) × (r < 65536) ⌝ }
+    ensures { λ r. ⌜ (r ≡ B (geometry u)) × (r < 65536) ⌝ }
 {
     u.geometry().bytes_a_sector() as u64
 }
 
 fn is_short(s: Standing) -> bool
-    ensures { λ r. ⌜ Says r (s .image < need (s .record .geometry)) ⌝ }
+    ensures { λ r. ⌜ Says r (s .image < need (geometry (s .record))) ⌝ }
 {
     let u = s.record;
     (s.image as u64) < u.geometry().need()
@@ -214,7 +215,7 @@ fn judge_format(k: Track, standing: Standing, host: &[u8]) -> Verdict
             Verdict::Do(Plan {
                 moving: Moving::Track(spot, k.buffer),
                 report: Report::Nothing,
-                leaving: Leaving::HeadsAt(spot.cylinder),
+                leaving: Leaving::HeadsAt(k.cylinder),
             })
         }
         Landing::Outside => Verdict::Refused(Refusal::SectorOutside),

@@ -1,15 +1,12 @@
 -- A session (01, The session program): a function from its input bytes to its output bytes.
 use Prim.Native.Nat.{ℕ, zero, suc, _+_, _≤_}
-use mathlib.Core.Bool.{false}
 use mathlib.Core.List.{List, [], _∷_, _++_}
 use mathlib.Core.Logic.{ite, Dec·and}
 use mathlib.Core.Path.{_≡_}
 use native.Mathlib.Decide.{decLe, map-dec, ℕ-discrete}
 use lib.ListN.{drop, getD, length, replicate, take}
 use Rattle.wire.specs.Words.{be16, be32}
-use Rattle.geometry.specs.Drive.{geometryOf, volumeOf}
-use Rattle.unit.specs.declared.Record.{Record}
-use Rattle.unit.specs.Standing.{recordOf}
+use Rattle.unit.specs.Standing.{blank}
 use Rattle.answers.specs.Numbers.{runNumber}
 use Rattle.board.specs.declared.Units.{Units}
 use Rattle.board.specs.Chain.{Ending, ran}
@@ -23,10 +20,7 @@ pub record Held : Type 0 where
   pub image1 : List ℕ
   pub units : Units
 
--- "each is empty until given. Units start uninitialized." The numbers of such a record say nothing.
-abbrev pub blank : Record
-blank = recordOf false (geometryOf 0 0 0 (volumeOf 0 0) (volumeOf 0 0)) 0
-
+-- "each is empty until given. Units start uninitialized."
 abbrev pub begin : Held
 begin = record { host = []; image0 = []; image1 = []; units = record { zero = blank; one = blank } }
 

@@ -2,11 +2,9 @@
 // What a field does to memory, images and records is board's run, by its promise; here are fields, states and text.
 // It reads no input and writes no output, and it trusts no caller: without room nothing is done.
 use board::Units;
-use geometry::Geometry;
-use geometry::Volume;
 use unit::Record;
 ghost use mathlib.Core.Path.{_≡_};
-ghost use Rattle.transcript.specs.Session.{begin, blank};
+ghost use Rattle.transcript.specs.Session.{begin};
 ghost use Rattle.transcript.specs.Steps.{Fits, Room, lentOf, spoken, spokenOf, stateOf};
 ghost use Rattle.wire.specs.Promise.{Says};
 
@@ -43,24 +41,14 @@ pub struct Said {
     pub text: usize,
 }
 
-fn blank() -> Record
-    ensures { λ r. ⌜ r ≡ blank ⌝ }
-{
-    Record::new(
-        false,
-        Geometry::new(0, 0, 0, Volume::new(0, 0), Volume::new(0, 0)),
-        0,
-    )
-}
-
 // What a session begins with.
 pub fn start() -> State
     ensures { λ r. ⌜ r ≡ stateOf begin 0 ⌝ }
 {
     State {
         units: Units {
-            zero: blank(),
-            one: blank(),
+            zero: Record::blank(),
+            one: Record::blank(),
         },
         host: 0,
         image0: 0,

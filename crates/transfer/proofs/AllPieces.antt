@@ -9,8 +9,8 @@ use native.Mathlib.Decide.{decLt}
 use native.Mathlib.Numerals.{add-one}
 use native.Mathlib.Omega.{arith}
 use lib.ListN.{getD, length}
-use Rattle.unit.specs.declared.Record.{Record}
 use Rattle.unit.specs.declared.Span.{Span}
+use Rattle.unit.specs.Standing.{UnitRecord}
 use Rattle.transfer.specs.declared.carry.Cursor.{Cursor}
 use Rattle.transfer.specs.Data.{move}
 use Rattle.transfer.specs.Pieces.{sum}
@@ -19,7 +19,7 @@ use Rattle.transfer.specs.Stores.{Buffers, Store, after, upTo}
 use Rattle.transfer.proofs.Joined.{joined-at}
 use Rattle.transfer.proofs.Stores.{after-add, upTo-same}
 
-module _ (u : Record) (s : Span) (to-host : Bool) (lengths addresses host₀ image₀ : List ℕ) where
+module _ (u : UnitRecord) (s : Span) (to-host : Bool) (lengths addresses host₀ image₀ : List ℕ) where
   abbrev bytes : ℕ → ℕ
   bytes i = getD lengths i 0
 

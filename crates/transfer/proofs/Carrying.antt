@@ -10,29 +10,29 @@ use native.Mathlib.Nat.{add-assoc, add-zero, mul-le-mul-right, mul-zero}
 use native.Mathlib.Omega.{arith}
 use lib.ListN.{length}
 use Rattle.geometry.specs.Drive.{B}
-use Rattle.unit.specs.declared.Record.{Record}
 use Rattle.unit.specs.declared.Span.{Span}
+use Rattle.unit.specs.Standing.{UnitRecord, geometry}
 use Rattle.transfer.specs.declared.carry.Cursor.{Cursor}
 use Rattle.transfer.specs.Data.{move}
 use Rattle.transfer.specs.Runs.{Carried, Held, On, Ready, advanced, behind, diskFrom, stretch}
 use Rattle.transfer.specs.Stores.{Buffers, Store, after, upTo}
 use Rattle.transfer.proofs.Stores.{after-add, copiedRun, run-is-copy, upTo-same}
 
-module _ (u : Record) (s : Span) where
+module _ (u : UnitRecord) (s : Span) where
   -- A cursor stands where it stands.
   pub on-here : (k : ℕ) (c : Cursor) → On u s k c → On u s (behind u c) c
   on-here k c on = record { stands = on .stands; here = refl; most = on .most }
 
   -- With a run used up and bytes still to come there is a next sector, and sectors have bytes.
   pub next-sector :
-      (c : Cursor) → c .left ≤ 0 → behind u c < s .count * B (u .geometry) → (c .next < s .count) × (0 < B (u .geometry))
+      (c : Cursor) → c .left ≤ 0 → behind u c < s .count * B (geometry u) → (c .next < s .count) × (0 < B (geometry u))
   next-sector c used less =
-      let whole : c .next * B (u .geometry) < s .count * B (u .geometry) = omega arith in (
+      let whole : c .next * B (geometry u) < s .count * B (geometry u) = omega arith in (
         by-cases (decLt (c .next) (s .count)) (λ h. h)
-            (λ out. absurd (omega (arith, mul-le-mul-right {m = s .count} {n = c .next} (B (u .geometry)) (omega arith)))),
-        by-cases (decLt 0 (B (u .geometry))) (λ h. h)
+            (λ out. absurd (omega (arith, mul-le-mul-right {m = s .count} {n = c .next} (B (geometry u)) (omega arith)))),
+        by-cases (decLt 0 (B (geometry u))) (λ h. h)
             (λ out.
-            let none : B (u .geometry) ≡ 0 = omega arith in
+            let none : B (geometry u) ≡ 0 = omega arith in
             absurd (omega (arith, ap (λ (x : ℕ). s .count * x) none, mul-zero (s .count)))),
       )
 
@@ -56,8 +56,8 @@ module _ (u : Record) (s : Span) where
       (long k n : ℕ) (c : Cursor) → Held u s long → Ready u s k c → n ≤ c .left → 0 < n → c .at + n ≤ long
   run-held long k n c held ready most some =
       let on = ready .on in
-      let last : behind u c + (n - 1) < s .count * B (u .geometry) =
-      omega (arith, on .stands .whole, mul-le-mul-right (B (u .geometry)) (on .most)) in
+      let last : behind u c + (n - 1) < s .count * B (geometry u) =
+      omega (arith, on .stands .whole, mul-le-mul-right (B (geometry u)) (on .most)) in
       let byte = held (behind u c + (n - 1)) last in
       omega (arith, byte, on .stands .run (n - 1) (omega arith))
 

@@ -8,8 +8,8 @@ use Rattle.geometry.specs.declared.Geometry.{Geometry}
 use Rattle.geometry.specs.Drive.{B, volumeSectors}
 use Rattle.geometry.specs.Sectors.{firstByte}
 use Rattle.geometry.proofs.Laws.{bytes-consecutive}
-use Rattle.unit.specs.declared.Record.{Record}
 use Rattle.unit.specs.declared.Span.{Span}
+use Rattle.unit.specs.Standing.{UnitRecord, geometry}
 use Rattle.transfer.specs.declared.carry.Cursor.{Cursor}
 use Rattle.transfer.specs.declared.reach.Run.{Run}
 use Rattle.transfer.specs.Data.{diskByte, placeFrom}
@@ -29,21 +29,21 @@ row-of-bytes g place j p n some row i less =
     (omega (arith, div-add-mod' i (B g)))
 
 -- A run's own cursor: its bytes, counted from the sector at which it begins.
-abbrev pub cursorOn : Record → ℕ → Run → Cursor
+abbrev pub cursorOn : UnitRecord → ℕ → Run → Cursor
 cursorOn u next r =
     record {
-      at = firstByte (u .geometry) (r .place);
-      left = r .sectors * B (u .geometry);
+      at = firstByte (geometry u) (r .place);
+      left = r .sectors * B (geometry u);
       next = next + r .sectors;
     }
 
 module _
-    (u : Record) (s : Span) (next most : ℕ) (r : Run) (inside : s .first + next < volumeSectors (u .geometry) (s .volume))
-    (at : RunAt u (s .volume) (s .first + next) most r) (some : 0 < B (u .geometry)) where
-  pub cursor-begins : next + most ≤ s .count → Ready u s (next * B (u .geometry)) (cursorOn u next r)
+    (u : UnitRecord) (s : Span) (next most : ℕ) (r : Run) (inside : s .first + next < volumeSectors (geometry u) (s .volume))
+    (at : RunAt u (s .volume) (s .first + next) most r) (some : 0 < B (geometry u)) where
+  pub cursor-begins : next + most ≤ s .count → Ready u s (next * B (geometry u)) (cursorOn u next r)
   cursor-begins asked =
-      let split = add-mul next (r .sectors) (B (u .geometry)) in
-      let here : behind u (cursorOn u next r) ≡ next * B (u .geometry) = omega (arith, split) in
+      let split = add-mul next (r .sectors) (B (geometry u)) in
+      let here : behind u (cursorOn u next r) ≡ next * B (geometry u) = omega (arith, split) in
       record {
         on =
             record {
@@ -52,7 +52,7 @@ module _
                     whole = omega (arith, split);
                     run = λ i h.
                         rw here
-                        (row-of-bytes (u .geometry) (placeFrom u (s .volume) (s .first)) next (r .place) (r .sectors) some
+                        (row-of-bytes (geometry u) (placeFrom u (s .volume) (s .first)) next (r .place) (r .sectors) some
                         (λ k k<. rw (placeFrom, ← add-assoc (s .first) next k) (run-places u (s .volume) (s .first + next) most r inside at k k<))
                         i h);
                   };

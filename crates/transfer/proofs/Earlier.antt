@@ -13,8 +13,8 @@ use Rattle.geometry.specs.declared.VolumeNumber.{VolumeNumber}
 use Rattle.geometry.specs.Drive.{B}
 use Rattle.geometry.specs.Sectors.{firstByte}
 use Rattle.geometry.proofs.Laws.{bytes-differ}
-use Rattle.unit.specs.declared.Record.{Record}
 use Rattle.unit.specs.declared.Spot.{Spot}
+use Rattle.unit.specs.Standing.{UnitRecord, geometry}
 use Rattle.transfer.specs.Data.{Transfer, dataOn, diskByte, formatting, move, moving, placeFrom, progressOn}
 use Rattle.transfer.specs.Progress.{fateAt}
 use Rattle.transfer.specs.Stores.{Buffers, Cell, Store, Stored, after, copyOf, eventByte, held, hostByte, imageByte, upTo, with}
@@ -231,7 +231,7 @@ module _ (m : Buffers) (t : Transfer) where
 
 -- Sectors of a volume, written: where they stand at different places the image has the host's bytes for the sectors moved.
 pub moving-writes-bytes :
-    (m : Buffers) (u : Record) (past-marks : Bool) (v : VolumeNumber) (first count : ℕ) (host-byte : ℕ → ℕ) →
+    (m : Buffers) (u : UnitRecord) (past-marks : Bool) (v : VolumeNumber) (first count : ℕ) (host-byte : ℕ → ℕ) →
     ((i j : ℕ) → i < count → j < count → placeFrom u v first i ≡ placeFrom u v first j → i ≡ j) →
     let t = moving u false past-marks v first count host-byte in
     (k : ℕ) → k < carried m t → getD (afterwards m t .image) (onDisk t k) 0 ≡ getD (m .host) (host-byte k) 0
@@ -242,8 +242,8 @@ moving-writes-bytes m u past-marks v first count host-byte differ k less =
 
 -- A track, formatted: each of its sectors that is moved has the bytes from that address of host memory on.
 pub formatting-writes-bytes :
-    (m : Buffers) (u : Record) (spot : Spot) (at : ℕ) →
+    (m : Buffers) (u : UnitRecord) (spot : Spot) (at : ℕ) →
     let t = formatting u spot at in
-    (k : ℕ) → k < carried m t → getD (afterwards m t .image) (onDisk t k) 0 ≡ getD (m .host) (at + k % B (u .geometry)) 0
+    (k : ℕ) → k < carried m t → getD (afterwards m t .image) (onDisk t k) 0 ≡ getD (m .host) (at + k % B (geometry u)) 0
 formatting-writes-bytes m u spot at k less =
     image-has-bytes m (formatting u spot at) refl (λ i j i< j< same. omega arith) k less

@@ -13,8 +13,8 @@ use Rattle.wire.specs.Copy.{copied}
 use Rattle.geometry.specs.Drive.{B, S}
 use Rattle.geometry.specs.Sectors.{firstByte}
 use Rattle.geometry.proofs.Laws.{bytes-consecutive}
-use Rattle.unit.specs.declared.Record.{Record}
 use Rattle.unit.specs.declared.Spot.{Spot}
+use Rattle.unit.specs.Standing.{UnitRecord, geometry}
 use Rattle.transfer.specs.Data.{dataOn, formatting, move, progressOn}
 use Rattle.transfer.specs.Progress.{Progress, fateAt}
 use Rattle.transfer.specs.Runs.{fillStore, lent}
@@ -48,38 +48,38 @@ module _ (host image₀ : List ℕ) (first at bytes : ℕ) (memory : at + bytes 
 
 -- ---- the whole track
 
-module _ (image : List ℕ) (u : Record) (spot : Spot) (at : ℕ) where
+module _ (image : List ℕ) (u : UnitRecord) (spot : Spot) (at : ℕ) where
   abbrev come : Progress
   come = progressOn image (formatting u spot at)
 
   -- The sectors that come have their bytes in the image.
-  pub track-room : 0 < come .sectors → firstByte (u .geometry) (spot .place) + come .sectors * B (u .geometry) ≤ length image
+  pub track-room : 0 < come .sectors → firstByte (geometry u) (spot .place) + come .sectors * B (geometry u) ≤ length image
   track-room some =
       let last : ℕ = come .sectors - 1 in
       let inside =
-      moved-in-image image (u .geometry) false (spot .place + last)
-      (progress-moved (λ j. fateAt image (u .geometry) false (spot .place + j)) 0 (S (u .geometry)) last (omega arith) (omega arith)) in
+      moved-in-image image (geometry u) false (spot .place + last)
+      (progress-moved (λ j. fateAt image (geometry u) false (spot .place + j)) 0 (S (geometry u)) last (omega arith) (omega arith)) in
       let all : come .sectors ≡ last + 1 = omega arith in
       omega (
         arith,
         inside .bytes,
-        bytes-consecutive (u .geometry) (spot .place) last,
-        ap (λ (x : ℕ). x * B (u .geometry)) all,
-        add-mul last 1 (B (u .geometry)),
-        one-mul (B (u .geometry)),
+        bytes-consecutive (geometry u) (spot .place) last,
+        ap (λ (x : ℕ). x * B (geometry u)) all,
+        add-mul last 1 (B (geometry u)),
+        one-mul (B (geometry u)),
       )
 
   -- Their stores are those of sectors in a row.
   pub track-stores :
       dataOn image (formatting u spot at) ≡
-      upTo (come .sectors * B (u .geometry)) (fillStore (firstByte (u .geometry) (spot .place)) at (B (u .geometry)))
+      upTo (come .sectors * B (geometry u)) (fillStore (firstByte (geometry u) (spot .place)) at (B (geometry u)))
   unfolding dataOn
   track-stores =
-      upTo-same (come .sectors * B (u .geometry)) _ _
+      upTo-same (come .sectors * B (geometry u)) _ _
       (λ k k<.
-      ap (λ (d : ℕ). move false d (at + k % B (u .geometry)))
+      ap (λ (d : ℕ). move false d (at + k % B (geometry u)))
       (rw (zero-mul, zero-add) at
-      (row-of-bytes (u .geometry) (λ j. spot .place + j) 0 (spot .place) (come .sectors) (some-bytes (come .sectors) (B (u .geometry)) k k<)
+      (row-of-bytes (geometry u) (λ j. spot .place + j) 0 (spot .place) (come .sectors) (some-bytes (come .sectors) (B (geometry u)) k k<)
       (λ j j<. rw zero-add refl) k k<)))
 
   module _ (long : ℕ) where

@@ -16,9 +16,9 @@ use Rattle.geometry.specs.declared.VolumeNumber.{VolumeNumber}
 use Rattle.geometry.specs.Drive.{B, S, driveSectors, marksAt, need, volumeSectors}
 use Rattle.geometry.specs.Sectors.{markByte}
 use Rattle.geometry.proofs.Laws.{bytes-inside, sector-in-image}
-use Rattle.unit.specs.declared.Record.{Record}
 use Rattle.unit.specs.declared.Spot.{Spot}
 use Rattle.unit.proofs.Laws.{spot-inside}
+use Rattle.unit.specs.Standing.{UnitRecord, geometry}
 use Rattle.transfer.specs.Data.{Transfer, dataOn, diskByte, formatting, move, moveAt, moving, progressOn}
 use Rattle.transfer.specs.Progress.{Fate, InImage, fateAt, inImage?, moves, onward, progress, stops}
 use Rattle.transfer.specs.Stores.{Buffers, Stored, after, held, imageByte}
@@ -32,14 +32,14 @@ StandsOnDrive t = (j : ℕ) → j < t .count → t .place j < driveSectors (t .g
 
 -- Sectors of a volume do, and so do those of a track that the drive has.
 pub moving-on-drive :
-    (u : Record) (to-host past-marks : Bool) (v : VolumeNumber) (first count : ℕ) (host-byte : ℕ → ℕ) →
-    first + count ≤ volumeSectors (u .geometry) v → StandsOnDrive (moving u to-host past-marks v first count host-byte)
+    (u : UnitRecord) (to-host past-marks : Bool) (v : VolumeNumber) (first count : ℕ) (host-byte : ℕ → ℕ) →
+    first + count ≤ volumeSectors (geometry u) v → StandsOnDrive (moving u to-host past-marks v first count host-byte)
 moving-on-drive u to-host past-marks v first count host-byte inside j j< =
     omega (arith, spot-inside u v (first + j) (omega arith))
 
 pub formatting-on-drive :
-    (u : Record) (spot : Spot) (at : ℕ) →
-    spot .place + S (u .geometry) ≤ driveSectors (u .geometry) → StandsOnDrive (formatting u spot at)
+    (u : UnitRecord) (spot : Spot) (at : ℕ) →
+    spot .place + S (geometry u) ≤ driveSectors (geometry u) → StandsOnDrive (formatting u spot at)
 formatting-on-drive u spot at inside j j< = omega arith
 
 -- ---- no mark
@@ -86,16 +86,16 @@ marks-stay m t on x from = unstored-stays (dataOn (m .image) t) m (imageByte x) 
 
 -- That is so for sectors of a volume, and for a track that the drive has.
 pub moving-keeps-marks :
-    (m : Buffers) (u : Record) (to-host past-marks : Bool) (v : VolumeNumber) (first count : ℕ) (host-byte : ℕ → ℕ) →
-    first + count ≤ volumeSectors (u .geometry) v → (x : ℕ) → marksAt (u .geometry) ≤ x →
+    (m : Buffers) (u : UnitRecord) (to-host past-marks : Bool) (v : VolumeNumber) (first count : ℕ) (host-byte : ℕ → ℕ) →
+    first + count ≤ volumeSectors (geometry u) v → (x : ℕ) → marksAt (geometry u) ≤ x →
     held (after (dataOn (m .image) (moving u to-host past-marks v first count host-byte)) m) (imageByte x) ≡ held m (imageByte x)
 moving-keeps-marks m u to-host past-marks v first count host-byte inside =
     marks-stay m (moving u to-host past-marks v first count host-byte)
     (moving-on-drive u to-host past-marks v first count host-byte inside)
 
 pub formatting-keeps-marks :
-    (m : Buffers) (u : Record) (spot : Spot) (at : ℕ) →
-    spot .place + S (u .geometry) ≤ driveSectors (u .geometry) → (x : ℕ) → marksAt (u .geometry) ≤ x →
+    (m : Buffers) (u : UnitRecord) (spot : Spot) (at : ℕ) →
+    spot .place + S (geometry u) ≤ driveSectors (geometry u) → (x : ℕ) → marksAt (geometry u) ≤ x →
     held (after (dataOn (m .image) (formatting u spot at)) m) (imageByte x) ≡ held m (imageByte x)
 formatting-keeps-marks m u spot at inside = marks-stay m (formatting u spot at) (formatting-on-drive u spot at inside)
 

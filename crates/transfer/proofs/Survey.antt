@@ -9,17 +9,17 @@ use native.Mathlib.Omega.{arith}
 use Rattle.answers.specs.declared.BlockAnswer.{BlockAnswer}
 use Rattle.answers.specs.declared.Refusal.{Refusal}
 use Rattle.geometry.specs.declared.VolumeNumber.{VolumeNumber}
-use Rattle.unit.specs.declared.Record.{Record}
 use Rattle.unit.specs.Landing.{spotOf}
+use Rattle.unit.specs.Standing.{UnitRecord, geometry}
 use Rattle.transfer.specs.declared.Moved.{Moved}
 use Rattle.transfer.specs.Data.{placeFrom}
 use Rattle.transfer.specs.Progress.{Fate, Progress, fateAt, progress}
 use Rattle.transfer.specs.Runs.{Advanced, progressFrom, reached}
 use Rattle.transfer.proofs.Progress.{leadsOn, progress-counts, progress-most, progress-same, progress-shift, progress-then}
 
-module _ (image : List ℕ) (u : Record) (v : VolumeNumber) (first count : ℕ) (heeds : Bool) where
+module _ (image : List ℕ) (u : UnitRecord) (v : VolumeNumber) (first count : ℕ) (heeds : Bool) where
   abbrev fate : ℕ → Fate
-  fate j = fateAt image (u .geometry) heeds (placeFrom u v first j)
+  fate j = fateAt image (geometry u) heeds (placeFrom u v first j)
 
   -- Where a survey stands: `done` sectors are moved.
   pub record Surveying (done : ℕ) : Type 0 where
@@ -36,7 +36,7 @@ module _ (image : List ℕ) (u : Record) (v : VolumeNumber) (first count : ℕ) 
           rw add-zero at (progress-shift fate done 0 (a .run))
           ∙ ap (λ (p : Progress). record { sectors = done + p .sectors; answer = p .answer })
           (progress-same (λ i. fate (done + i)) _ 0 (a .run)
-          (λ i h. ap (λ (n : ℕ). fateAt image (u .geometry) heeds (spotOf u v n .place)) (sym (add-assoc first done (0 + i))))
+          (λ i h. ap (λ (n : ℕ). fateAt image (geometry u) heeds (spotOf u v n .place)) (sym (add-assoc first done (0 + i))))
           ∙ a .comes)
 
       onward :
@@ -52,7 +52,7 @@ module _ (image : List ℕ) (u : Record) (v : VolumeNumber) (first count : ℕ) 
       pub advanced-most : done + m .sectors ≤ count
       advanced-most =
           let most : m .sectors ≤ 0 + a .run =
-          rw (a .comes) at (progress-most (λ j. fateAt image (u .geometry) heeds (placeFrom u v (first + done) j)) 0 (a .run)) in
+          rw (a .comes) at (progress-most (λ j. fateAt image (geometry u) heeds (placeFrom u v (first + done) j)) 0 (a .run)) in
           omega (arith, a .asked, now .most)
 
       -- A run that is stopped: the whole is stopped there.
@@ -65,7 +65,7 @@ module _ (image : List ℕ) (u : Record) (v : VolumeNumber) (first count : ℕ) 
       -- A run that came to its end: all of it is moved.
       every : m .answer ≡ BlockAnswer.Ended → m .sectors ≡ a .run
       every ended =
-          rw (zero-add, a .comes, ended) at (progress-counts (λ j. fateAt image (u .geometry) heeds (placeFrom u v (first + done) j)) 0 (a .run) .1)
+          rw (zero-add, a .comes, ended) at (progress-counts (λ j. fateAt image (geometry u) heeds (placeFrom u v (first + done) j)) 0 (a .run) .1)
 
       pub survey-grows : m .answer ≡ BlockAnswer.Ended → 0 < m .sectors
       survey-grows ended = omega (arith, every ended, a .some)

@@ -13,8 +13,8 @@ use Rattle.wire.proofs.Promises.{never}
 use Rattle.answers.specs.declared.Refusal.{Refusal}
 use Rattle.geometry.specs.declared.Geometry.{Geometry}
 use Rattle.geometry.specs.Drive.{B}
-use Rattle.unit.specs.declared.Record.{Record}
 use Rattle.unit.specs.declared.Span.{Span}
+use Rattle.unit.specs.Standing.{UnitRecord, geometry}
 use Rattle.transfer.specs.Data.{dataOn, diskByte, placeFrom}
 use Rattle.transfer.specs.Progress.{Fate, InImage, Progress, fateAt, inImage?, moves, stops}
 use Rattle.transfer.specs.Runs.{Held, PiecesFit, Spans, progressFrom, spanBytes}
@@ -52,7 +52,7 @@ bytes-held g place n long inside k less =
     let some = some-bytes n (B g) k less in
     omega (arith, inside (k / B g) (div-lt-iff-lt-mul some .1 less), mod-lt k some)
 
-module _ (image : List ℕ) (u : Record) (s : Span) (heeds : Bool) where
+module _ (image : List ℕ) (u : UnitRecord) (s : Span) (heeds : Bool) where
   -- The sectors of a span that come.
   abbrev come : Progress
   come = progressFrom image u (s .volume) heeds (s .first) (s .count)
@@ -61,20 +61,20 @@ module _ (image : List ℕ) (u : Record) (s : Span) (heeds : Bool) where
   reached = record { volume = s .volume; first = s .first; count = come .sectors }
 
   fate : ℕ → Fate
-  fate j = fateAt image (u .geometry) heeds (placeFrom u (s .volume) (s .first) j)
+  fate j = fateAt image (geometry u) heeds (placeFrom u (s .volume) (s .first) j)
 
   most : come .sectors ≤ s .count
-  most = rw zero-add at (progress-most (λ j. fateAt image (u .geometry) heeds (placeFrom u (s .volume) (s .first) j)) 0 (s .count))
+  most = rw zero-add at (progress-most (λ j. fateAt image (geometry u) heeds (placeFrom u (s .volume) (s .first) j)) 0 (s .count))
 
   pub reached-spans : Spans u s → Spans u reached
   reached-spans spans = record { inside = omega (arith, spans .inside, most); small = omega (arith, spans .small, most) }
 
   pub reached-held : Held u reached (length image)
   reached-held =
-      bytes-held (u .geometry) (placeFrom u (s .volume) (s .first)) (come .sectors) (length image)
+      bytes-held (geometry u) (placeFrom u (s .volume) (s .first)) (come .sectors) (length image)
       (λ j j<.
-      moved-in-image image (u .geometry) heeds (placeFrom u (s .volume) (s .first) j)
-      (progress-moved (λ i. fateAt image (u .geometry) heeds (placeFrom u (s .volume) (s .first) i)) 0 (s .count) j (omega arith) j<))
+      moved-in-image image (geometry u) heeds (placeFrom u (s .volume) (s .first) j)
+      (progress-moved (λ i. fateAt image (geometry u) heeds (placeFrom u (s .volume) (s .first) i)) 0 (s .count) j (omega arith) j<))
 
   pub reached-pieces :
       (long : ℕ) (lengths addresses : List ℕ) →
@@ -83,11 +83,11 @@ module _ (image : List ℕ) (u : Record) (s : Span) (heeds : Bool) where
       record {
         pairs = fit .pairs;
         inside = fit .inside;
-        enough = omega (arith, fit .enough, mul-le-mul-right (B (u .geometry)) most);
+        enough = omega (arith, fit .enough, mul-le-mul-right (B (geometry u)) most);
       }
 
 -- The two results of a call.
-module _ (long : ℕ) (image : List ℕ) (u : Record) (s : Span) (to-host past-marks : Bool) (lengths addresses : List ℕ) where
+module _ (long : ℕ) (image : List ℕ) (u : UnitRecord) (s : Span) (to-host past-marks : Bool) (lengths addresses : List ℕ) where
   pub sectors-fit :
       SectorsFit u s lengths addresses long →
       sectorsResult long image u s to-host past-marks lengths addresses ≡

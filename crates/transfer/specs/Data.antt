@@ -8,9 +8,9 @@ use Rattle.geometry.specs.declared.Geometry.{Geometry}
 use Rattle.geometry.specs.declared.VolumeNumber.{VolumeNumber}
 use Rattle.geometry.specs.Drive.{B, S}
 use Rattle.geometry.specs.Sectors.{firstByte, markByte}
-use Rattle.unit.specs.declared.Record.{Record}
 use Rattle.unit.specs.declared.Spot.{Spot}
 use Rattle.unit.specs.Landing.{spotOf}
+use Rattle.unit.specs.Standing.{UnitRecord, geometry}
 use Rattle.transfer.specs.Progress.{Progress, fateAt, progress}
 use Rattle.transfer.specs.Stores.{Store, copyOf, hostByte, imageByte, upTo}
 
@@ -26,15 +26,15 @@ pub record Transfer : Type 0 where
 
 -- The place of sector j from a number of a volume on: "Consecutive sectors go by sector, head, cylinder" (01, Geometry), which is
 -- the order of the numbers (the geometry's law numbers-consecutive).
-abbrev pub placeFrom : Record → VolumeNumber → ℕ → ℕ → ℕ
+abbrev pub placeFrom : UnitRecord → VolumeNumber → ℕ → ℕ → ℕ
 placeFrom u v first j = spotOf u v (first + j) .place
 
 -- 81 and A1 "copy sectors to host memory"; 82 and A2 copy the other way. "At a non-zero mark they stop before that sector, or,
 -- with DE, move it and go on. 82 and A2 ignore marks."
-abbrev pub moving : Record → Bool → Bool → VolumeNumber → ℕ → ℕ → (ℕ → ℕ) → Transfer
+abbrev pub moving : UnitRecord → Bool → Bool → VolumeNumber → ℕ → ℕ → (ℕ → ℕ) → Transfer
 moving u to-host past-marks v first count host-byte =
     record {
-      geometry = u .geometry;
+      geometry = geometry u;
       to-host = to-host;
       heeds = to-host && not past-marks;
       count = count;
@@ -44,15 +44,15 @@ moving u to-host past-marks v first count host-byte =
 
 -- 8C "takes B bytes and writes them to every sector of the named track": its S sectors stand in a row from its first on (the
 -- geometry's law track-consecutive).
-abbrev pub formatting : Record → Spot → ℕ → Transfer
+abbrev pub formatting : UnitRecord → Spot → ℕ → Transfer
 formatting u spot at =
     record {
-      geometry = u .geometry;
+      geometry = geometry u;
       to-host = false;
       heeds = false;
-      count = S (u .geometry);
+      count = S (geometry u);
       place = λ j. spot .place + j;
-      host-byte = λ k. at + k % B (u .geometry);
+      host-byte = λ k. at + k % B (geometry u);
     }
 
 -- The index in the image of byte k: byte k mod B of sector k div B.

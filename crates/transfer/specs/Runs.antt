@@ -7,9 +7,9 @@ use lib.ListN.{getD, length}
 use Rattle.geometry.specs.declared.Geometry.{Geometry}
 use Rattle.geometry.specs.declared.VolumeNumber.{VolumeNumber}
 use Rattle.geometry.specs.Drive.{B, volumeSectors}
-use Rattle.unit.specs.declared.Record.{Record}
 use Rattle.unit.specs.declared.Span.{Span}
 use Rattle.unit.specs.Landing.{spotOf}
+use Rattle.unit.specs.Standing.{UnitRecord, geometry}
 use Rattle.transfer.specs.declared.Moved.{Moved}
 use Rattle.transfer.specs.declared.carry.Cursor.{Cursor}
 use Rattle.transfer.specs.declared.reach.Run.{Run}
@@ -19,8 +19,8 @@ use Rattle.transfer.specs.Progress.{Progress, fateAt, progress}
 use Rattle.transfer.specs.Stores.{Buffers, Store, after, upTo}
 
 -- Sectors that their volume has; their numbers can be counted in 64 bits.
-pub record Spans (u : Record) (s : Span) : Type 0 where
-  pub inside : s .first + s .count ≤ volumeSectors (u .geometry) (s .volume)
+pub record Spans (u : UnitRecord) (s : Span) : Type 0 where
+  pub inside : s .first + s .count ≤ volumeSectors (geometry u) (s .volume)
   pub small : s .first + s .count < 2 ^ 64
 
 -- Of n marks from an index on, none of the first r stops a transfer, and the next one, if there is one, does: only a transfer
@@ -35,47 +35,47 @@ abbrev pub inARow : List ℕ → Geometry → Bool → ℕ → ℕ → Progress
 inARow image g heeds place n = progress (λ j. fateAt image g heeds (place + j)) 0 n
 
 -- How far n sectors from a number of a volume on come.
-abbrev pub progressFrom : List ℕ → Record → VolumeNumber → Bool → ℕ → ℕ → Progress
-progressFrom image u v heeds first n = progress (λ j. fateAt image (u .geometry) heeds (placeFrom u v first j)) 0 n
+abbrev pub progressFrom : List ℕ → UnitRecord → VolumeNumber → Bool → ℕ → ℕ → Progress
+progressFrom image u v heeds first n = progress (λ j. fateAt image (geometry u) heeds (placeFrom u v first j)) 0 n
 
 -- Progress, as the code hands it back.
 abbrev pub reached : Progress → Moved
 reached p = record { sectors = p .sectors; answer = p .answer }
 
 -- A run at a number of a volume: where it begins, and some sectors, no more than are on the track, nor than were asked for.
-pub record RunAt (u : Record) (v : VolumeNumber) (n most : ℕ) (r : Run) : Type 0 where
+pub record RunAt (u : UnitRecord) (v : VolumeNumber) (n most : ℕ) (r : Run) : Type 0 where
   pub place : r .place ≡ spotOf u v n .place
   pub some : 0 < r .sectors
   pub asked : r .sectors ≤ most
   pub track : r .sectors ≤ spotOf u v n .rest
 
 -- How far some sectors from a number of a volume on come, at least one and no more than were asked for.
-pub record Advanced (image : List ℕ) (u : Record) (v : VolumeNumber) (n most : ℕ) (heeds : Bool) (m : Moved) : Type 0 where
+pub record Advanced (image : List ℕ) (u : UnitRecord) (v : VolumeNumber) (n most : ℕ) (heeds : Bool) (m : Moved) : Type 0 where
   pub run : ℕ
   pub some : 0 < run
   pub asked : run ≤ most
   pub comes : progressFrom image u v heeds n run ≡ record { sectors = m .sectors; answer = m .answer }
 
 -- The k-th byte on the disk of the sectors from a number of a volume on.
-abbrev pub diskFrom : Record → VolumeNumber → ℕ → ℕ → ℕ
-diskFrom u v first k = diskByte (u .geometry) (placeFrom u v first) k
+abbrev pub diskFrom : UnitRecord → VolumeNumber → ℕ → ℕ → ℕ
+diskFrom u v first k = diskByte (geometry u) (placeFrom u v first) k
 
 -- How many bytes a cursor has behind it.
-abbrev pub behind : Record → Cursor → ℕ
-behind u c = c .next * B (u .geometry) - c .left
+abbrev pub behind : UnitRecord → Cursor → ℕ
+behind u c = c .next * B (geometry u) - c .left
 
 -- A cursor stands right: its next `left` bytes are those of the image from `at` on, and they end with sector `next`.
-pub record Stands (u : Record) (v : VolumeNumber) (first : ℕ) (c : Cursor) : Type 0 where
-  pub whole : c .left ≤ c .next * B (u .geometry)
+pub record Stands (u : UnitRecord) (v : VolumeNumber) (first : ℕ) (c : Cursor) : Type 0 where
+  pub whole : c .left ≤ c .next * B (geometry u)
   pub run : (i : ℕ) → i < c .left → diskFrom u v first (behind u c + i) ≡ c .at + i
 
 -- A cursor of a span with k bytes behind it, and one with some bytes before it.
-pub record On (u : Record) (s : Span) (k : ℕ) (c : Cursor) : Type 0 where
+pub record On (u : UnitRecord) (s : Span) (k : ℕ) (c : Cursor) : Type 0 where
   pub stands : Stands u (s .volume) (s .first) c
   pub here : behind u c ≡ k
   pub most : c .next ≤ s .count
 
-pub record Ready (u : Record) (s : Span) (k : ℕ) (c : Cursor) : Type 0 where
+pub record Ready (u : UnitRecord) (s : Span) (k : ℕ) (c : Cursor) : Type 0 where
   pub on : On u s k c
   pub some : 0 < c .left
 
@@ -84,8 +84,8 @@ abbrev pub advanced : Cursor → ℕ → Cursor
 advanced c n = record { at = c .at + n; left = c .left - n; next = c .next }
 
 -- Every byte of a span's sectors lies in an image of so many bytes.
-abbrev pub Held : Record → Span → ℕ → Type 0
-Held u s long = (k : ℕ) → k < s .count * B (u .geometry) → diskFrom u (s .volume) (s .first) k < long
+abbrev pub Held : UnitRecord → Span → ℕ → Type 0
+Held u s long = (k : ℕ) → k < s .count * B (geometry u) → diskFrom u (s .volume) (s .first) k < long
 
 -- Two buffers after some stores.
 abbrev pub lent : List ℕ → List ℕ → Buffers
@@ -97,14 +97,14 @@ stretch to-host disk k at n = upTo n (λ i. move to-host (disk (k + i)) (at + i)
 
 -- n bytes of a piece at an index of host memory, of which the first is byte k of the span: what has to hold before they are
 -- carried, and what holds then.
-pub record Fits (u : Record) (s : Span) (c : Cursor) (at n : ℕ) (host image : List ℕ) : Type 0 where
+pub record Fits (u : UnitRecord) (s : Span) (c : Cursor) (at n : ℕ) (host image : List ℕ) : Type 0 where
   pub spans : Spans u s
   pub held : Held u s (length image)
   pub on : On u s (behind u c) c
-  pub bytes : behind u c + n ≤ s .count * B (u .geometry)
+  pub bytes : behind u c + n ≤ s .count * B (geometry u)
   pub memory : at + n ≤ length host
 
-pub record Carried (u : Record) (s : Span) (to-host : Bool) (k at n : ℕ) (m m′ : Buffers) (c : Cursor) : Type 0 where
+pub record Carried (u : UnitRecord) (s : Span) (to-host : Bool) (k at n : ℕ) (m m′ : Buffers) (c : Cursor) : Type 0 where
   pub on : On u s (k + n) c
   pub moved : m′ ≡ after (stretch to-host (diskFrom u (s .volume) (s .first)) k at n) m
 
@@ -119,11 +119,11 @@ pub record PiecesFit (long bytes : ℕ) (lengths addresses : List ℕ) : Type 0 
   pub enough : bytes ≤ sum (λ i. getD lengths i 0) (length lengths)
 
 -- All bytes of a span's sectors, to or from the pieces.
-abbrev pub spanStores : Record → Span → Bool → List ℕ → List ℕ → ℕ → Store
+abbrev pub spanStores : UnitRecord → Span → Bool → List ℕ → List ℕ → ℕ → Store
 spanStores u s to-host lengths addresses k = move to-host (diskFrom u (s .volume) (s .first) k) (pieceByte lengths addresses k)
 
-abbrev pub spanBytes : Record → Span → ℕ
-spanBytes u s = s .count * B (u .geometry)
+abbrev pub spanBytes : UnitRecord → Span → ℕ
+spanBytes u s = s .count * B (geometry u)
 
 -- Byte k of sectors in a row that are all filled with the bytes of one.
 abbrev pub fillStore : ℕ → ℕ → ℕ → ℕ → Store

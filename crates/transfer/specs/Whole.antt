@@ -10,9 +10,9 @@ use Rattle.wire.proofs.Decided.{all?}
 use Rattle.answers.specs.declared.BlockAnswer.{BlockAnswer}
 use Rattle.answers.specs.declared.Refusal.{Refusal}
 use Rattle.geometry.specs.Drive.{B, S, driveSectors, volumeSectors}
-use Rattle.unit.specs.declared.Record.{Record}
 use Rattle.unit.specs.declared.Span.{Span}
 use Rattle.unit.specs.declared.Spot.{Spot}
+use Rattle.unit.specs.Standing.{UnitRecord, geometry}
 use Rattle.transfer.specs.declared.Moved.{Moved}
 use Rattle.transfer.specs.Data.{Transfer, dataOn, formatting, moving, progressOn}
 use Rattle.transfer.specs.Pieces.{sum}
@@ -20,16 +20,16 @@ use Rattle.transfer.specs.Runs.{PiecesFit, pieceByte, spanBytes}
 use Rattle.transfer.specs.Stores.{Store}
 
 -- Some sectors, which their volume has, and pieces in host memory for all their bytes.
-pub record SectorsFit (u : Record) (s : Span) (lengths addresses : List ℕ) (long : ℕ) : Type 0 where
+pub record SectorsFit (u : UnitRecord) (s : Span) (lengths addresses : List ℕ) (long : ℕ) : Type 0 where
   pub some : 0 < s .count
-  pub inside : s .first + s .count ≤ volumeSectors (u .geometry) (s .volume)
+  pub inside : s .first + s .count ≤ volumeSectors (geometry u) (s .volume)
   pub pieces : PiecesFit long (spanBytes u s) lengths addresses
 
 -- A track that the drive has, and the bytes of a sector in host memory.
-pub record TrackFits (u : Record) (spot : Spot) (at long : ℕ) : Type 0 where
-  pub some : 0 < S (u .geometry)
-  pub inside : spot .place + S (u .geometry) ≤ driveSectors (u .geometry)
-  pub memory : at + B (u .geometry) ≤ long
+pub record TrackFits (u : UnitRecord) (spot : Spot) (at long : ℕ) : Type 0 where
+  pub some : 0 < S (geometry u)
+  pub inside : spot .place + S (geometry u) ≤ driveSectors (geometry u)
+  pub memory : at + B (geometry u) ≤ long
 
 -- Nothing moved.
 abbrev pub idle : Moved
@@ -40,7 +40,7 @@ abbrev pub movedOn : List ℕ → Transfer → Moved
 movedOn image t = record { sectors = progressOn image t .sectors; answer = progressOn image t .answer }
 
 -- The transfer of a span, to or from pieces.
-abbrev pub spanTransfer : Record → Span → Bool → Bool → List ℕ → List ℕ → Transfer
+abbrev pub spanTransfer : UnitRecord → Span → Bool → Bool → List ℕ → List ℕ → Transfer
 spanTransfer u s to-host past-marks lengths addresses =
     moving u to-host past-marks (s .volume) (s .first) (s .count) (pieceByte lengths addresses)
 
@@ -52,18 +52,18 @@ piecesFit? long bytes lengths addresses =
     (Dec·and (all? _ (λ i. decLe (getD addresses i 0 + getD lengths i 0) long) (length lengths))
     (decLe bytes (sum (λ i. getD lengths i 0) (length lengths)))))
 
-pub sectorsFit? : (u : Record) (s : Span) (lengths addresses : List ℕ) (long : ℕ) → Dec (SectorsFit u s lengths addresses long)
+pub sectorsFit? : (u : UnitRecord) (s : Span) (lengths addresses : List ℕ) (long : ℕ) → Dec (SectorsFit u s lengths addresses long)
 sectorsFit? u s lengths addresses long =
     map-dec (λ d. record { some = d .0; inside = d .1 .0; pieces = d .1 .1 }) (λ f. (f .some, (f .inside, f .pieces)))
     (Dec·and (decLt 0 (s .count))
-    (Dec·and (decLe (s .first + s .count) (volumeSectors (u .geometry) (s .volume)))
+    (Dec·and (decLe (s .first + s .count) (volumeSectors (geometry u) (s .volume)))
     (piecesFit? long (spanBytes u s) lengths addresses)))
 
-pub trackFits? : (u : Record) (spot : Spot) (at long : ℕ) → Dec (TrackFits u spot at long)
+pub trackFits? : (u : UnitRecord) (spot : Spot) (at long : ℕ) → Dec (TrackFits u spot at long)
 trackFits? u spot at long =
     map-dec (λ d. record { some = d .0; inside = d .1 .0; memory = d .1 .1 }) (λ f. (f .some, (f .inside, f .memory)))
-    (Dec·and (decLt 0 (S (u .geometry)))
-    (Dec·and (decLe (spot .place + S (u .geometry)) (driveSectors (u .geometry))) (decLe (at + B (u .geometry)) long)))
+    (Dec·and (decLt 0 (S (geometry u)))
+    (Dec·and (decLe (spot .place + S (geometry u)) (driveSectors (geometry u))) (decLe (at + B (geometry u)) long)))
 
 -- The outcome of a call: what is returned, and the stores that were made.
 pub record Result : Type 0 where
@@ -73,12 +73,12 @@ pub record Result : Type 0 where
 abbrev pub resultOf : Moved → List Store → Result
 resultOf moved stores = record { moved = moved; stores = stores }
 
-unfoldable pub sectorsResult : ℕ → List ℕ → Record → Span → Bool → Bool → List ℕ → List ℕ → Result
+unfoldable pub sectorsResult : ℕ → List ℕ → UnitRecord → Span → Bool → Bool → List ℕ → List ℕ → Result
 sectorsResult long image u s to-host past-marks lengths addresses =
     let t = spanTransfer u s to-host past-marks lengths addresses in
     ite (sectorsFit? u s lengths addresses long) (resultOf (movedOn image t) (dataOn image t)) (resultOf idle [])
 
-unfoldable pub trackResult : ℕ → List ℕ → Record → Spot → ℕ → Result
+unfoldable pub trackResult : ℕ → List ℕ → UnitRecord → Spot → ℕ → Result
 trackResult long image u spot at =
     let t = formatting u spot at in
     ite (trackFits? u spot at long) (resultOf (movedOn image t) (dataOn image t)) (resultOf idle [])

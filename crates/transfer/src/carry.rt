@@ -11,6 +11,7 @@ ghost use Rattle.geometry.specs.Drive.{B};
 ghost use Rattle.transfer.specs.Runs.{Carried, Fits, Held, On, PiecesFit, Ready, Spans, advanced, behind, fillStore, lent, spanBytes, spanStores};
 ghost use Rattle.transfer.specs.Stores.{after, upTo};
 ghost use Rattle.wire.specs.Copy.{copied};
+ghost use Rattle.unit.specs.Standing.{geometry};
 
 // Where a transfer stands on the disk: the image's byte, how many bytes follow in a row, and the sectors done with them.
 pub(crate) struct Cursor {
@@ -34,8 +35,8 @@ fn copy_run(host: &mut [u8], h: usize, image: &mut [u8], d: usize, n: usize, to_
 
 // The cursor of the run that follows, of the span's sectors.
 fn next_run(u: Record, span: Span, next: u16) -> Cursor
-    requires { ⌜ (next < span .count) × ((0 < B (u .geometry)) × Spans u span) ⌝ }
-    ensures { λ r. ⌜ Ready u span (next * B (u .geometry)) r ⌝ }
+    requires { ⌜ (next < span .count) × ((0 < B (geometry u)) × Spans u span) ⌝ }
+    ensures { λ r. ⌜ Ready u span (next * B (geometry u)) r ⌝ }
 {
     let volume = span.volume;
     let run = run_at(u, volume, span.first + (next as u64), span.count - next);
@@ -55,7 +56,7 @@ fn next_run(u: Record, span: Span, next: u16) -> Cursor
 
 // The cursor itself while it has bytes left, and then the next run's.
 fn ready(u: Record, span: Span, c: Cursor) -> Cursor
-    requires { ⌜ Spans u span × (On u span (behind u c) c × (behind u c < span .count * B (u .geometry))) ⌝ }
+    requires { ⌜ Spans u span × (On u span (behind u c) c × (behind u c < span .count * B (geometry u))) ⌝ }
     ensures { λ r. ⌜ Ready u span (behind u c) r ⌝ }
 {
     if 0 < c.left {

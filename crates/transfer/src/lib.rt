@@ -16,6 +16,7 @@ ghost use Rattle.transfer.specs.Runs.{PiecesFit, lent};
 ghost use Rattle.transfer.specs.Stores.{after};
 ghost use Rattle.transfer.specs.Whole.{SectorsFit, TrackFits, idle, sectorsResult, trackResult};
 ghost use Rattle.wire.specs.Promise.{Says};
+ghost use Rattle.unit.specs.Standing.{geometry};
 
 mod carry;
 mod reach;
@@ -59,7 +60,7 @@ fn less(a: u64, b: u64) -> u64
 
 fn sectors_fit(u: Record, span: Span, lengths: &[u32], addresses: &[u32], long: u64) -> bool
     ensures says { λ r. ⌜ Says r (SectorsFit u span (now (lengths .entry)) (now (addresses .entry)) long) ⌝ }
-    ensures small { λ _. ⌜ volumeSectors (u .geometry) (span .volume) < 2 ^ 64 ⌝ }
+    ensures small { λ _. ⌜ volumeSectors (geometry u) (span .volume) < 2 ^ 64 ⌝ }
 {
     let volume = span.volume;
     let sectors = u.geometry().volume_sectors(volume);

@@ -13,6 +13,7 @@ ghost use Prim.Native.Nat.{_+_, _-_, _≤_, _<_, min};
 ghost use lib.ListN.{length};
 ghost use Rattle.geometry.specs.Drive.{driveSectors, volumeSectors};
 ghost use Rattle.transfer.specs.Runs.{Advanced, Readable, RunAt, Spans, inARow, progressFrom, reached};
+ghost use Rattle.unit.specs.Standing.{geometry};
 
 // A run of sectors that follow one another in the image.
 pub(crate) struct Run {
@@ -22,7 +23,7 @@ pub(crate) struct Run {
 
 // The run from a number on, of the sectors asked for at most.
 pub(crate) fn run_at(u: Record, v: VolumeNumber, number: u64, most: u16) -> Run
-    requires { ⌜ (number < volumeSectors (u .geometry) v) × (0 < most) ⌝ }
+    requires { ⌜ (number < volumeSectors (geometry u) v) × (0 < most) ⌝ }
     ensures { λ r. ⌜ RunAt u v number most r ⌝ }
 {
     let Landing::At(spot) = u.land(v, number) else {
@@ -107,7 +108,7 @@ pub(crate) fn reach(image: &[u8], g: Geometry, heeds: bool, place: u64, n: u16) 
 
 // How far the run from a number on comes.
 fn advance(image: &[u8], u: Record, v: VolumeNumber, number: u64, most: u16, heeds: bool) -> Moved
-    requires { ⌜ (0 < most) × (number + most ≤ volumeSectors (u .geometry) v) ⌝ }
+    requires { ⌜ (0 < most) × (number + most ≤ volumeSectors (geometry u) v) ⌝ }
     ensures { λ r. ⌜ Advanced (now (image .entry)) u v number most heeds r ⌝ }
 {
     let run = run_at(u, v, number, most);

@@ -3,8 +3,10 @@
 use mathlib.Core.Path.{_∙_, sym}
 use Rattle.wire.specs.Promise.{OneResult}
 use Rattle.wire.proofs.Promises.{says-once}
+use Rattle.unit.proofs.Record.blank.Reads as blank
 use Rattle.unit.proofs.Record.counts_as_initialized.Reads as counts-as-initialized
 use Rattle.unit.proofs.Record.cylinder.Reads as cylinder
+use Rattle.unit.proofs.Record.fresh.Reads as fresh
 use Rattle.unit.proofs.Record.geometry.Reads as geometry
 use Rattle.unit.proofs.Record.initialized.Reads as initialized
 use Rattle.unit.proofs.Record.land.Reads as land
@@ -14,11 +16,17 @@ use Rattle.unit.proofs.Record.new.Reads as new
 use Rattle.unit.proofs.Record.number.Reads as number
 use Rattle.unit.proofs.Record.same.Reads as same
 
+blank-once : OneResult blank.Post
+blank-once κ a x y e f p q = p ∙ sym q
+
 counts-as-initialized-once : OneResult counts-as-initialized.Post
 counts-as-initialized-once κ a x y e f p q = says-once x y _ p q
 
 cylinder-once : OneResult cylinder.Post
 cylinder-once κ a x y e f p q = p ∙ sym q
+
+fresh-once : OneResult fresh.Post
+fresh-once κ a x y e f p q = p ∙ sym q
 
 geometry-once : OneResult geometry.Post
 geometry-once κ a x y e f p q = p ∙ sym q

@@ -6,10 +6,11 @@ use geometry::Found;
 use geometry::Geometry;
 use geometry::Number;
 use geometry::Place;
+use geometry::Volume;
 use geometry::VolumeNumber;
 ghost use mathlib.Core.Path.{_≡_};
 ghost use Rattle.unit.specs.Landing.{landing, landingAt, numberOn, trackLanding};
-ghost use Rattle.unit.specs.Standing.{CountsAsInitialized, recordOf};
+ghost use Rattle.unit.specs.Standing.{CountsAsInitialized, blank, cylinder, fresh, geometry, initialized, movedTo, recordOf};
 ghost use Rattle.wire.specs.Promise.{Says};
 
 // A unit's record, of any contents: what it says of itself is judged by `counts_as_initialized`.
@@ -51,29 +52,52 @@ impl Record {
         }
     }
 
+    // A unit that has just been initialized.
+    pub fn fresh(g: Geometry) -> Record
+        ensures { λ r. ⌜ r ≡ fresh g ⌝ }
+    {
+        Record {
+            initialized: true,
+            geometry: g,
+            cylinder: 0,
+        }
+    }
+
+    // A unit of which nothing is said.
+    pub fn blank() -> Record
+        ensures { λ r. ⌜ r ≡ blank ⌝ }
+    {
+        let none = Volume::new(0, 0);
+        Record {
+            initialized: false,
+            geometry: Geometry::new(0, 0, 0, none, none),
+            cylinder: 0,
+        }
+    }
+
     // What the record says of itself.
     pub fn initialized(self) -> bool
-        ensures { λ r. ⌜ r ≡ self .initialized ⌝ }
+        ensures { λ r. ⌜ r ≡ initialized self ⌝ }
     {
         self.initialized
     }
 
     pub fn geometry(self) -> Geometry
-        ensures { λ r. ⌜ r ≡ self .geometry ⌝ }
+        ensures { λ r. ⌜ r ≡ geometry self ⌝ }
     {
         self.geometry
     }
 
     // The cylinder that the heads stand on.
     pub fn cylinder(self) -> u16
-        ensures { λ r. ⌜ r ≡ self .cylinder ⌝ }
+        ensures { λ r. ⌜ r ≡ cylinder self ⌝ }
     {
         self.cylinder
     }
 
     // The record once its heads stand on another cylinder.
     pub fn moved_to(self, to: u16) -> Record
-        ensures { λ r. ⌜ r ≡ recordOf (self .initialized) (self .geometry) to ⌝ }
+        ensures { λ r. ⌜ r ≡ movedTo self to ⌝ }
     {
         let geometry = self.geometry;
         Record {

@@ -30,6 +30,7 @@ use Rattle.demands.specs.Visits.{Passes, Visit, blockOf, effectOf, fetchedBy, o
 use Rattle.demands.proofs.Endings.{fetched-step, visits-step}
 use Rattle.independence.specs.Reads.{ReadsHost}
 use Rattle.independence.specs.Reads.HostRead.{block, its-list, its-uib, moved as taken}
+use Rattle.unit.specs.Standing.{geometry}
 
 none-onwards : (a : BlockAnswer) (linked : Bool) → onwards a linked [] ≡ []
 none-onwards (Failed r) linked = refl
@@ -112,12 +113,12 @@ module _ (v : Visit) (x : ℕ) where
   pub no-data : (way : Bool) → movingOf (verdictOf v) ≡ Moving.Nothing → HostData (askedOf v) (namedDrive v) way x → ⊥
   unfolding progress
   no-data way is here =
-      let less : here .byte < 0 * B (namedDrive v .unit .geometry) =
+      let less : here .byte < 0 * B (geometry (namedDrive v .unit)) =
       subst
       (λ (m : Moving).
       let t = transferOf (v .world .host) (namedDrive v .unit) m in
       here .byte < progressOn (namedDrive v .image) t .sectors * B (t .geometry)) is (here .moved) in
-      let none : 0 * B (namedDrive v .unit .geometry) ≡ 0 = zero-mul _ in
+      let none : 0 * B (geometry (namedDrive v .unit)) ≡ 0 = zero-mul _ in
       omega (arith, less, none)
 
   pub no-words :

@@ -33,15 +33,14 @@ use Rattle.request.specs.declared.Target.{Target}
 use Rattle.request.specs.declared.Task.{Task}
 use Rattle.transfer.specs.Data.{progressOn}
 use Rattle.transfer.specs.Progress.{InImage, Progress, fateAt, inImage?, moves, progress, stops}
-use Rattle.unit.specs.declared.Record.{Record}
 use Rattle.unit.specs.Landing.{spotOf}
 use Rattle.unit.specs.Landing.Behind.{spotAt-is, spotOf-is}
-use Rattle.unit.specs.Standing.{CountsAsInitialized, recordOf}
+use Rattle.unit.specs.Standing.{CountsAsInitialized, UnitRecord, fresh, movedTo}
 use Rattle.worked.specs.TwoChains.{tiny}
 
 -- With its heads on a cylinder.
-abbrev pub unit : ℕ → Record
-unit cylinder = recordOf true tiny cylinder
+abbrev pub unit : ℕ → UnitRecord
+unit cylinder = movedTo (fresh tiny) cylinder
 
 pub counts : (c : ℕ) → c < 2 → CountsAsInitialized (unit c)
 unfolding Has Present

@@ -24,7 +24,7 @@ use Rattle.judge.specs.Asks.{only, plan}
 use Rattle.judge.specs.Checks.{None}
 use Rattle.judge.proofs.First.{never}
 use Rattle.judge.proofs.Tasks.{handshake, move-11, own, restore-done, restore-refused, shape-given, shape-outside}
-use Rattle.unit.specs.Standing.{CountsAsInitialized, recordOf}
+use Rattle.unit.specs.Standing.{CountsAsInitialized, fresh}
 use Rattle.transfer.specs.Data.{dataOn}
 use Rattle.transfer.specs.Progress.{progress}
 use Rattle.transfer.specs.Stores.{after, bytesFrom, upTo}
@@ -272,7 +272,7 @@ shared-second =
 abbrev initialized-world : World
 initialized-world =
     let w = worldFor First sharedUnit in
-    changed w Zero (after (begun 0 ++ finish (blockAt (w .host) 0) 0 0 Ended (pos 0)) (buffersOf w Zero)) (recordOf true tiny 0)
+    changed w Zero (after (begun 0 ++ finish (blockAt (w .host) 0) 0 0 Ended (pos 0)) (buffersOf w Zero)) (fresh tiny)
 
 initialize-leaves : runOf First one .left sharedUnit ≡ leaving First sharedUnit initialized-world
 unfolding worldAfter bytesFrom dataOn progress upTo

@@ -10,7 +10,7 @@ use Rattle.answers.specs.declared.RunAnswer.{RunAnswer}
 use Rattle.block.specs.World.{Drive}
 use Rattle.geometry.specs.declared.Geometry.{Geometry}
 use Rattle.geometry.specs.Drive.{geometryOf, volumeOf}
-use Rattle.unit.specs.Standing.{recordOf}
+use Rattle.unit.specs.Standing.{fresh, recordOf}
 use Rattle.independence.specs.Chains.{Both, Chain, First, HostReads, HostWrites, Second, Told, runOf, worldFor}
 use Rattle.independence.specs.Demand3.{EitherWay, Independent, NoUnitInCommon, NoByteReadByOther, NoByteWrittenByBoth}
 
@@ -20,7 +20,7 @@ tiny = geometryOf 2 1 64 (volumeOf 0 1) (volumeOf 0 0)
 
 -- A drive with the heads on cylinder 0, whose data bytes are all alike, with the mark of its second sector.
 abbrev pub driveWith : ℕ → ℕ → Drive
-driveWith byte mark = record { unit = recordOf true tiny 0; image = replicate 128 byte ++ (0 ∷ mark ∷ []) }
+driveWith byte mark = record { unit = fresh tiny; image = replicate 128 byte ++ (0 ∷ mark ∷ []) }
 
 -- One that is not initialized.
 abbrev pub newDrive : Drive

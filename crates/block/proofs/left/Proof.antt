@@ -25,8 +25,8 @@ moved-to-requires-2 c κs = search needs
 enum-known-leaving-3 : tie.Need-enum-known-leaving-3
 enum-known-leaving-3 c = search needs
 
-new-requires : tie.Need-new-requires
-new-requires c κs = search needs
+fresh-requires : tie.Need-fresh-requires
+fresh-requires c κs = search needs
 
 returns : tie.Need-returns
 returns c = search needs
@@ -38,7 +38,7 @@ returns-3 : tie.Need-returns-3
 returns-3 c = rw (c .before .before .before .leaving2 .given .1) (c .moved-to2 .ensures ∙ rw (c .before .last-tried .ensures))
 
 returns-4 : tie.Need-returns-4
-returns-4 c = rw (c .before .before .leaving3 .given .1) (c .new .ensures)
+returns-4 c = rw (c .before .before .leaving3 .given .1) (c .fresh .ensures)
 
 pub left-spec : {M : Type 1} → statement M
 left-spec =
@@ -51,7 +51,7 @@ left-spec =
     last-tried-requires
     moved-to-requires-2
     enum-known-leaving-3
-    new-requires
+    fresh-requires
     returns
     returns-2
     returns-3

@@ -11,6 +11,7 @@ use Rattle.block.proofs.Gathered.{copied-out, elements-fit, list-byte, 
 use borrow.Author.Needs.{needs}
 use Rattle.block.proofs.through_list.Statement.{statement}
 use Rattle.block.proofs.through_list.Tie as tie
+use Rattle.unit.specs.Standing.{geometry}
 
 copy-out-requires : tie.Need-copy-out-requires
 copy-out-requires c κs = search needs
@@ -55,7 +56,7 @@ returns c =
     made-same (a .image .now) (a .u) (a .job)
     (pieceByte (take n (lengthsOf host (a .address) n)) (take n (addressesOf host (a .address) n))) (dataByte host (a .job .buffer))
     (λ k h.
-    list-byte host (a .address) n (a .job .span .count * B (a .u .geometry))
+    list-byte host (a .address) n (a .job .span .count * B (geometry (a .u)))
     (list-good host (a .image .now) (a .u) (a .job) (pre .1 .1) (a .address) n (pre .1 .0)) k
     ∙ ap (λ x. dataByte host x k) (sym (pre .1 .0)))
     (a .at) host _ _ _ (rw (out (c .before .before .before .before .before .before .before .before .before .before .before)) at (c .before .before .before .before .begin .ensures))

@@ -72,7 +72,7 @@ returns-4 c =
     let long = says-no (short .result) _ (c .before .before .before .if2 .left) (short .ensures) in
     let on = at-track (a .standing .record) (a .k .cylinder) (a .k .head) (c .before .before .before .before .before .before .spot .given .0 .0) (sym (c .before .before .before .before .before .before .before .before .land-track .ensures) ∙ c .before .before .before .before .before .before .spot .given .1) in
     let held = c .before .holds in
-    ap (λ (x : Spot). Verdict.Do (plan (Moving.Track x (a .k .buffer)) Report.Nothing (Leaving.HeadsAt (x .cylinder)))) (on .1)
+    ap (λ (x : Spot). Verdict.Do (plan (Moving.Track x (a .k .buffer)) Report.Nothing (Leaving.HeadsAt (a .k .cylinder)))) (on .1)
     ∙ sym
     (format-done (a .standing) (a .host .now) (a .k) (granted (u .result) _ (c .before .before .before .before .before .before .before .before .before .if1 .left) (u .ensures)) (on .0)
     (omega arith)

@@ -25,6 +25,7 @@ use Rattle.transfer.proofs.idle.Reads as idle-reads
 use Rattle.transfer.proofs.reach.reach.Reads as reach-reads
 use Rattle.transfer.proofs.track_fits.Reads as track-fits-reads
 use Rattle.unit.proofs.Record.geometry.Reads as geometry-reads
+use Rattle.unit.specs.Standing.{geometry}
 
 track-fits-requires : tie.Need-track-fits-requires
 track-fits-requires c κs = search needs
@@ -65,7 +66,7 @@ returns-2 c =
     let a = c .before .before .before .before .before .before .before .before .before .args in
     absurd
     (omega
-    (arith, no-sector (a .u .geometry) (a .spot .place) (sym (rw (c .before .before .before .before .geometry .ensures) at (c .before .before .before .sector .ensures)) ∙ c .before .enum-told .given .1), fits (c .before .before .before .before .before)))
+    (arith, no-sector (geometry (a .u)) (a .spot .place) (sym (rw (c .before .before .before .before .geometry .ensures) at (c .before .before .before .sector .ensures)) ∙ c .before .enum-told .given .1), fits (c .before .before .before .before .before)))
 
 sectors-a-track-requires : tie.Need-sectors-a-track-requires
 sectors-a-track-requires c κs = search needs
@@ -87,14 +88,14 @@ cast-fill-2 c = search needs
 -- What is known before the track is filled: where it begins, how long a sector is, how far the track comes.
 known :
     (c : tie.After-struct-known) →
-    (c .before .before .before .before .before .before .before .first .given .0 .0 ≡ firstByte (c .before .before .before .before .before .before .before .before .before .before .before .before .before .before .before .args .u .geometry) (c .before .before .before .before .before .before .before .before .before .before .before .before .before .before .before .args .spot .place)) ×
-    ((c .before .bytes-a-sector .result ≡ B (c .before .before .before .before .before .before .before .before .before .before .before .before .before .before .before .args .u .geometry)) ×
+    (c .before .before .before .before .before .before .before .first .given .0 .0 ≡ firstByte (geometry (c .before .before .before .before .before .before .before .before .before .before .before .before .before .before .before .args .u)) (c .before .before .before .before .before .before .before .before .before .before .before .before .before .before .before .args .spot .place)) ×
+    ((c .before .bytes-a-sector .result ≡ B (geometry (c .before .before .before .before .before .before .before .before .before .before .before .before .before .before .before .args .u))) ×
     (c .before .before .before .reach .result ≡ reached (progressOn (c .before .before .before .before .before .before .before .before .before .before .before .before .before .before .before .args .image .now) (formatting (c .before .before .before .before .before .before .before .before .before .before .before .before .before .before .before .args .u) (c .before .before .before .before .before .before .before .before .before .before .before .before .before .before .before .args .spot) (c .before .before .before .before .before .before .before .before .before .before .before .before .before .before .before .args .at)))))
 known c =
     let a = c .before .before .before .before .before .before .before .before .before .before .before .before .before .before .before .args in
     let is = c .before .before .before .before .before .before .before .before .before .before .geometry .ensures in
     let sector = c .before .before .before .before .before .before .before .first .given in (
-      at-sector (a .u .geometry) (a .spot .place) (sector .0 .0) (sector .0 .1 .0) (sym (rw is at (c .before .before .before .before .before .before .before .before .before .sector .ensures)) ∙ sector .1) .1 .0,
+      at-sector (geometry (a .u)) (a .spot .place) (sector .0 .0) (sector .0 .1 .0) (sym (rw is at (c .before .before .before .before .before .before .before .before .before .sector .ensures)) ∙ sector .1) .1 .0,
       (
         rw is at (c .before .bytes-a-sector .ensures),
         rw (c .before .before .before .before .sectors-a-track .ensures, is) at (c .before .before .before .reach .ensures),

@@ -14,6 +14,7 @@ use Rattle.geometry.proofs.Geometry.volume_sectors.Reads as volume-sectors-read
 use Rattle.transfer.proofs.carry.span_bytes.Reads as span-bytes-reads
 use Rattle.transfer.proofs.pieces_fit.Reads as pieces-fit-reads
 use Rattle.unit.proofs.Record.geometry.Reads as geometry-reads
+use Rattle.unit.specs.Standing.{geometry}
 
 geometry-requires : tie.Need-geometry-requires
 geometry-requires c κs = search needs
@@ -24,8 +25,8 @@ volume-sectors-requires c κs = search needs
 -- How many sectors the volume has, and that they can be counted in 64 bits.
 sectors :
     (c : tie.After-volume-sectors) →
-    (c .volume-sectors .result ≡ volumeSectors (c .before .before .before .before .args .u .geometry) (c .before .before .before .before .args .span .volume)) ×
-    (volumeSectors (c .before .before .before .before .args .u .geometry) (c .before .before .before .before .args .span .volume) < 2 ^ 64)
+    (c .volume-sectors .result ≡ volumeSectors (geometry (c .before .before .before .before .args .u)) (c .before .before .before .before .args .span .volume)) ×
+    (volumeSectors (geometry (c .before .before .before .before .args .u)) (c .before .before .before .before .args .span .volume) < 2 ^ 64)
 sectors c =
     let is = rw (c .before .geometry .ensures) at (c .volume-sectors .ensures) in
     (is, omega (arith, is, c .volume-sectors .ok))

@@ -15,6 +15,7 @@ use Rattle.geometry.proofs.Geometry.bytes_a_sector.Reads as bytes-a-sector-read
 use Rattle.geometry.proofs.Geometry.drive_sectors.Reads as drive-sectors-reads
 use Rattle.geometry.proofs.Geometry.sectors_a_track.Reads as sectors-a-track-reads
 use Rattle.unit.proofs.Record.geometry.Reads as geometry-reads
+use Rattle.unit.specs.Standing.{geometry}
 
 geometry-requires : tie.Need-geometry-requires
 geometry-requires c κs = search needs
@@ -31,7 +32,7 @@ drive-sectors-requires c κs = search needs
 -- What was asked of the geometry is the unit's.
 sizes :
     (c : tie.After-drive-sectors) →
-    (c .before .sectors-a-track .result ≡ S (c .before .before .before .args .u .geometry)) × (c .drive-sectors .result ≡ driveSectors (c .before .before .before .args .u .geometry))
+    (c .before .sectors-a-track .result ≡ S (geometry (c .before .before .before .args .u))) × (c .drive-sectors .result ≡ driveSectors (geometry (c .before .before .before .args .u)))
 sizes c =
     let is = c .before .before .geometry .ensures in
     (rw is at (c .before .sectors-a-track .ensures), rw is at (c .drive-sectors .ensures .0))
@@ -57,7 +58,7 @@ add-result c = search needs
 returns-4 : tie.Need-returns-4
 returns-4 c =
     let all = sizes (c .before .before .before .before .before) in
-    let bytes : c .bytes-a-sector .result ≡ B (c .before .before .before .before .before .before .before .before .args .u .geometry) =
+    let bytes : c .bytes-a-sector .result ≡ B (geometry (c .before .before .before .before .before .before .before .before .args .u)) =
     rw (c .before .before .before .before .before .before .before .geometry .ensures) at (c .bytes-a-sector .ensures) in
     says-leb (c .before .before .before .before .before .before .before .before .args .at + c .bytes-a-sector .result) (c .before .before .before .before .before .before .before .before .args .long) (TrackFits (c .before .before .before .before .before .before .before .before .args .u) (c .before .before .before .before .before .before .before .before .args .spot) (c .before .before .before .before .before .before .before .before .args .at) (c .before .before .before .before .before .before .before .before .args .long))
     (λ fits. record { some = omega (arith, all); inside = omega (arith, all); memory = omega (arith, bytes) })

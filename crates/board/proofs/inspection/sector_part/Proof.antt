@@ -10,6 +10,7 @@ use Rattle.board.specs.Inspection.{Inspectable}
 use Rattle.board.proofs.Parts.{sector-not-there, sector-there}
 use Rattle.board.proofs.inspection.sector_part.Statement.{statement}
 use Rattle.board.proofs.inspection.sector_part.Tie as tie
+use Rattle.unit.specs.Standing.{geometry}
 
 counts-as-initialized-requires : tie.Need-counts-as-initialized-requires
 counts-as-initialized-requires c κs = search needs
@@ -36,7 +37,7 @@ returns-2 : tie.Need-returns-2
 returns-2 c =
     let a = c .before .before .before .before .before .before .args in
     let all = c .before .before .need in
-    let needed : all .result ≡ need (a .u .geometry) = rw (c .before .before .before .geometry .ensures) at (all .ensures) in
+    let needed : all .result ≡ need (geometry (a .u)) = rw (c .before .before .before .geometry .ensures) at (all .ensures) in
     c .no-part2 .ensures ∙ sym (sector-not-there _ _ _ _ (λ there. omega (arith, there .image)))
 
 sector-requires : tie.Need-sector-requires
@@ -63,10 +64,10 @@ returns-3 c =
     let u = c .before .before .before .before .before .before .before .before .before .counts-as-initialized in
     let g = c .before .before .before .before .before .before .before .geometry in
     let all = c .before .before .before .before .before .before .need in
-    let needed : all .result ≡ need (a .u .geometry) = rw (g .ensures) at (all .ensures) in
+    let needed : all .result ≡ need (geometry (a .u)) = rw (g .ensures) at (all .ensures) in
     let sector = c .before .before .first .given in
     let found =
-    at-sector (a .u .geometry) (a .place) (sector .0 .0) (sector .0 .1 .0)
+    at-sector (geometry (a .u)) (a .place) (sector .0 .0) (sector .0 .1 .0)
     (sym (rw (g .ensures) at (c .before .before .before .before .sector .ensures)) ∙ sector .1) in
     let there : Inspectable (a .u) (a .long) (a .place) =
     record {
@@ -81,7 +82,7 @@ returns-4 c =
     let a = c .before .before .before .before .before .before .before .before .before .args in
     let g = c .before .before .before .before .before .before .geometry in
     let out =
-    no-sector (a .u .geometry) (a .place)
+    no-sector (geometry (a .u)) (a .place)
     (sym (rw (g .ensures) at (c .before .before .before .sector .ensures)) ∙ c .before .enum-told .given .1) in
     c .no-part3 .ensures ∙ sym (sector-not-there _ _ _ _ (λ there. omega (arith, there .inside)))
 

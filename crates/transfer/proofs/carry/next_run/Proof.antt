@@ -16,6 +16,7 @@ use Rattle.geometry.proofs.Geometry.bytes_a_sector.Reads as bytes-a-sector-read
 use Rattle.geometry.proofs.Geometry.sector.Reads as sector-reads
 use Rattle.transfer.proofs.reach.run_at.Reads as run-at-reads
 use Rattle.unit.proofs.Record.geometry.Reads as geometry-reads
+use Rattle.unit.specs.Standing.{geometry}
 
 add-run-at : tie.Need-add-run-at
 add-run-at c = omega arith
@@ -45,7 +46,7 @@ returns c =
     absurd
     (omega (
       arith,
-      no-sector (a .u .geometry) (run .result .place) (sym (rw (c .before .before .before .geometry .ensures) at (c .before .before .sector .ensures)) ∙ c .enum-told .given .1),
+      no-sector (geometry (a .u)) (run .result .place) (sym (rw (c .before .before .before .geometry .ensures) at (c .before .before .sector .ensures)) ∙ c .enum-told .given .1),
       run-inside (a .u) (a .span .volume) _ _ (run .result) (omega arith) (run .ensures),
       run .ensures,
     ))
@@ -76,7 +77,7 @@ returns-2 c =
     let run = c .before .before .before .before .before .before .before .before .before .run-at in
     let pre = c .before .before .before .before .before .before .before .before .before .before .before .before .pre in
     let sector = c .before .before .before .before .before .first .given in
-    let at = at-sector (a .u .geometry) (run .result .place) (sector .0 .0) (sector .0 .1 .0) (sym (rw (c .before .before .before .before .before .before .before .before .geometry .ensures) at (c .before .before .before .before .before .before .before .sector .ensures)) ∙ sector .1) in
+    let at = at-sector (geometry (a .u)) (run .result .place) (sector .0 .0) (sector .0 .1 .0) (sym (rw (c .before .before .before .before .before .before .before .before .geometry .ensures) at (c .before .before .before .before .before .before .before .sector .ensures)) ∙ sector .1) in
     rw (at .1 .0, c .before .bytes-a-sector .ensures, c .before .before .geometry2 .ensures)
     (cursor-begins (a .u) (a .span) (a .next) (a .span .count - a .next) (run .result) (omega (arith, pre)) (run .ensures) (omega (arith, pre)) (omega (arith, pre)))
 

@@ -1,0 +1,31 @@
+-- The error bytes as "one constant table": a line for each answer that has one of its own, found by the answer's number. What an answer's
+-- byte is to be stands in Errors; that the table comes to it is proved (proofs/Table).
+use Prim.Native.Nat.{ℕ}
+use mathlib.Core.Bool.{cond}
+use mathlib.Core.List.{List, [], _∷_}
+use lib.Dec.{eqb}
+use Rattle.answers.specs.declared.Refusal.{Refusal}
+use Rattle.answers.specs.declared.Refusal.the-variants.{CommandUnknown, NotInitialized, UibMisplaced, UibOutsideLimits, VolumeAbsent, SectorOutside, DataMisplaced, Unreadable, PastTheImage}
+use Rattle.answers.specs.Numbers.{refusalNumber}
+use Rattle.iopb.specs.declared.ErrorLine.{ErrorLine}
+
+abbrev line : Refusal → ℕ → ErrorLine
+line r error = record { number = refusalNumber r; error = error }
+
+abbrev pub errorTable : List ErrorLine
+errorTable =
+    line CommandUnknown 0x14 ∷
+    line NotInitialized 0x40 ∷
+    line UibMisplaced 0x62 ∷
+    line UibOutsideLimits 0x51 ∷
+    line VolumeAbsent 0x21 ∷
+    line SectorOutside 0x16 ∷
+    line DataMisplaced 0x62 ∷
+    line Unreadable 0x13 ∷
+    line PastTheImage 0x20 ∷
+    []
+
+-- The error byte of the line with a number; "an answer with no line there takes FF".
+unfoldable pub errorIn : List ErrorLine → ℕ → ℕ
+errorIn [] n = 0xff
+errorIn (l ∷ ls) n = cond (eqb (l .number) n) (l .error) (errorIn ls n)
