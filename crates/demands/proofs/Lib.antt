@@ -3,6 +3,7 @@ pub mod BlockTravel
 pub mod Endings
 pub mod Fits
 pub mod Keeps
+pub mod Lists
 pub mod RunAnswers
 pub mod RunMarks
 pub mod VersionTwo

@@ -16,7 +16,7 @@ use Rattle.request.specs.declared.Task.{Task}
 use Rattle.request.specs.declared.Track.{Track}
 use Rattle.request.specs.declared.UnitNumber.{UnitNumber}
 use Rattle.iopb.specs.declared.Block.{Block}
-use Rattle.iopb.specs.Layout.{uibAt}
+use Rattle.iopb.specs.Layout.{uibAt, uibBytes}
 
 -- UN and VO
 abbrev pub unitOf : Block → UnitNumber
@@ -47,7 +47,7 @@ trackOf b = record { cylinder = b .cylinder; head = b .head; buffer = b .address
 -- A UIB is 18 bytes, read where they lie in host memory; elsewhere it is misplaced, which check 12 says of a "UIB address odd or
 -- UIB not wholly in host memory".
 unfoldable pub shapeAt : List ℕ → ℕ → Shape
-shapeAt host at = ite (inMemory? host at 18) (Shape.Given (uibAt host at)) Shape.Misplaced
+shapeAt host at = ite (inMemory? host at uibBytes) (Shape.Given (uibAt host at)) Shape.Misplaced
 
 -- What each command asks, by its code: "81 read, 82 write, 86 handshake, 87 initialize, 89 restore, 8A seek, 8C format with
 -- data, A1 scatter, A2 gather (hex)" (01, What the board answers for).

@@ -65,7 +65,11 @@ elementAt bytes at =
       modifier = byte bytes (at + 7);
     }
 
--- Table 10, 18 bytes: each volume's start head and heads, sectors a track at 4, bytes a sector at 6, cylinders at 12.
+-- The bytes of Table 10.
+abbrev pub uibBytes : ℕ
+uibBytes = 18
+
+-- Table 10: each volume's start head and heads, sectors a track at 4, bytes a sector at 6, cylinders at 12.
 abbrev pub uibAt : List ℕ → ℕ → Geometry
 uibAt bytes at =
     geometryOf (be16 bytes (at + 12)) (byte bytes (at + 4)) (be16 bytes (at + 6))

@@ -17,6 +17,8 @@ use Rattle.geometry.specs.Sectors.{address, onDrive?}
 use Rattle.geometry.proofs.Decided.{within?}
 use Rattle.request.specs.declared.Buffer.{Buffer}
 use Rattle.request.specs.declared.Buffer.the-variants.{Piece, List as Elements}
+use Rattle.request.specs.declared.Move.{Move}
+use Rattle.request.specs.declared.Track.{Track as Tracks}
 use Rattle.request.specs.declared.Shape.the-variants.{Misplaced, Given as Uib}
 use Rattle.request.specs.declared.Task.{Task}
 use Rattle.request.specs.declared.Task.the-variants.{Unknown, Move as Moves, Handshake, Initialize, Restore, Seek, Format}
@@ -66,11 +68,17 @@ all-passed (k ∷ ks) p q e =
 so : {P : Type 0} → Dec P → ((P → ⊥) → ⊥) → P
 so d out = by-cases d (λ p. p) (λ no-p. absurd (out no-p))
 
--- Beside that it fits: what it reports, and the list that it has been judged by.
+-- Beside that it fits: whose it is, what it reports, and the list that it has been judged by.
 abbrev ReportKnown : Task → Report → Type 0
 ReportKnown t Nothing = Unit {0}
 -- only a handshake reports
 ReportKnown t Identity = t ≡ Handshake
+
+-- sectors are moved for a read or a write, its way, and a track for a format
+abbrev pub MoverKnown : Task → Moving → Type 0
+MoverKnown t Moving.Nothing = Unit {0}
+MoverKnown t (Sectors j) = (m : Move) × ((t ≡ Moves m) × (j .«to_host» ≡ m .«to_host»))
+MoverKnown t (Track spot at) = (k : Tracks) × (t ≡ Format k)
 
 abbrev ListKnown : Asked → Moving → Type 0
 ListKnown a Moving.Nothing = Unit {0}
@@ -85,6 +93,7 @@ Quiet (Track spot at) r = Unit {0}
 
 record Accepted (a : Asked) (p : Plan) : Type 0 where
   fits : PlanFits (a .unit) (a .image) (a .host) p
+  mover : MoverKnown (a .task) (p .moving)
   report : ReportKnown (a .task) (p .report)
   quiet : Quiet (p .moving) (p .report)
   list : ListKnown a (p .moving)
@@ -108,7 +117,7 @@ module _ (u : UnitRecord) (image : ℕ) (host : List ℕ) where
   seek-inside v Outside c = absurd c
 
   heads-only : (t : Task) (l : Leaving) → LeavingFits u l → Accepted (asking t) (only l)
-  heads-only t l fits = record { fits = record { moving = tt; leaving = fits }; report = tt; quiet = tt; list = tt }
+  heads-only t l fits = record { fits = record { moving = tt; leaving = fits }; mover = tt; report = tt; quiet = tt; list = tt }
 
   by-task : (t : Task) → None (firstChecks (asking t)) → None (ownChecks (asking t) t) → Accepted (asking t) (planOf u t)
   unfolding None
@@ -129,6 +138,7 @@ module _ (u : UnitRecord) (image : ℕ) (host : List ℕ) where
               moving = record { span = span; long = omega arith; buffer = good };
               leaving = (so (counts? u) initialized, span);
             };
+        mover = (m, (refl, refl));
         report = tt;
         quiet = refl;
         list = λ at n x is among.
@@ -149,7 +159,7 @@ module _ (u : UnitRecord) (image : ℕ) (host : List ℕ) where
               among = among;
             };
       }
-  by-task Handshake first none = record { fits = record { moving = tt; leaving = tt }; report = refl; quiet = tt; list = tt }
+  by-task Handshake first none = record { fits = record { moving = tt; leaving = tt }; mover = tt; report = refl; quiet = tt; list = tt }
   by-task (Initialize Misplaced) first (placed, rest) = absurd (placed tt)
   by-task (Initialize (Uib g)) first (placed, (within, rest)) = heads-only _ (Leaving.Fresh g) (so (within? g) within)
   by-task Restore first (initialized, rest) =
@@ -174,6 +184,7 @@ module _ (u : UnitRecord) (image : ℕ) (host : List ℕ) where
                   };
               leaving = (counts, on .cylinder);
             };
+        mover = (k, refl);
         report = tt;
         quiet = tt;
         list = tt;
@@ -189,6 +200,10 @@ let-through a p e =
 -- It fits.
 pub plan-fits : (a : Asked) (p : Plan) → verdict a ≡ Verdict.Do p → PlanFits (a .unit) (a .image) (a .host) p
 plan-fits a p e = let-through a p e .fits
+
+-- It is of its task.
+pub mover-let-through : (a : Asked) (p : Plan) → verdict a ≡ Verdict.Do p → MoverKnown (a .task) (p .moving)
+mover-let-through a p e = let-through a p e .mover
 
 -- The list of a transfer that was let through is among what is read.
 pub list-let-through :

@@ -20,7 +20,7 @@ pub record InUib (a : Asked) (at bytes x : ℕ) : Type 0 where
   pub among : Among at bytes x
 
 -- "a list of 1 to 64 elements that lies at an even address and in memory, once checks 10 to 17 are passed": of an A1 or A2 that no check
--- before 18 refuses. A list of 65, or one that an earlier check spares, is not read; one refused for its sum is.
+-- before 18 refuses. A list of 65, or one of a block that an earlier check refuses, is not read; one refused for its sum is.
 pub record InList (a : Asked) (x : ℕ) : Type 0 where
   pub move : Move
   pub asks : a .task ≡ Moves move

@@ -1,12 +1,13 @@
 -- The verdict: the answer of the first check that is given, or what is to be done.
 use Prim.Native.Nat.{ℕ, _<_}
-use mathlib.Core.List.{List, _++_}
+use mathlib.Core.List.{_++_}
 use mathlib.Core.Path.{_≡_}
 use Rattle.geometry.specs.declared.Number.the-variants.{Is}
 use Rattle.request.specs.declared.Move.{Move}
+use Rattle.request.specs.declared.Task.the-variants.{Move as Moves}
 use Rattle.judge.specs.declared.Verdict.{Verdict}
 use Rattle.judge.specs.Asks.{ownChecks, bytesOf, checks, ofBuffer, ofSectors, planOf}
-use Rattle.judge.specs.Checks.{Check, first}
+use Rattle.judge.specs.Checks.{first}
 use Rattle.judge.specs.Given.{Asked, beginsAt}
 
 unfoldable pub verdict : Asked → Verdict
@@ -14,17 +15,14 @@ verdict a = first (checks a) (planOf (a .unit) (a .task))
 
 -- The same by some of the checks alone, for the functions that are asked after others have passed: a task's own checks, those of a
 -- transfer from its sectors on, and those of its buffer.
-abbrev by : List Check → Asked → Verdict
-by ks a = first ks (planOf (a .unit) (a .task))
-
 unfoldable pub byItsOwn : Asked → Verdict
-byItsOwn a = by (ownChecks a (a .task)) a
+byItsOwn a = first (ownChecks a (a .task)) (planOf (a .unit) (a .task))
 
 unfoldable pub fromSectors : Asked → Move → Verdict
-fromSectors a m = by (ofSectors a m ++ ofBuffer a (m .buffer) (bytesOf a m)) a
+fromSectors a m = first (ofSectors a m ++ ofBuffer a (m .buffer) (bytesOf a m)) (planOf (a .unit) (Moves m))
 
 unfoldable pub fromBuffer : Asked → Move → Verdict
-fromBuffer a m = by (ofBuffer a (m .buffer) (bytesOf a m)) a
+fromBuffer a m = first (ofBuffer a (m .buffer) (bytesOf a m)) (planOf (a .unit) (Moves m))
 
 -- A transfer that begins at a number and is for some sectors.
 pub record Begins (a : Asked) (m : Move) (n : ℕ) : Type 0 where
