@@ -1,6 +1,6 @@
 -- The pieces of a job that fits: they fit too, and byte k of them is byte k of the block's data.
 -- One piece is a list of one; a list's pieces are its elements, as they were copied out.
-use Prim.Native.Nat.{ℕ, zero, suc, _+_, _*_, _≤_, _<_}
+use Prim.Native.Nat.{ℕ, zero, suc, _*_, _≤_, _<_}
 use mathlib.Core.List.{List, [], _∷_, _++_}
 use mathlib.Core.Logic.{if-pos}
 use mathlib.Core.Path.{_≡_, refl, sym, ap, _∙_}

@@ -1,7 +1,7 @@
 -- What one block does (01, One run), in three movements: it is judged, performed and finished. Its stores in order, and what becomes of its
 -- unit's record.
 use Prim.Native.Nat.{ℕ, _+_, _*_}
-use mathlib.Core.Bool.{false, true}
+use mathlib.Core.Bool.{false}
 use mathlib.Core.List.{List, [], _∷_, _++_}
 use lib.IntN.{ℤ, pos}
 use lib.ListN.{length}
@@ -11,7 +11,6 @@ use Rattle.answers.specs.Numbers.{statusOf}
 use Rattle.geometry.specs.declared.VolumeNumber.{VolumeNumber}
 use Rattle.request.specs.declared.Buffer.{Buffer}
 use Rattle.request.specs.declared.Buffer.the-variants.{Piece, List as Elements}
-use Rattle.request.specs.declared.Request.{Request}
 use Rattle.request.specs.declared.Task.{Task}
 use Rattle.request.specs.declared.UnitNumber.{UnitNumber}
 use Rattle.unit.specs.Landing.{spotOf}

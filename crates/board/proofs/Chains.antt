@@ -1,5 +1,5 @@
 -- A block of a chain works on the drive of the unit that it names, and leaves the other as it was.
--- Which drive that is, the block's unit bit says.
+-- Which drive that is, the unit of its request says.
 use Prim.Native.Nat.{ℕ, suc, _+_, _-_, _≤_, _<_}
 use mathlib.Core.Bool.{true, false}
 use mathlib.Core.List.{List}
@@ -13,7 +13,9 @@ use Rattle.answers.specs.declared.RunAnswer.{RunAnswer}
 use Rattle.answers.specs.Numbers.{refusalNumber}
 use Rattle.wire.specs.Memory.{InMemory, inMemory?}
 use Rattle.iopb.specs.declared.Block.{Block}
+use Rattle.iopb.specs.Ask.{requestOf}
 use Rattle.iopb.specs.Layout.{blockAt}
+use Rattle.request.specs.declared.Request.{Request}
 use Rattle.request.specs.declared.UnitNumber.{UnitNumber}
 use Rattle.transfer.specs.Stores.{Buffers}
 use Rattle.board.specs.declared.Units.{Units}
@@ -38,7 +40,7 @@ module _ (w : World) (at i : ℕ) (n : UnitNumber) (named : unitAt w at ≡ n) w
   unfolding effectAt
   effect-named = ap (λ (x : UnitNumber). effectOn (w .host) (driveOf w x) at i) named
 
-  pub step-made :
+  step-made :
       (m : Buffers) (d : Done) (units : Units) →
       Did (effectOn (w .host) (driveOf w n) at i) (buffersOf w n) m d →
       SteppedTo w at i (changed w n m (d .unit)) (steppedOf (blockAt (w .host) at) d units)
@@ -52,6 +54,16 @@ module _ (w : World) (at i : ℕ) (n : UnitNumber) (named : unitAt w at ≡ n) w
         linked = refl;
         link = refl;
       })
+
+-- The same with the block and its request as they were read: the request's unit is the one that the block names.
+pub step-by :
+    (w : World) (at i : ℕ) (b : Block) (r : Request) (n : UnitNumber) → b ≡ blockAt (w .host) at → r ≡ requestOf (w .host) b →
+    r .unit ≡ n → (m : Buffers) (d : Done) (units : Units) → Did (effectOn (w .host) (driveOf w n) at i) (buffersOf w n) m d →
+    SteppedTo w at i (changed w n m (d .unit)) (steppedOf b d units)
+step-by w at i b r n read asks is m d units did =
+    let named : unitAt w at ≡ n =
+    ap (λ (x : Block). requestOf (w .host) x .unit) (sym read) ∙ ap (λ (x : Request). x .unit) (sym asks) ∙ is in
+    rw read (step-made w at i n named m d units did)
 
 -- ---- what follows a block
 

@@ -1,9 +1,8 @@
 -- What a verdict has moved fits, and so does what it leaves of the record: a plan that was let through does, and a refused block moves
 -- nothing and leaves the record as it was.
-use Prim.Native.Nat.{ℕ, _+_, _≤_, _<_}
+use Prim.Native.Nat.{ℕ, _≤_, _<_}
 use mathlib.Core.Path.{_≡_, refl}
 use native.Mathlib.Omega.{arith}
-use lib.ListN.{length}
 use Rattle.geometry.specs.Drive.{need}
 use Rattle.geometry.proofs.Laws.{sector-in-image}
 use Rattle.judge.specs.declared.Moving.{Moving}
@@ -14,10 +13,9 @@ use Rattle.judge.specs.Fits.{LeavingFits, MovingFits}
 use Rattle.judge.specs.Given.{Asked}
 use Rattle.judge.specs.Verdict.{verdict}
 use Rattle.judge.proofs.LetThrough.{plan-fits}
-use Rattle.transfer.specs.Data.{Transfer}
 use Rattle.transfer.specs.Progress.{InImage}
 use Rattle.transfer.proofs.Marks.{StandsOnDrive, formatting-on-drive, moving-on-drive}
-use Rattle.block.specs.Block.{bufferOf, dataByte, transferOf}
+use Rattle.block.specs.Block.{dataByte, transferOf}
 use Rattle.demands.specs.Footprint.{leavingOf, movingOf, transferBy}
 use Rattle.unit.specs.Standing.{geometry}
 

@@ -27,7 +27,7 @@ use Rattle.transfer.specs.Progress.{progress}
 use Rattle.unit.specs.Standing.{geometry}
 use Rattle.block.specs.Block.{transferOf, wordsOf}
 use Rattle.block.specs.World.{Drive}
-use Rattle.demands.specs.Footprint.{HostData, HostWritten, comes, movingOf, reportOf, transferBy}
+use Rattle.demands.specs.Footprint.{HostData, HostWritten, movingOf, reportOf, transferBy}
 use Rattle.demands.specs.Footprint.HostWritten.{moved, report, status-word}
 
 -- A read or a write, by the way that its data goes.

@@ -1,9 +1,8 @@
 -- No run changes a mark or a byte after the marks (01, Geometry and One run). Where the marks begin is the geometry's, and an 87 may
 -- replace that; so it is said first of every geometry that a unit had while blocks named it, and then of a run without such an 87.
 use Prim.Native.Nat.{ℕ, _≤_, _<_}
-use mathlib.Core.List.{List}
 use mathlib.Core.Logic.{by-cases}
-use mathlib.Core.Path.{_≡_, refl, sym, ap, subst, _∙_}
+use mathlib.Core.Path.{_≡_, refl, ap, subst, _∙_}
 use native.Mathlib.Decide.{decLt}
 use native.Mathlib.Omega.{arith}
 use lib.ListN.{getD}
@@ -12,7 +11,6 @@ use Rattle.geometry.specs.Drive.{marksAt}
 use Rattle.judge.specs.declared.Leaving.{Leaving}
 use Rattle.judge.specs.declared.Leaving.the-variants.{AsItWas, HeadsAt, HeadsAtLastTried, Fresh}
 use Rattle.request.specs.declared.UnitNumber.{UnitNumber}
-use Rattle.request.specs.declared.UnitNumber.the-variants.{Zero, One}
 use Rattle.block.specs.Block.{leftBy}
 use Rattle.board.specs.Chain.{ran}
 use Rattle.demands.specs.Footprint.{Renews, Some, askedOf, leavingOf, namedDrive, names, verdictOf}

@@ -5,7 +5,7 @@ use mathlib.Core.Logic.{Dec·and, Dec·not, by-cases, if-neg, if-pos}
 use mathlib.Core.Path.{_≡_, refl, sym, _∙_}
 use Rattle.judge.specs.declared.Plan.{Plan}
 use Rattle.judge.specs.declared.Verdict.{Verdict}
-use Rattle.judge.specs.Asks.{firstChecks, planOf}
+use Rattle.judge.specs.Asks.{firstChecks}
 use Rattle.judge.specs.Checks.{Check, None, first}
 use Rattle.judge.specs.Given.{Asked}
 use Rattle.judge.specs.Verdict.{byItsOwn, verdict}

@@ -5,14 +5,13 @@ use mathlib.Core.List.{List, [], _∷_}
 use mathlib.Core.Logic.{by-cases}
 use mathlib.Core.Path.{_≡_, refl, sym, subst, _∙_}
 use native.Mathlib.Omega.{arith}
-use Rattle.wire.specs.Memory.{Among, InMemory, inMemory?}
+use Rattle.wire.specs.Memory.{Among, inMemory?}
 use Rattle.wire.proofs.Promises.{never as impossible}
 use Rattle.answers.specs.declared.Refusal.{Refusal}
 use Rattle.geometry.specs.declared.Number.{Number}
 use Rattle.geometry.specs.declared.Number.the-variants.{Is, Outside}
 use Rattle.geometry.specs.declared.VolumeNumber.{VolumeNumber}
-use Rattle.geometry.specs.Drive.{B, C, S, driveSectors, need, volumeSectors}
-use Rattle.geometry.specs.Limits.{Within}
+use Rattle.geometry.specs.Drive.{B, C, volumeSectors}
 use Rattle.geometry.specs.Sectors.{address, onDrive?}
 use Rattle.geometry.proofs.Decided.{within?}
 use Rattle.request.specs.declared.Buffer.{Buffer}
@@ -22,12 +21,11 @@ use Rattle.request.specs.declared.Track.{Track as Tracks}
 use Rattle.request.specs.declared.Shape.the-variants.{Misplaced, Given as Uib}
 use Rattle.request.specs.declared.Task.{Task}
 use Rattle.request.specs.declared.Task.the-variants.{Unknown, Move as Moves, Handshake, Initialize, Restore, Seek, Format}
-use Rattle.unit.specs.declared.Spot.{Spot}
 use Rattle.unit.specs.Landing.{spotOf}
-use Rattle.unit.specs.Standing.{CountsAsInitialized, UnitRecord, geometry}
+use Rattle.unit.specs.Standing.{UnitRecord, geometry}
 use Rattle.unit.proofs.Decided.{counts?}
 use Rattle.unit.proofs.Laws.{spot-inside, track-inside, track-whole}
-use Rattle.memory.specs.Lists.{ListGood, Ranges}
+use Rattle.memory.specs.Lists.{ListGood}
 use Rattle.memory.proofs.Decided.{listGood?, ranges?}
 use Rattle.judge.specs.declared.Job.{Job}
 use Rattle.judge.specs.declared.Plan.{Plan}

@@ -23,7 +23,7 @@ use Rattle.request.specs.declared.Move.{Move}
 use Rattle.request.specs.declared.Shape.{Shape}
 use Rattle.request.specs.declared.Task.{Task}
 use Rattle.request.specs.declared.Task.the-variants.{Unknown, Move as Moves, Handshake, Initialize, Restore, Seek, Format}
-use Rattle.wire.specs.Memory.{Among, InMemory}
+use Rattle.wire.specs.Memory.{Among}
 use Rattle.wire.proofs.Memory.{range-same}
 use Rattle.judge.specs.declared.Plan.{Plan}
 use Rattle.judge.specs.declared.Verdict.{Verdict}

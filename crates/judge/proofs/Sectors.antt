@@ -1,11 +1,10 @@
 -- What a transfer is asked before its buffer is for: one that passes has every sector in its volume, its bytes and mark in the image.
 -- Check 16 has the first number and the last inside, so all between are; check 17 has the image long enough for any place.
-use Prim.Native.Nat.{ℕ, _+_, _-_, _≤_, _<_}
+use Prim.Native.Nat.{ℕ, _+_, _≤_, _<_}
 use mathlib.Core.List.{List}
 use mathlib.Core.Logic.{by-cases}
 use mathlib.Core.Path.{_≡_, refl}
 use native.Mathlib.Omega.{arith}
-use Rattle.geometry.specs.declared.Geometry.{Geometry}
 use Rattle.geometry.specs.declared.Number.{Number}
 use Rattle.geometry.specs.declared.Number.the-variants.{Is, Outside}
 use Rattle.geometry.specs.declared.VolumeNumber.{VolumeNumber}

@@ -2,7 +2,7 @@
 -- Those that are not given are passed over, and the first that is refuses the task.
 use Prim.Native.Nat.{ℕ, _+_, _*_, _<_, _≤_}
 use mathlib.Core.List.{List}
-use mathlib.Core.Path.{_≡_, refl, _∙_}
+use mathlib.Core.Path.{_≡_, _∙_}
 use native.Mathlib.Omega.{arith}
 use lib.Dec.{T}
 use Rattle.answers.specs.declared.Refusal.{Refusal}
@@ -26,7 +26,7 @@ use Rattle.judge.specs.declared.Report.{Report}
 use Rattle.judge.specs.declared.Standing.{Standing}
 use Rattle.judge.specs.declared.Verdict.{Verdict}
 use Rattle.judge.specs.Asks.{carrying, jobOf, ofUnit, only, plan, planOf, unlisted}
-use Rattle.judge.specs.Checks.{None, first}
+use Rattle.judge.specs.Checks.{None}
 use Rattle.judge.specs.Given.{Asked, Covers, HasTrack, asked, beginsAt}
 use Rattle.judge.specs.Verdict.{byItsOwn, fromBuffer, fromSectors, verdict}
 use Rattle.judge.proofs.First.{done, never, on-its-own, pass, skip, stop}

@@ -1,9 +1,9 @@
 -- The pairs of demand 3: what each chain of a pair comes to, reads and writes is told by the verdict on its one block.
 -- Which bytes are shared is then arithmetic on their addresses.
-use Prim.Native.Nat.{ℕ, _+_, _*_, _≤_, _<_}
+use Prim.Native.Nat.{ℕ, _+_, _≤_, _<_}
 use mathlib.Core.Bool.{true, false}
 use mathlib.Core.List.{[], _∷_, _++_}
-use mathlib.Core.Logic.{inl, inr, ⊎-elim}
+use mathlib.Core.Logic.{inl, ⊎-elim}
 use mathlib.Core.Path.{_≡_, refl, sym, ap, subst, _∙_}
 use native.Mathlib.Omega.{arith}
 use lib.ListN.{getD, length}
@@ -37,7 +37,7 @@ use Rattle.geometry.specs.Sectors.Inside.{firstByte-is}
 use Rattle.demands.specs.Footprint.{RunWrites, WritesHost, askedOf, namedDrive, names, reportOf, transferBy, verdictOf}
 use Rattle.demands.specs.Footprint.HostWritten.{moved as given, report, status-word}
 use Rattle.demands.proofs.BlockLaws.{refusal-moves-nothing}
-use Rattle.demands.specs.Visits.{Passes, Visit, effectOf, worldLeft}
+use Rattle.demands.specs.Visits.{Passes, Visit, worldLeft}
 use Rattle.demands.proofs.VersionTwo.{disk-byte-is-there}
 use Rattle.demands.proofs.Written.{effect-is}
 use Rattle.independence.specs.Chains.{Both, Cell, First, HostReads, HostWrites, Second, Which, both, drive, eventBuffer, hostByte, leaving, runOf, told, worldFor}

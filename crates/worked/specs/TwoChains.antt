@@ -1,7 +1,7 @@
 -- Pairs of chains for demand 3 (00): what its condition lets through, and what goes wrong where one part of it fails. In every pair the
 -- first chain is the block at 0 and the second the block at 28, each with an allowance of 1.
 use Prim.Native.Nat.{ℕ}
-use mathlib.Core.Bool.{true, false}
+use mathlib.Core.Bool.{false}
 use mathlib.Core.List.{List, [], _∷_, _++_}
 use mathlib.Core.Path.{_≡_}
 use lib.ListN.{replicate}

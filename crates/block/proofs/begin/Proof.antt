@@ -2,7 +2,7 @@
 -- Its stores are then the 81 00 and the data.
 use Prim.Native.Nat.{_+_}
 use mathlib.Core.List.{[], _∷_}
-use mathlib.Core.Path.{refl, sym, _∙_}
+use mathlib.Core.Path.{refl}
 use lib.ListN.{length}
 use Rattle.transfer.specs.Data.{formatting}
 use Rattle.transfer.specs.Progress.{progress}

@@ -1,8 +1,7 @@
 -- The last sector tried is one of the span's, which the volume has; so its landing is there.
-use Prim.Native.Nat.{_+_, _<_}
-use mathlib.Core.Path.{_≡_, sym, ap, _∙_}
+use Prim.Native.Nat.{_+_}
+use mathlib.Core.Path.{sym, ap, _∙_}
 use native.Mathlib.Omega.{arith}
-use Rattle.geometry.specs.Drive.{volumeSectors}
 use Rattle.transfer.specs.Progress.{lastTried}
 use Rattle.unit.proofs.Answers.{at-landing, no-landing}
 use Rattle.unit.specs.declared.Spot.{Spot}

@@ -6,7 +6,7 @@ use mir.Syntax.{w32}
 use mir.ValLaws.{toZ-ofZ}
 use Rattle.transfer.specs.Data.{dataOn}
 use Rattle.block.specs.Steps.{three}
-use Rattle.block.specs.Block.{begun, leftBy, reported, transferOf, travelled, wordsOf}
+use Rattle.block.specs.Block.{begun, reported, transferOf, wordsOf}
 use Rattle.block.proofs.Effects.{host-written, then-made}
 use borrow.Author.Needs.{needs}
 use Rattle.block.proofs.perform.Statement.{statement}

@@ -1,7 +1,6 @@
 -- The verdict is that on the block's request. A refused block is only finished; an accepted one is performed first.
-use mathlib.Core.Path.{_≡_, sym, ap, _∙_}
+use mathlib.Core.Path.{_≡_, sym, _∙_}
 use native.Mathlib.Omega.{arith}
-use lib.ListN.{length}
 use Rattle.iopb.specs.Ask.{taskOf}
 use Rattle.judge.specs.declared.Verdict.{Verdict}
 use Rattle.judge.specs.Verdict.{verdict}

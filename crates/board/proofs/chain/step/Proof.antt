@@ -1,13 +1,8 @@
 -- The unit that the request names chooses the drive; what the block does there is its effect on the world.
-use mathlib.Core.Path.{_≡_, sym, ap, _∙_}
-use Rattle.iopb.specs.declared.Block.{Block}
-use Rattle.iopb.specs.Ask.{requestOf}
-use Rattle.request.specs.declared.Request.{Request}
 use Rattle.request.specs.declared.UnitNumber.{UnitNumber}
-use Rattle.block.specs.Block.{unitAt}
 use Rattle.block.specs.Steps.{three}
 use Rattle.board.specs.Lent.{worldOf}
-use Rattle.board.proofs.Chains.{step-made}
+use Rattle.board.proofs.Chains.{step-by}
 use borrow.Author.Needs.{needs}
 use Rattle.board.proofs.chain.step.Statement.{statement}
 use Rattle.board.proofs.chain.step.Tie as tie
@@ -42,14 +37,12 @@ same-length-3 c = search needs
 returns : tie.Need-returns
 returns c =
     let a = c .before .before .before .before .before .before .before .before .before .before .before .before .before .before .before .before .before .before .before .before .before .before .before .before .args in
-    let is = c .before .before .before .before .before .before .before .before .before .before .before .before .before .before .before .before .before .before .read .ensures in
-    let asks = c .before .before .before .before .before .before .before .before .before .before .before .before .before .request .ensures in
-    let w = worldOf (a .host .now) (a .image0 .now) (a .image1 .now) (a .events .now) (a .units) in
-    let named : unitAt w (a .at) ≡ UnitNumber.Zero =
-    ap (λ (x : Block). requestOf (a .host .now) x .unit) (sym is) ∙ ap (λ (x : Request). x .unit) (sym asks) ∙ c .before .before .before .before .before .before .before .before .before .before .before .enum-told .given .1 in
     let done = c .before .before .before .before .before .before .before .run-block in
-    rw is
-    (step-made w (a .at) (a .i) UnitNumber.Zero named (three (done .last .0) (done .last .1 .0) (done .last .1 .1 .0)) (done .result) _ (done .ensures))
+    step-by (worldOf (a .host .now) (a .image0 .now) (a .image1 .now) (a .events .now) (a .units)) (a .at) (a .i) _ _ UnitNumber.Zero
+    (c .before .before .before .before .before .before .before .before .before .before .before .before .before .before .before .before .before .before .read .ensures)
+    (c .before .before .before .before .before .before .before .before .before .before .before .before .before .request .ensures)
+    (c .before .before .before .before .before .before .before .before .before .before .before .enum-told .given .1)
+    (three (done .last .0) (done .last .1 .0) (done .last .1 .1 .0)) (done .result) _ (done .ensures)
 
 same-length-4 : tie.Need-same-length-4
 same-length-4 c = search needs
@@ -63,14 +56,12 @@ same-length-6 c = search needs
 returns-2 : tie.Need-returns-2
 returns-2 c =
     let a = c .before .before .before .before .before .before .before .before .before .before .before .before .before .before .before .before .before .before .before .before .before .before .before .before .args in
-    let is = c .before .before .before .before .before .before .before .before .before .before .before .before .before .before .before .before .before .before .read .ensures in
-    let asks = c .before .before .before .before .before .before .before .before .before .before .before .before .before .request .ensures in
-    let w = worldOf (a .host .now) (a .image0 .now) (a .image1 .now) (a .events .now) (a .units) in
-    let named : unitAt w (a .at) ≡ UnitNumber.One =
-    ap (λ (x : Block). requestOf (a .host .now) x .unit) (sym is) ∙ ap (λ (x : Request). x .unit) (sym asks) ∙ c .before .before .before .before .before .before .before .before .before .before .before .enum-told2 .given .1 in
     let done = c .before .before .before .before .before .before .before .run-block2 in
-    rw is
-    (step-made w (a .at) (a .i) UnitNumber.One named (three (done .last .0) (done .last .1 .0) (done .last .1 .1 .0)) (done .result) _ (done .ensures))
+    step-by (worldOf (a .host .now) (a .image0 .now) (a .image1 .now) (a .events .now) (a .units)) (a .at) (a .i) _ _ UnitNumber.One
+    (c .before .before .before .before .before .before .before .before .before .before .before .before .before .before .before .before .before .before .read .ensures)
+    (c .before .before .before .before .before .before .before .before .before .before .before .before .before .request .ensures)
+    (c .before .before .before .before .before .before .before .before .before .before .before .enum-told2 .given .1)
+    (three (done .last .0) (done .last .1 .0) (done .last .1 .1 .0)) (done .result) _ (done .ensures)
 
 pub step-spec : {M : Type 1} → statement M
 step-spec =
