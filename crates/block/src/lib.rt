@@ -14,7 +14,6 @@ use judge::Report;
 use judge::Standing;
 use judge::Verdict;
 use request::Buffer;
-use request::Request;
 use transfer::Moved;
 use unit::Landing;
 use unit::Record;
@@ -23,7 +22,6 @@ ghost use mathlib.Core.List.{List, [], _∷_};
 ghost use mathlib.Core.Path.{_≡_};
 ghost use Prim.Native.Nat.{ℕ, _+_, _*_, _≤_, _<_, min};
 ghost use lib.ListN.{length};
-ghost use Rattle.iopb.specs.Ask.{requestOf};
 ghost use Rattle.iopb.specs.Identity.{identityBytes};
 ghost use Rattle.iopb.specs.Layout.{blockAt};
 ghost use Rattle.geometry.specs.Drive.{B};
@@ -329,19 +327,18 @@ pub fn run_block(
     image: &mut [u8],
     events: &mut [u8],
     u: Record,
-    request: Request,
     b: Block,
     at: usize,
     i: usize,
 ) -> Done
-    requires { ⌜ Room (now host) (now events) at i × ((b ≡ blockAt (now host) at) × (request ≡ requestOf (now host) b)) ⌝ }
+    requires { ⌜ Room (now host) (now events) at i × (b ≡ blockAt (now host) at) ⌝ }
     ensures { λ d. ⌜ Did (effectOn (now (host .entry)) (driveWith u (now (image .entry))) at i) (three (now (host .entry)) (now (image .entry)) (now (events .entry))) (three (now (host .exit)) (now (image .exit)) (now (events .exit))) d ⌝ }
 {
     let standing = Standing {
         record: u,
         image: image.len(),
     };
-    match judge::judge(request, standing, host) {
+    match judge::judge(iopb::request(b, host), standing, host) {
         Verdict::Refused(r) => finish(host, events, b, at, i, refuse(u, r)),
         Verdict::Do(plan) => {
             let p = perform(host, image, u, at, plan);

@@ -13,9 +13,8 @@ use Rattle.answers.specs.declared.RunAnswer.{RunAnswer}
 use Rattle.answers.specs.Numbers.{refusalNumber}
 use Rattle.wire.specs.Memory.{InMemory, inMemory?}
 use Rattle.iopb.specs.declared.Block.{Block}
-use Rattle.iopb.specs.Ask.{requestOf}
+use Rattle.iopb.specs.Ask.{unitOf}
 use Rattle.iopb.specs.Layout.{blockAt}
-use Rattle.request.specs.declared.Request.{Request}
 use Rattle.request.specs.declared.UnitNumber.{UnitNumber}
 use Rattle.transfer.specs.Stores.{Buffers}
 use Rattle.board.specs.declared.Units.{Units}
@@ -55,14 +54,13 @@ module _ (w : World) (at i : ℕ) (n : UnitNumber) (named : unitAt w at ≡ n) w
         link = refl;
       })
 
--- The same with the block and its request as they were read: the request's unit is the one that the block names.
+-- The same with the block as it was read and the unit as it was told: it is the unit of the block's request.
 pub step-by :
-    (w : World) (at i : ℕ) (b : Block) (r : Request) (n : UnitNumber) → b ≡ blockAt (w .host) at → r ≡ requestOf (w .host) b →
-    r .unit ≡ n → (m : Buffers) (d : Done) (units : Units) → Did (effectOn (w .host) (driveOf w n) at i) (buffersOf w n) m d →
+    (w : World) (at i : ℕ) (b : Block) (x n : UnitNumber) → b ≡ blockAt (w .host) at → x ≡ unitOf b → x ≡ n →
+    (m : Buffers) (d : Done) (units : Units) → Did (effectOn (w .host) (driveOf w n) at i) (buffersOf w n) m d →
     SteppedTo w at i (changed w n m (d .unit)) (steppedOf b d units)
-step-by w at i b r n read asks is m d units did =
-    let named : unitAt w at ≡ n =
-    ap (λ (x : Block). requestOf (w .host) x .unit) (sym read) ∙ ap (λ (x : Request). x .unit) (sym asks) ∙ is in
+step-by w at i b x n read asks is m d units did =
+    let named : unitAt w at ≡ n = ap unitOf (sym read) ∙ sym asks ∙ is in
     rw read (step-made w at i n named m d units did)
 
 -- ---- what follows a block

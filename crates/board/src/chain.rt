@@ -1,6 +1,7 @@
 // A chain: each block is fetched and executed, and one that ends with a link leads to fetching the next.
 use crate::Units;
 use answers::BlockAnswer;
+use answers::Refusal;
 use answers::RunAnswer;
 use block::run_block;
 use iopb::Block;
@@ -13,6 +14,9 @@ ghost use Rattle.board.specs.Steps.{CameTo, RanOne, Spare, SteppedTo, co
 ghost use Rattle.block.specs.Steps.{Room};
 ghost use Rattle.board.specs.Lent.{worldOf};
 ghost use Rattle.wire.specs.Memory.{InMemory};
+ghost use Rattle.wire.specs.Promise.{Says};
+ghost use Rattle.answers.specs.declared.RunAnswer.{RunAnswer};
+ghost use Rattle.answers.specs.Numbers.{refusalNumber};
 
 // What a chain goes by after a block.
 pub struct Stepped {
@@ -38,7 +42,8 @@ pub struct Outcome {
     pub units: Units,
 }
 
-// One block of a chain, on the drive of the unit that it names.
+// One block of a chain, on the drive of its request's unit. The request itself is made below, since what stands here stays on the stack while
+// the rest of the chain runs.
 pub(crate) fn step(
     host: &mut [u8],
     image0: &mut [u8],
@@ -55,11 +60,9 @@ pub(crate) fn step(
     let options = b.options;
     let zero = units.zero;
     let one = units.one;
-    let request = iopb::request(b, host);
-    let named = request.unit;
-    match named {
+    match iopb::unit(b) {
         UnitNumber::Zero => {
-            let done = run_block(host, image0, events, zero, request, b, at, i);
+            let done = run_block(host, image0, events, zero, b, at, i);
             let unit = done.unit;
             let answer = done.answer;
             Stepped {
@@ -71,7 +74,7 @@ pub(crate) fn step(
             }
         }
         UnitNumber::One => {
-            let done = run_block(host, image1, events, one, request, b, at, i);
+            let done = run_block(host, image1, events, one, b, at, i);
             let unit = done.unit;
             let answer = done.answer;
             Stepped {
@@ -85,6 +88,13 @@ pub(crate) fn step(
     }
 }
 
+// Whether a block can be fetched from there.
+fn holds_block(host: &[u8], at: u32) -> bool
+    ensures { λ r. ⌜ Says r (InMemory (now (host .entry)) at 28) ⌝ }
+{
+    wire::holds(host, at, 28)
+}
+
 fn ended(answer: RunAnswer, failed: u8, count: Count, units: Units) -> Outcome
     ensures { λ r. ⌜ r ≡ endedOf answer failed count units ⌝ }
 {
@@ -95,6 +105,13 @@ fn ended(answer: RunAnswer, failed: u8, count: Count, units: Units) -> Outcome
         sectors: count.sectors,
         units,
     }
+}
+
+// A failed block ends the chain, with its number.
+fn failed(r: Refusal, count: Count, units: Units) -> Outcome
+    ensures { λ o. ⌜ o ≡ endedOf RunAnswer.BlockFailed (refusalNumber r) count units ⌝ }
+{
+    ended(RunAnswer::BlockFailed, r.number(), count, units)
 }
 
 // Each fetch spends one of the allowance. What is asked first, before the block's address is looked at, is whether any is left.
@@ -114,7 +131,7 @@ fn fetch(
     if left == 0 {
         return ended(RunAnswer::AllowanceSpent, 0, count, units);
     }
-    if !wire::holds(host, at, 28) {
+    if !holds_block(host, at) {
         return ended(RunAnswer::LinkBad, 0, count, units);
     }
     execute(host, image0, image1, events, units, at, left - 1, count)
@@ -147,7 +164,7 @@ fn execute(
     let answer = s.answer;
     let count = counted(count, s.sectors);
     match answer {
-        BlockAnswer::Failed(r) => ended(RunAnswer::BlockFailed, r.number(), count, units),
+        BlockAnswer::Failed(r) => failed(r, count, units),
         BlockAnswer::Ended => {
             if s.linked {
                 fetch(host, image0, image1, events, units, s.link, left, count)
@@ -178,6 +195,22 @@ fn nothing() -> Count
     }
 }
 
+// Whether there is room for the entries of a whole run.
+fn holds_entries(events: &[u8]) -> bool
+    ensures { λ r. ⌜ Says r (512 ≤ length (now (events .entry))) ⌝ }
+{
+    512 <= events.len()
+}
+
+fn is_allowance(n: u32) -> bool
+    ensures { λ r. ⌜ Says r ((1 ≤ n) × (n ≤ 64)) ⌝ }
+{
+    if n == 0 {
+        return false;
+    }
+    n <= 64
+}
+
 // Runs the chain from the first block on, once the event buffer, the allowance and that block's place have been found good.
 pub fn run(
     host: &mut [u8],
@@ -190,16 +223,13 @@ pub fn run(
 ) -> Outcome
     ensures { λ r. ⌜ CameTo (ran first allowance (worldOf (now (host .entry)) (now (image0 .entry)) (now (image1 .entry)) (now (events .entry)) units)) (worldOf (now (host .exit)) (now (image0 .exit)) (now (image1 .exit)) (now (events .exit)) (r .units)) r ⌝ }
 {
-    if events.len() < 512 {
+    if !holds_entries(events) {
         return ended(RunAnswer::EventsShort, 0, nothing(), units);
     }
-    if allowance == 0 {
+    if !is_allowance(allowance) {
         return ended(RunAnswer::AllowanceBad, 0, nothing(), units);
     }
-    if 64 < allowance {
-        return ended(RunAnswer::AllowanceBad, 0, nothing(), units);
-    }
-    if !wire::holds(host, first, 28) {
+    if !holds_block(host, first) {
         return ended(RunAnswer::FirstBad, 0, nothing(), units);
     }
     fetch(
@@ -232,7 +262,7 @@ pub fn run_one(
 ) -> Single
     ensures { λ r. ⌜ RanOne (worldOf (now (host .entry)) (now (image0 .entry)) (now (image1 .entry)) (now (events .entry)) units) at i (now (host .exit)) (now (image0 .exit)) (now (image1 .exit)) (now (events .exit)) r ⌝ }
 {
-    if !wire::holds(host, at, 28) {
+    if !holds_block(host, at) {
         return Single::NoRoom;
     }
     if (events.len() as u64) < 8 * (i as u64) + 8 {

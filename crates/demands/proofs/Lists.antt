@@ -21,7 +21,8 @@ use Rattle.judge.specs.declared.Verdict.{Verdict}
 use Rattle.judge.specs.declared.Verdict.the-variants.{Refused, Do}
 use Rattle.judge.specs.Given.{Asked}
 use Rattle.judge.specs.Verdict.{verdict}
-use Rattle.judge.proofs.LetThrough.{MoverKnown, mover-let-through, report-let-through}
+use Rattle.judge.proofs.Known.{MoverKnown}
+use Rattle.judge.proofs.LetThrough.{mover-let-through, report-let-through}
 use Rattle.transfer.specs.Data.{progressOn}
 use Rattle.transfer.specs.Progress.{progress}
 use Rattle.unit.specs.Standing.{geometry}

@@ -1,6 +1,4 @@
 pub mod Answers
-pub mod Handshake
 pub mod Locality
 pub mod Lookup
 pub mod Outcomes
-pub mod Table

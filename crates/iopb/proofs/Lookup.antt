@@ -10,7 +10,7 @@ use lib.Dec.{eqb}
 use lib.ListN.{drop, drop-of-length-le, getD, length}
 use lib.Seq.{drop-cons}
 use Rattle.iopb.specs.declared.ErrorLine.{ErrorLine}
-use Rattle.iopb.specs.ErrorTable.{errorIn}
+use Rattle.iopb.specs.Errors.{errorIn}
 
 abbrev no-line : ErrorLine
 no-line = record { number = 0; error = 0 }

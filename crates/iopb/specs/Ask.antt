@@ -1,7 +1,7 @@
 -- The request that a block makes (01, The block, One run).
 use Prim.Native.Nat.{ℕ}
 use mathlib.Core.Bool.{Bool, true, false, cond}
-use mathlib.Core.List.{List}
+use mathlib.Core.List.{List, [], _∷_}
 use mathlib.Core.Logic.{ite}
 use lib.Dec.{eqb}
 use Rattle.wire.specs.Memory.{inMemory?}
@@ -51,21 +51,26 @@ shapeAt host at = ite (inMemory? host at uibBytes) (Shape.Given (uibAt host at))
 
 -- What each command asks, by its code: "81 read, 82 write, 86 handshake, 87 initialize, 89 restore, 8A seek, 8C format with
 -- data, A1 scatter, A2 gather (hex)" (01, What the board answers for).
-abbrev on : ℕ → ℕ → Task → Task → Task
-on command code this others = cond (eqb command code) this others
+abbrev pub tasks : List ℕ → Block → List (ℕ × Task)
+tasks host b =
+    (0x81, Task.Move (moveOf b true (Buffer.Piece (b .address)))) ∷
+    (0x82, Task.Move (moveOf b false (Buffer.Piece (b .address)))) ∷
+    (0x86, Task.Handshake) ∷
+    (0x87, Task.Initialize (shapeAt host (b .address))) ∷
+    (0x89, Task.Restore) ∷
+    (0x8a, Task.Seek (targetOf b)) ∷
+    (0x8c, Task.Format (trackOf b)) ∷
+    (0xa1, Task.Move (moveOf b true (listOf b))) ∷
+    (0xa2, Task.Move (moveOf b false (listOf b))) ∷
+    []
+
+-- The task that stands at a command's code, or none that is known.
+abbrev pub taskAt : ℕ → List (ℕ × Task) → Task
+taskAt command [] = Task.Unknown
+taskAt command ((code, task) ∷ ts) = cond (eqb command code) task (taskAt command ts)
 
 unfoldable pub taskOf : List ℕ → Block → Task
-taskOf host b =
-    on (b .command) 0x81 (Task.Move (moveOf b true (Buffer.Piece (b .address))))
-    (on (b .command) 0x82 (Task.Move (moveOf b false (Buffer.Piece (b .address))))
-    (on (b .command) 0x86 Task.Handshake
-    (on (b .command) 0x87 (Task.Initialize (shapeAt host (b .address)))
-    (on (b .command) 0x89 Task.Restore
-    (on (b .command) 0x8a (Task.Seek (targetOf b))
-    (on (b .command) 0x8c (Task.Format (trackOf b))
-    (on (b .command) 0xa1 (Task.Move (moveOf b true (listOf b)))
-    (on (b .command) 0xa2 (Task.Move (moveOf b false (listOf b)))
-    Task.Unknown))))))))
+taskOf host b = taskAt (b .command) (tasks host b)
 
 abbrev pub requestOf : List ℕ → Block → Request
 requestOf host b = record { unit = unitOf b; task = taskOf host b }

@@ -1,5 +1,4 @@
 pub mod Ask
-pub mod ErrorTable
 pub mod Errors
 pub mod Identity
 pub mod Layout

@@ -12,24 +12,29 @@ use request::Task;
 use request::Track;
 use request::UnitNumber;
 ghost use mathlib.Core.Path.{_≡_};
-ghost use Rattle.iopb.specs.Ask.{listOf, moveOf, requestOf, shapeAt, startOf, targetOf, taskOf, trackOf};
+ghost use Rattle.iopb.specs.Layout.{uibBytes};
+ghost use Rattle.wire.specs.Memory.{InMemory};
+ghost use Rattle.wire.specs.Promise.{Says};
+ghost use Rattle.iopb.specs.Ask.{listOf, moveOf, requestOf, shapeAt, startOf, targetOf, taskOf, trackOf, unitOf};
 
 // The request of a block; for command 87 its UIB is read, where it can be.
 pub fn request(b: Block, host: &[u8]) -> Request
     ensures { λ r. ⌜ r ≡ requestOf (now (host .entry)) b ⌝ }
 {
-    let options = b.options;
+    let unit = unit(b);
     let task = task(b, host);
+    Request { unit, task }
+}
+
+// The unit of a block's request, told without the rest of it: whoever picks a drive by it need not keep a request.
+pub fn unit(b: Block) -> UnitNumber
+    ensures { λ r. ⌜ r ≡ unitOf b ⌝ }
+{
+    let options = b.options;
     if options.unit {
-        Request {
-            unit: UnitNumber::One,
-            task,
-        }
+        UnitNumber::One
     } else {
-        Request {
-            unit: UnitNumber::Zero,
-            task,
-        }
+        UnitNumber::Zero
     }
 }
 
@@ -117,10 +122,16 @@ fn track(b: Block) -> Track
     }
 }
 
+fn holds_uib(host: &[u8], address: u32) -> bool
+    ensures { λ r. ⌜ Says r (InMemory (now (host .entry)) address uibBytes) ⌝ }
+{
+    wire::holds(host, address, 18)
+}
+
 fn shape(host: &[u8], address: u32) -> Shape
     ensures { λ r. ⌜ r ≡ shapeAt (now (host .entry)) address ⌝ }
 {
-    if !wire::holds(host, address, 18) {
+    if !holds_uib(host, address) {
         return Shape::Misplaced;
     }
     Shape::Given(uib(host, address as usize))

@@ -9,14 +9,14 @@ use geometry::VolumeNumber;
 ghost use mathlib.Core.Path.{_≡_};
 ghost use Prim.Native.Nat.{_+_, _≤_};
 ghost use lib.ListN.{length};
-ghost use Rattle.iopb.specs.Errors.{errorByte};
-ghost use Rattle.iopb.specs.ErrorTable.{errorIn, errorTable};
+ghost use Rattle.iopb.specs.Errors.{errorByte, errorIn, errorTable};
 ghost use Rattle.iopb.specs.Identity.{identityBytes};
 ghost use Rattle.iopb.specs.Layout.{blockAt, elementAt, optionsOf, uibAt};
 
 mod ask;
 
 pub use ask::request;
+pub use ask::unit;
 
 // The options byte, bit 7 down.
 pub struct Options {

@@ -1,6 +1,9 @@
-pub mod LetThrough
+pub mod Buffers
+pub mod EachTask
 pub mod Exactly
 pub mod First
+pub mod Known
+pub mod LetThrough
 pub mod Locality
 pub mod Outcomes
 pub mod Sectors

@@ -1,66 +1,91 @@
 -- The lists of checks, read by rows, are the paper's table: for each answer the commands that it is for, and the order.
 -- Both are computed from the lists, whatever the block, the unit and the host memory hold; a command of no row is refused by 10.
 use Prim.Native.Nat.{ℕ}
-use mathlib.Core.Bool.{false, not}
-use mathlib.Core.List.{List, [], _∷_, _++_}
-use mathlib.Core.Path.{_≡_, refl, sym, subst}
-use borrow.Author.Tests.{ne-eqb}
-use lib.Dec.{T, T-not, eqb}
+use mathlib.Core.Bool.{Bool, true, false, cond, not, _&&_, _||_}
+use mathlib.Core.List.{List, [], _∷_}
+use mathlib.Core.Path.{_≡_, refl, sym, ap, subst, _∙_}
+use borrow.Author.Tests.{eqb-true}
+use lib.Dec.{T, eqb, eqb→eq}
 use Rattle.answers.specs.declared.Refusal.{Refusal}
 use Rattle.iopb.specs.declared.Block.{Block}
-use Rattle.iopb.specs.Ask.{taskOf}
-use Rattle.request.specs.declared.Buffer.{Buffer}
-use Rattle.request.specs.declared.Buffer.the-variants.{Piece, List as Elements}
+use Rattle.iopb.specs.Ask.{taskAt, taskOf, tasks}
 use Rattle.request.specs.declared.Task.{Task}
-use Rattle.request.specs.declared.Task.the-variants.{Unknown, Move as Moves, Handshake, Initialize, Restore, Seek, Format}
+use Rattle.unit.specs.Standing.{UnitRecord}
+use Rattle.judge.specs.declared.Report.{Report}
+use Rattle.judge.specs.declared.Report.the-variants.{Nothing as Silent, Identity}
 use Rattle.judge.specs.declared.Standing.{Standing}
-use Rattle.judge.specs.Asks.{firstChecks, ownChecks, beforeBuffer, bytesOf, checks, ofBuffer}
-use Rattle.judge.specs.Checks.{Check, answersOf}
 use Rattle.judge.specs.declared.Verdict.{Verdict}
+use Rattle.judge.specs.Asks.{checks, planOf}
+use Rattle.judge.specs.Checks.{answersOf}
 use Rattle.judge.specs.Given.{Asked, asked}
-use Rattle.judge.specs.Table.{Row, answersTo, inOrder, keepsOrder, listed, oneOf, rows, those}
+use Rattle.judge.specs.Table.{answersTo, columns, computed, inOrder, keepsOrder, listed, oneOf, rows}
 use Rattle.judge.specs.Verdict.{verdict}
+use Rattle.judge.proofs.EachTask.{asked-in-order}
 use Rattle.judge.proofs.Tasks.{unknown}
+
+both : (a b : Bool) → T (a && b) → T a × T b
+both true true h = (tt, tt)
+both true false h = absurd h
+both false b h = absurd h
 
 -- "Commands": of each row, those of the listed commands that are asked a check with its answer are the row's.
 module _ (b : Block) (s : Standing) (host : List ℕ) where
-  abbrev AsComputed : List Row → Type 0
-  AsComputed [] = Unit {0}
-  AsComputed (r ∷ rs) = (those (answersTo b s host) (r .answer) listed ≡ r .commands) × AsComputed rs
-
-  pub rows-are-the-papers : AsComputed rows
+  pub rows-are-the-papers : computed (answersTo b s host) rows ≡ columns rows
   unfolding taskOf
-  rows-are-the-papers = (refl, (refl, (refl, (refl, (refl, (refl, (refl, (refl, (refl, (refl, tt))))))))))
+  rows-are-the-papers = refl
 
 -- "Block answers, in order": every list of checks keeps the order of the rows.
 pub in-the-papers-order : (a : Asked) → T (keepsOrder (answersOf (checks a)) (inOrder rows))
-in-the-papers-order a = by-task (a .task)
-  where
-    InOrder : List Check → Type 0
-    InOrder ks = T (keepsOrder (answersOf ks) (inOrder rows))
+in-the-papers-order a = asked-in-order a (a .task)
 
-    with-buffer : (ks : List Check) (b : Buffer) (n : ℕ) → ((x y : ℕ) → InOrder (ks ++ ofBuffer a (Piece x) n)) → ((x y : ℕ) → InOrder (ks ++ ofBuffer a (Elements x y) n)) → InOrder (ks ++ ofBuffer a b n)
-    with-buffer ks (Piece x) n piece list = piece x 0
-    with-buffer ks (Elements x y) n piece list = list x y
+-- ---- commands
 
-    by-task : (t : Task) → InOrder (firstChecks a ++ ownChecks a t)
-    by-task Unknown = tt
-    by-task (Moves m) = with-buffer (firstChecks a ++ beforeBuffer a m) (m .buffer) (bytesOf a m) (λ x y. tt) (λ x y. tt)
-    by-task Handshake = tt
-    by-task (Initialize s) = tt
-    by-task Restore = tt
-    by-task (Seek t) = tt
-    by-task (Format k) = tt
+abbrev codes : List (ℕ × Task) → List ℕ
+codes [] = []
+codes ((code, t) ∷ ts) = code ∷ codes ts
 
 -- "command not listed": every other command is refused so, whatever the block, the unit and the host memory hold.
-not-this : (c : ℕ) → T (not (oneOf c listed)) → (x : ℕ) → T (oneOf x listed) → eqb c x ≡ false
-not-this c none x there =
-    ne-eqb c x (λ same. T-not (oneOf c listed) none (subst (λ (n : ℕ). T (oneOf n listed)) (sym same) there))
+no-task : (c : ℕ) (ts : List (ℕ × Task)) → T (not (oneOf c (codes ts))) → taskAt c ts ≡ Task.Unknown
+no-task c [] none = refl
+no-task c ((code, t) ∷ ts) none = by-test (no-task c ts) (eqb c code) none
+  where
+    by-test :
+        (T (not (oneOf c (codes ts))) → taskAt c ts ≡ Task.Unknown) → (same : Bool) → T (not (same || oneOf c (codes ts))) →
+        cond same t (taskAt c ts) ≡ Task.Unknown
+    by-test rest true none = absurd none
+    by-test rest false none = rest none
 
 pub every-other-is-10 :
     (b : Block) (s : Standing) (host : List ℕ) → T (not (oneOf (b .command) listed)) →
     verdict (asked (taskOf host b) s host) ≡ Verdict.Refused Refusal.CommandUnknown
 unfolding taskOf
 every-other-is-10 b s host none =
-    let no = not-this (b .command) none in
-    rw (no 0x81 tt, no 0x82 tt, no 0x86 tt, no 0x87 tt, no 0x89 tt, no 0x8a tt, no 0x8c tt, no 0xa1 tt, no 0xa2 tt) (unknown s host)
+    ap (λ (t : Task). verdict (asked t s host)) (no-task (b .command) (tasks host b) none) ∙ unknown s host
+
+-- Only command 86 reports: of the tasks that there are, it is the one whose plan does.
+abbrev reports : Report → Bool
+reports Silent = false
+reports Identity = true
+
+-- Of a table's tasks, those with a property stand at one code alone.
+abbrev only : (Task → Bool) → ℕ → List (ℕ × Task) → Bool
+only P code [] = true
+only P code ((x, t) ∷ ts) = (not (P t) || eqb x code) && only P code ts
+
+only-at : (P : Task → Bool) (code c : ℕ) (ts : List (ℕ × Task)) → T (only P code ts) → P Task.Unknown ≡ false → T (P (taskAt c ts)) → c ≡ code
+only-at P code c [] all none there = absurd (subst T none there)
+only-at P code c ((x, t) ∷ ts) all none there =
+    by-test (λ others here. only-at P code c ts others none here) (eqb c x) refl (P t) refl all there
+  where
+    by-test :
+        (T (only P code ts) → T (P (taskAt c ts)) → c ≡ code) → (this : Bool) → eqb c x ≡ this → (p : Bool) → P t ≡ p → T ((not p || eqb x code) && only P code ts) →
+        T (P (cond this t (taskAt c ts))) → c ≡ code
+    by-test rest true is true has all there = eqb-true c x is ∙ eqb→eq x code (both (eqb x code) (only P code ts) all .0)
+    by-test rest true is false has-not all there = absurd (subst T has-not there)
+    by-test rest false is p what all there = rest (both (not p || eqb x code) (only P code ts) all .1) there
+
+pub only-86-reports :
+    (u : UnitRecord) (host : List ℕ) (b : Block) → planOf u (taskOf host b) .report ≡ Identity → b .command ≡ 0x86
+unfolding taskOf
+only-86-reports u host b is =
+    only-at (λ t. reports (planOf u t .report)) 0x86 (b .command) (tasks host b) tt refl (subst (λ (r : Report). T (reports r)) (sym is) tt)

@@ -29,6 +29,7 @@ use Rattle.judge.specs.Asks.{carrying, jobOf, ofUnit, only, plan, planOf
 use Rattle.judge.specs.Checks.{None}
 use Rattle.judge.specs.Given.{Asked, Covers, HasTrack, asked, beginsAt}
 use Rattle.judge.specs.Verdict.{byItsOwn, fromBuffer, fromSectors, verdict}
+use Rattle.judge.proofs.EachTask.{passes-first}
 use Rattle.judge.proofs.First.{done, never, on-its-own, pass, skip, stop}
 
 module _ (s : Standing) (host : List ℕ) where
@@ -38,18 +39,16 @@ module _ (s : Standing) (host : List ℕ) where
   abbrev g : Geometry
   g = geometry u
 
-  -- A listed command passes what all are asked first.
   pub own : (t : Task) → (T (unlisted t) → ⊥) → verdict (asked t s host) ≡ byItsOwn (asked t s host)
-  unfolding None
-  own t listed = on-its-own (asked t s host) (listed, tt)
+  own t listed = on-its-own (asked t s host) (passes-first (asked t s host) listed)
 
   pub unknown : verdict (asked Task.Unknown s host) ≡ Verdict.Refused Refusal.CommandUnknown
   unfolding verdict
   unknown = stop _ _ _ tt
 
   pub handshake : verdict (asked Task.Handshake s host) ≡ Verdict.Do (plan Moving.Nothing Report.Identity Leaving.AsItWas)
-  unfolding verdict
-  handshake = skip _ _ _ never ∙ done _
+  unfolding byItsOwn
+  handshake = own Task.Handshake never ∙ done _
 
   -- ---- 87
 

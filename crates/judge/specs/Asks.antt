@@ -169,6 +169,10 @@ only leaving = plan Moving.Nothing Report.Nothing leaving
 abbrev pub carrying : Job → Plan
 carrying j = plan (Sectors j) Report.Nothing (HeadsAtLastTried (j .span))
 
+abbrev renewed : Shape → Leaving
+renewed Misplaced = AsItWas
+renewed (Uib g) = Fresh g
+
 -- What is to be done, of a task that no check refuses. A task that some check always refuses has no plan: what stands for it
 -- here is never asked for.
 abbrev pub planOf : UnitRecord → Task → Plan
@@ -176,9 +180,8 @@ planOf u Unknown = only AsItWas
 planOf u (Moves m) = carrying (jobOf m (found (beginsAt u (m .target))))
 -- 86 "writes words 2 to 7 with this board's own identity"
 planOf u Handshake = plan Moving.Nothing Identity AsItWas
-planOf u (Initialize Misplaced) = only AsItWas
 -- "87 replaces the unit record"
-planOf u (Initialize (Uib g)) = only (Fresh g)
+planOf u (Initialize s) = only (renewed s)
 -- "89 goes to cylinder 0", "8A goes to the address given"
 planOf u Restore = only (HeadsAt 0)
 planOf u (Seek t) = only (HeadsAt (spotOf u (t .volume) (found (beginsAt u t)) .cylinder))

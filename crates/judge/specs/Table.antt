@@ -101,3 +101,12 @@ answersTo b s host command = answersOf (checks (asked (taskOf host (commanded b 
 abbrev pub those : (ℕ → List Refusal) → Refusal → List ℕ → List ℕ
 those answers r [] = []
 those answers r (c ∷ cs) = cond (has r (answers c)) (c ∷ those answers r cs) (those answers r cs)
+
+-- The commands of each row, as they come out so and as the paper has them.
+abbrev pub computed : (ℕ → List Refusal) → List Row → List (List ℕ)
+computed answers [] = []
+computed answers (r ∷ rs) = those answers (r .answer) listed ∷ computed answers rs
+
+abbrev pub columns : List Row → List (List ℕ)
+columns [] = []
+columns (r ∷ rs) = r .commands ∷ columns rs

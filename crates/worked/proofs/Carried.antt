@@ -25,6 +25,7 @@ use Rattle.transfer.specs.Progress.{progress}
 use Rattle.block.specs.Block.{transferOf}
 use Rattle.request.specs.declared.Buffer.{Buffer}
 use Rattle.request.specs.declared.Move.{Move}
+use Rattle.request.specs.declared.Shape.{Shape}
 use Rattle.request.specs.declared.Task.{Task}
 use Rattle.demands.specs.Footprint.{HostData, RunNames, RunWrites, WritesHost, askedOf, comes, movingOf, namedDrive, names, reportOf, transferBy, verdictOf, wordsBy}
 use Rattle.demands.specs.Visits.{Passes, Visit, blockOf, effectOf}
@@ -122,24 +123,15 @@ comes-still v p is moves = (
 
 -- ---- a transfer of the pairs
 
-abbrev pub task-number : Task → ℕ
-task-number (Task.Move m) = 0
-task-number (Task.Initialize x) = 1
-task-number Task.Handshake = 2
-task-number Task.Unknown = 3
-task-number Task.Restore = 3
-task-number (Task.Seek x) = 3
-task-number (Task.Format x) = 3
-
 -- Only an initialize has a UIB that is read, and only a transfer a list.
-pub no-uib : (a : Asked) (at bytes x : ℕ) → (task-number (a .task) ≡ 1 → ⊥) → InUib a at bytes x → ⊥
-no-uib a at bytes x other uib = other (ap task-number (uib .asks))
+pub no-uib : (a : Asked) (at bytes x : ℕ) → ((s : Shape) → a .task ≡ Task.Initialize s → ⊥) → InUib a at bytes x → ⊥
+no-uib a at bytes x other uib = other (uib .shape) (uib .asks)
 
 pub no-list-of-a-piece : (a : Asked) (m : Move) (at x : ℕ) → a .task ≡ Task.Move m → m .buffer ≡ Buffer.Piece at → InList a x → ⊥
 no-list-of-a-piece a m at x asks piece list = impossible (cc (list .asks, list .buffer))
 
-pub no-list : (a : Asked) (x : ℕ) → (task-number (a .task) ≡ 0 → ⊥) → InList a x → ⊥
-no-list a x other list = other (ap task-number (list .asks))
+pub no-list : (a : Asked) (x : ℕ) → ((m : Move) → a .task ≡ Task.Move m → ⊥) → InList a x → ⊥
+no-list a x other list = other (list .move) (list .asks)
 
 abbrev pub carries : Bool → ℕ → ℕ → Verdict
 carries to-host count buffer = Verdict.Do (carrying (jobOf (moveOf to-host 0 count buffer) 0))
@@ -171,7 +163,7 @@ module _
     judged-so = rw (task, same) (move-passes (s .host) 0 (omega arith) to-host 0 count buffer some (omega arith) held)
 
     judged-alone : (x : ℕ) → InUib (askedOf b) (blockOf b .address) 18 x ⊎ InList (askedOf b) x → ⊥
-    judged-alone x (inl uib) = no-uib (askedOf b) _ _ x (λ is. omega (arith, ap task-number task)) uib
+    judged-alone x (inl uib) = no-uib (askedOf b) _ _ x (λ s is. impossible (cc (task, is))) uib
     judged-alone x (inr list) = no-list-of-a-piece (askedOf b) _ buffer x task refl list
 
     -- What the verdict says of the transfer.

@@ -23,6 +23,7 @@ use Rattle.judge.specs.declared.Verdict.{Verdict}
 use Rattle.judge.specs.Asks.{only, plan}
 use Rattle.judge.specs.Checks.{None}
 use Rattle.judge.proofs.First.{never}
+use Rattle.wire.proofs.Promises.{never as impossible}
 use Rattle.judge.proofs.Tasks.{handshake, move-11, own, restore-done, restore-refused, shape-given, shape-outside}
 use Rattle.unit.specs.Standing.{CountsAsInitialized, fresh}
 use Rattle.transfer.specs.Data.{dataOn}
@@ -105,7 +106,7 @@ refused-first : Alone First 0 refusedData Zero ((0, 28) ∷ []) ((2, 2) ∷ [])
 unfolding word taskOf
 refused-first =
     alone First refusedData 0 (refused-pass .0) [] []
-    (λ x j. ⊎-elim (λ uib. absurd (no-uib _ _ _ x (λ is. omega arith) uib)) (λ list. absurd (no-list-of-a-piece _ (moveOf false 0 1 28) 28 x refl refl list)) j)
+    (λ x j. ⊎-elim (λ uib. absurd (no-uib _ _ _ x (λ s is. impossible cc) uib)) (λ list. absurd (no-list-of-a-piece _ (moveOf false 0 1 28) 28 x refl refl list)) j)
     (still First refusedData 0 (refused-pass .0) _ refused-write refl false) (silent First refusedData 0 (refused-pass .0) _ refused-write refl)
     (still First refusedData 0 (refused-pass .0) _ refused-write refl true)
 
@@ -256,7 +257,7 @@ shared-first : Alone First 0 sharedUnit Zero ((0, 28) ∷ (32, 18) ∷ []) ((2, 
 unfolding word taskOf
 shared-first =
     alone First sharedUnit 0 (shared-pass .0) ((32, 18) ∷ []) []
-    (λ x j. ⊎-elim (λ uib. inl (uib .among)) (λ list. absurd (no-list _ x (λ is. omega arith) list)) j)
+    (λ x j. ⊎-elim (λ uib. inl (uib .among)) (λ list. absurd (no-list _ x (λ m is. impossible cc) list)) j)
     (λ x d. absurd (still First sharedUnit 0 (shared-pass .0) _ shared-initialize refl false x d))
     (silent First sharedUnit 0 (shared-pass .0) _ shared-initialize refl) (still First sharedUnit 0 (shared-pass .0) _ shared-initialize refl true)
 
@@ -264,7 +265,7 @@ shared-second : Alone Second 28 sharedUnit Zero ((28, 28) ∷ []) ((30, 2) ∷ [
 unfolding word taskOf
 shared-second =
     alone Second sharedUnit 28 (shared-pass .1) [] []
-    (λ x j. ⊎-elim (λ uib. absurd (no-uib _ _ _ x (λ is. omega arith) uib)) (λ list. absurd (no-list _ x (λ is. omega arith) list)) j)
+    (λ x j. ⊎-elim (λ uib. absurd (no-uib _ _ _ x (λ s is. impossible cc) uib)) (λ list. absurd (no-list _ x (λ m is. impossible cc) list)) j)
     (still Second sharedUnit 28 (shared-pass .1) _ shared-restore refl false) (silent Second sharedUnit 28 (shared-pass .1) _ shared-restore refl)
     (still Second sharedUnit 28 (shared-pass .1) _ shared-restore refl true)
 
@@ -337,7 +338,7 @@ read-first : Alone First 0 readByOther Zero ((0, 28) ∷ []) ((2, 2) ∷ (4, 12)
 unfolding word taskOf
 read-first =
     alone First readByOther 0 (read-pass .0) [] ((4, 12) ∷ [])
-    (λ x j. ⊎-elim (λ uib. absurd (no-uib _ _ _ x (λ is. omega arith) uib)) (λ list. absurd (no-list _ x (λ is. omega arith) list)) j)
+    (λ x j. ⊎-elim (λ uib. absurd (no-uib _ _ _ x (λ s is. impossible cc) uib)) (λ list. absurd (no-list _ x (λ m is. impossible cc) list)) j)
     (still First readByOther 0 (read-pass .0) _ read-report refl false)
     (λ x among. inl (subst (λ (verd : Verdict). Among (0 + wordsOf (reportOf verd) .from) (length (wordsOf (reportOf verd) .bytes)) x) read-report among))
     (λ x d. absurd (still First readByOther 0 (read-pass .0) _ read-report refl true x d))
@@ -346,7 +347,7 @@ read-second : Alone Second 28 readByOther One ((28, 28) ∷ (4, 18) ∷ []) ((30
 unfolding word taskOf
 read-second =
     alone Second readByOther 28 (read-pass .1) ((4, 18) ∷ []) []
-    (λ x j. ⊎-elim (λ uib. inl (uib .among)) (λ list. absurd (no-list _ x (λ is. omega arith) list)) j)
+    (λ x j. ⊎-elim (λ uib. inl (uib .among)) (λ list. absurd (no-list _ x (λ m is. impossible cc) list)) j)
     (λ x d. absurd (still Second readByOther 28 (read-pass .1) _ read-initialize refl false x d))
     (silent Second readByOther 28 (read-pass .1) _ read-initialize refl) (still Second readByOther 28 (read-pass .1) _ read-initialize refl true)
 

@@ -1,7 +1,7 @@
--- A block that ended has the error byte 0; one that failed has what the table has at its refusal's number, and that is its byte.
+-- A block that ended has the error byte 0.
+-- One that failed has what the table has at its refusal's number.
 use mathlib.Core.Path.{ap, _∙_}
-use Rattle.iopb.specs.ErrorTable.{errorIn, errorTable}
-use Rattle.iopb.proofs.Table.{table-has}
+use Rattle.iopb.specs.Errors.{errorIn, errorTable}
 use borrow.Author.Needs.{needs}
 use Rattle.iopb.proofs.error_byte.Statement.{statement}
 use Rattle.iopb.proofs.error_byte.Tie as tie
@@ -22,7 +22,7 @@ returns : tie.Need-returns
 returns c = search needs
 
 returns-2 : tie.Need-returns-2
-returns-2 c = rw (c .before .before .before .answer .given .1) (c .error-of .ensures ∙ ap (errorIn errorTable) (c .before .number .ensures) ∙ table-has (c .before .before .before .answer .given .0 .0))
+returns-2 c = rw (c .before .before .before .answer .given .1) (c .error-of .ensures ∙ ap (errorIn errorTable) (c .before .number .ensures))
 
 pub error-byte-spec : {M : Type 1} → statement M
 error-byte-spec =

@@ -5,7 +5,7 @@ use mathlib.Core.Path.{_≡_, refl, sym, _∙_}
 use native.Mathlib.Omega.{arith}
 use borrow.Author.Needs.{needs}
 use lib.ListN.{drop}
-use Rattle.iopb.specs.ErrorTable.{errorIn, errorTable}
+use Rattle.iopb.specs.Errors.{errorIn, errorTable}
 use Rattle.iopb.proofs.Lookup.{found, none-left, passed}
 use Rattle.iopb.proofs.error_of.Statement.{statement}
 use Rattle.iopb.proofs.error_of.Tie as tie

@@ -19,11 +19,11 @@ use Rattle.board.proofs.chain.+execute+fetch.Lts-execute as execute-lts
 use Rattle.board.proofs.chain.fetch.Reads as fetch
 use Rattle.board.proofs.chain.fetch.Kinds as fetch-kinds
 use Rattle.board.proofs.chain.+execute+fetch.Lts-fetch as fetch-lts
-use Rattle.answers.proofs.Refusal.number.Reads as number-reads
 use Rattle.board.proofs.chain.counted.Reads as counted-reads
 use Rattle.board.proofs.chain.ended.Reads as ended-reads
+use Rattle.board.proofs.chain.failed.Reads as failed-reads
 use Rattle.board.proofs.chain.step.Reads as step-reads
-use Rattle.wire.proofs.holds.Reads as holds-reads
+use Rattle.board.proofs.chain.holds_block.Reads as holds-block-reads
 use Rattle.board.proofs.chain.+execute+fetch.{statement}
 use Rattle.board.proofs.chain.+execute+fetch.Tie.{close}
 
@@ -46,30 +46,27 @@ abbrev fetch-below : ℕ → In 4 fetch-kinds.ps
 fetch-below t = and 4 fetch-kinds.ps (falls 4 fetch-kinds.ps _<_ μ-fetch t) fetch.Pre
 
 module _ (t : ℕ) where
-  execute-cast-step : execute-lts.Need-cast-step (step-reads.Asked, step-reads.Learnt, counted-reads.Asked, counted-reads.Learnt, number-reads.Asked, number-reads.Learnt, ended-reads.Asked, ended-reads.Learnt, fetch-below t, fetch.Post) (execute-at t) execute.Post
+  execute-cast-step : execute-lts.Need-cast-step (step-reads.Asked, step-reads.Learnt, counted-reads.Asked, counted-reads.Learnt, failed-reads.Asked, failed-reads.Learnt, fetch-below t, fetch.Post, ended-reads.Asked, ended-reads.Learnt) (execute-at t) execute.Post
   execute-cast-step c = search needs
 
-  execute-step-requires : execute-lts.Need-step-requires (step-reads.Asked, step-reads.Learnt, counted-reads.Asked, counted-reads.Learnt, number-reads.Asked, number-reads.Learnt, ended-reads.Asked, ended-reads.Learnt, fetch-below t, fetch.Post) (execute-at t) execute.Post
+  execute-step-requires : execute-lts.Need-step-requires (step-reads.Asked, step-reads.Learnt, counted-reads.Asked, counted-reads.Learnt, failed-reads.Asked, failed-reads.Learnt, fetch-below t, fetch.Post, ended-reads.Asked, ended-reads.Learnt) (execute-at t) execute.Post
   execute-step-requires c κs = search needs
 
-  execute-counted-requires : execute-lts.Need-counted-requires (step-reads.Asked, step-reads.Learnt, counted-reads.Asked, counted-reads.Learnt, number-reads.Asked, number-reads.Learnt, ended-reads.Asked, ended-reads.Learnt, fetch-below t, fetch.Post) (execute-at t) execute.Post
+  execute-counted-requires : execute-lts.Need-counted-requires (step-reads.Asked, step-reads.Learnt, counted-reads.Asked, counted-reads.Learnt, failed-reads.Asked, failed-reads.Learnt, fetch-below t, fetch.Post, ended-reads.Asked, ended-reads.Learnt) (execute-at t) execute.Post
   execute-counted-requires c κs =
       let spare = c .before .before .before .before .before .before .before .before .before .before .before .before .before .before .before .before .before .before .before .pre .1 .1 in
       (omega (arith, spare .blocks), spare .sectors)
 
-  execute-enum-known-answer : execute-lts.Need-enum-known-answer (step-reads.Asked, step-reads.Learnt, counted-reads.Asked, counted-reads.Learnt, number-reads.Asked, number-reads.Learnt, ended-reads.Asked, ended-reads.Learnt, fetch-below t, fetch.Post) (execute-at t) execute.Post
+  execute-enum-known-answer : execute-lts.Need-enum-known-answer (step-reads.Asked, step-reads.Learnt, counted-reads.Asked, counted-reads.Learnt, failed-reads.Asked, failed-reads.Learnt, fetch-below t, fetch.Post, ended-reads.Asked, ended-reads.Learnt) (execute-at t) execute.Post
   execute-enum-known-answer c = search needs
 
-  execute-number-requires : execute-lts.Need-number-requires (step-reads.Asked, step-reads.Learnt, counted-reads.Asked, counted-reads.Learnt, number-reads.Asked, number-reads.Learnt, ended-reads.Asked, ended-reads.Learnt, fetch-below t, fetch.Post) (execute-at t) execute.Post
-  execute-number-requires c κs = search needs
+  execute-failed-requires : execute-lts.Need-failed-requires (step-reads.Asked, step-reads.Learnt, counted-reads.Asked, counted-reads.Learnt, failed-reads.Asked, failed-reads.Learnt, fetch-below t, fetch.Post, ended-reads.Asked, ended-reads.Learnt) (execute-at t) execute.Post
+  execute-failed-requires c κs = search needs
 
-  execute-ended-requires : execute-lts.Need-ended-requires (step-reads.Asked, step-reads.Learnt, counted-reads.Asked, counted-reads.Learnt, number-reads.Asked, number-reads.Learnt, ended-reads.Asked, ended-reads.Learnt, fetch-below t, fetch.Post) (execute-at t) execute.Post
-  execute-ended-requires c κs = search needs
-
-  execute-enum-told : execute-lts.Need-enum-told (step-reads.Asked, step-reads.Learnt, counted-reads.Asked, counted-reads.Learnt, number-reads.Asked, number-reads.Learnt, ended-reads.Asked, ended-reads.Learnt, fetch-below t, fetch.Post) (execute-at t) execute.Post
+  execute-enum-told : execute-lts.Need-enum-told (step-reads.Asked, step-reads.Learnt, counted-reads.Asked, counted-reads.Learnt, failed-reads.Asked, failed-reads.Learnt, fetch-below t, fetch.Post, ended-reads.Asked, ended-reads.Learnt) (execute-at t) execute.Post
   execute-enum-told c = search needs
 
-  execute-fetch-requires : execute-lts.Need-fetch-requires (step-reads.Asked, step-reads.Learnt, counted-reads.Asked, counted-reads.Learnt, number-reads.Asked, number-reads.Learnt, ended-reads.Asked, ended-reads.Learnt, fetch-below t, fetch.Post) (execute-at t) execute.Post
+  execute-fetch-requires : execute-lts.Need-fetch-requires (step-reads.Asked, step-reads.Learnt, counted-reads.Asked, counted-reads.Learnt, failed-reads.Asked, failed-reads.Learnt, fetch-below t, fetch.Post, ended-reads.Asked, ended-reads.Learnt) (execute-at t) execute.Post
   execute-fetch-requires c κs =
       let a = c .before .before .before .before .before .before .before .before .before .before .before .before .before .before .before .before .before .before .before .before .before .before .before .before .before .before .before .args in
       let pre = c .before .before .before .before .before .before .before .before .before .before .before .before .before .before .before .before .before .before .before .before .before .before .before .before .before .before .before .pre in
@@ -80,44 +77,44 @@ module _ (t : ℕ) where
             (spare-kept (a .events .now) (s .last .1 .1 .1 .0) (a .left + 1) (tallyOf (a .count)) (s .kept .1 .1 .1 .0) (pre .1 .1))),
       )
 
-  execute-ended-requires-2 : execute-lts.Need-ended-requires-2 (step-reads.Asked, step-reads.Learnt, counted-reads.Asked, counted-reads.Learnt, number-reads.Asked, number-reads.Learnt, ended-reads.Asked, ended-reads.Learnt, fetch-below t, fetch.Post) (execute-at t) execute.Post
-  execute-ended-requires-2 c κs = search needs
+  execute-ended-requires : execute-lts.Need-ended-requires (step-reads.Asked, step-reads.Learnt, counted-reads.Asked, counted-reads.Learnt, failed-reads.Asked, failed-reads.Learnt, fetch-below t, fetch.Post, ended-reads.Asked, ended-reads.Learnt) (execute-at t) execute.Post
+  execute-ended-requires c κs = search needs
 
-  execute-same-length : execute-lts.Need-same-length (step-reads.Asked, step-reads.Learnt, counted-reads.Asked, counted-reads.Learnt, number-reads.Asked, number-reads.Learnt, ended-reads.Asked, ended-reads.Learnt, fetch-below t, fetch.Post) (execute-at t) execute.Post
-  execute-same-length c = c .before .before .before .before .before .before .before .before .before .before .before .before .before .before .before .step .kept .0
+  execute-same-length : execute-lts.Need-same-length (step-reads.Asked, step-reads.Learnt, counted-reads.Asked, counted-reads.Learnt, failed-reads.Asked, failed-reads.Learnt, fetch-below t, fetch.Post, ended-reads.Asked, ended-reads.Learnt) (execute-at t) execute.Post
+  execute-same-length c = c .before .before .before .before .before .before .before .before .before .before .before .before .before .before .step .kept .0
 
-  execute-same-length-2 : execute-lts.Need-same-length-2 (step-reads.Asked, step-reads.Learnt, counted-reads.Asked, counted-reads.Learnt, number-reads.Asked, number-reads.Learnt, ended-reads.Asked, ended-reads.Learnt, fetch-below t, fetch.Post) (execute-at t) execute.Post
-  execute-same-length-2 c = c .before .before .before .before .before .before .before .before .before .before .before .before .before .before .before .step .kept .1 .0
+  execute-same-length-2 : execute-lts.Need-same-length-2 (step-reads.Asked, step-reads.Learnt, counted-reads.Asked, counted-reads.Learnt, failed-reads.Asked, failed-reads.Learnt, fetch-below t, fetch.Post, ended-reads.Asked, ended-reads.Learnt) (execute-at t) execute.Post
+  execute-same-length-2 c = c .before .before .before .before .before .before .before .before .before .before .before .before .before .before .step .kept .1 .0
 
-  execute-same-length-3 : execute-lts.Need-same-length-3 (step-reads.Asked, step-reads.Learnt, counted-reads.Asked, counted-reads.Learnt, number-reads.Asked, number-reads.Learnt, ended-reads.Asked, ended-reads.Learnt, fetch-below t, fetch.Post) (execute-at t) execute.Post
-  execute-same-length-3 c = c .before .before .before .before .before .before .before .before .before .before .before .before .before .before .before .step .kept .1 .1 .0
+  execute-same-length-3 : execute-lts.Need-same-length-3 (step-reads.Asked, step-reads.Learnt, counted-reads.Asked, counted-reads.Learnt, failed-reads.Asked, failed-reads.Learnt, fetch-below t, fetch.Post, ended-reads.Asked, ended-reads.Learnt) (execute-at t) execute.Post
+  execute-same-length-3 c = c .before .before .before .before .before .before .before .before .before .before .before .before .before .before .step .kept .1 .1 .0
 
-  execute-same-length-4 : execute-lts.Need-same-length-4 (step-reads.Asked, step-reads.Learnt, counted-reads.Asked, counted-reads.Learnt, number-reads.Asked, number-reads.Learnt, ended-reads.Asked, ended-reads.Learnt, fetch-below t, fetch.Post) (execute-at t) execute.Post
-  execute-same-length-4 c = c .before .before .before .before .before .before .before .before .before .before .before .before .before .before .before .step .kept .1 .1 .1 .0
+  execute-same-length-4 : execute-lts.Need-same-length-4 (step-reads.Asked, step-reads.Learnt, counted-reads.Asked, counted-reads.Learnt, failed-reads.Asked, failed-reads.Learnt, fetch-below t, fetch.Post, ended-reads.Asked, ended-reads.Learnt) (execute-at t) execute.Post
+  execute-same-length-4 c = c .before .before .before .before .before .before .before .before .before .before .before .before .before .before .step .kept .1 .1 .1 .0
 
-  execute-returns : execute-lts.Need-returns (step-reads.Asked, step-reads.Learnt, counted-reads.Asked, counted-reads.Learnt, number-reads.Asked, number-reads.Learnt, ended-reads.Asked, ended-reads.Learnt, fetch-below t, fetch.Post) (execute-at t) execute.Post
+  execute-returns : execute-lts.Need-returns (step-reads.Asked, step-reads.Learnt, counted-reads.Asked, counted-reads.Learnt, failed-reads.Asked, failed-reads.Learnt, fetch-below t, fetch.Post, ended-reads.Asked, ended-reads.Learnt) (execute-at t) execute.Post
   execute-returns c =
-      let a = c .before .before .before .before .before .before .before .before .before .before .before .before .before .before .before .before .before .before .before .before .before .before .before .before .before .args in
-      let s = c .before .before .before .before .before .before .before .before .before .before .before .before .before .before .before .step in
+      let a = c .before .before .before .before .before .before .before .before .before .before .before .before .before .before .before .before .before .before .before .before .before .before .before .before .args in
+      let s = c .before .before .before .before .before .before .before .before .before .before .before .before .before .before .step in
       let w = (worldOf (a .host .now) (a .image0 .now) (a .image1 .now) (a .events .now) (a .units)) in
-      let r = c .before .before .before .answer .given .0 .0 in
-      rw (c .ended .ensures, c .before .number .ensures, c .before .before .before .before .before .counted .ensures)
+      let r = c .before .before .answer .given .0 .0 in
+      rw (c .failed .ensures, c .before .before .before .before .counted .ensures)
       (came-to RunAnswer.BlockFailed (refusalNumber r) (countedOf (a .count) (s .result .sectors)) (s .result .units) (s .last .0) (s .last .1 .0) (s .last .1 .1 .0) (s .last .1 .1 .1 .0) _
-      (executed-failed (fetched (a .left)) (a .count) (a .at) w (worldOf (s .last .0) (s .last .1 .0) (s .last .1 .1 .0) (s .last .1 .1 .1 .0) (s .result .units)) (s .result) (s .ensures) r (c .before .before .before .answer .given .1)))
+      (executed-failed (fetched (a .left)) (a .count) (a .at) w (worldOf (s .last .0) (s .last .1 .0) (s .last .1 .1 .0) (s .last .1 .1 .1 .0) (s .result .units)) (s .result) (s .ensures) r (c .before .before .answer .given .1)))
 
-  execute-same-length-5 : execute-lts.Need-same-length-5 (step-reads.Asked, step-reads.Learnt, counted-reads.Asked, counted-reads.Learnt, number-reads.Asked, number-reads.Learnt, ended-reads.Asked, ended-reads.Learnt, fetch-below t, fetch.Post) (execute-at t) execute.Post
+  execute-same-length-5 : execute-lts.Need-same-length-5 (step-reads.Asked, step-reads.Learnt, counted-reads.Asked, counted-reads.Learnt, failed-reads.Asked, failed-reads.Learnt, fetch-below t, fetch.Post, ended-reads.Asked, ended-reads.Learnt) (execute-at t) execute.Post
   execute-same-length-5 c = c .before .before .before .before .before .before .before .before .fetch .kept .0 ∙ c .before .before .before .before .before .before .before .before .before .before .before .before .before .before .before .before .before .before .before .before .before .before .before .before .before .before .step .kept .0
 
-  execute-same-length-6 : execute-lts.Need-same-length-6 (step-reads.Asked, step-reads.Learnt, counted-reads.Asked, counted-reads.Learnt, number-reads.Asked, number-reads.Learnt, ended-reads.Asked, ended-reads.Learnt, fetch-below t, fetch.Post) (execute-at t) execute.Post
+  execute-same-length-6 : execute-lts.Need-same-length-6 (step-reads.Asked, step-reads.Learnt, counted-reads.Asked, counted-reads.Learnt, failed-reads.Asked, failed-reads.Learnt, fetch-below t, fetch.Post, ended-reads.Asked, ended-reads.Learnt) (execute-at t) execute.Post
   execute-same-length-6 c = c .before .before .before .before .before .before .before .before .fetch .kept .1 .0 ∙ c .before .before .before .before .before .before .before .before .before .before .before .before .before .before .before .before .before .before .before .before .before .before .before .before .before .before .step .kept .1 .0
 
-  execute-same-length-7 : execute-lts.Need-same-length-7 (step-reads.Asked, step-reads.Learnt, counted-reads.Asked, counted-reads.Learnt, number-reads.Asked, number-reads.Learnt, ended-reads.Asked, ended-reads.Learnt, fetch-below t, fetch.Post) (execute-at t) execute.Post
+  execute-same-length-7 : execute-lts.Need-same-length-7 (step-reads.Asked, step-reads.Learnt, counted-reads.Asked, counted-reads.Learnt, failed-reads.Asked, failed-reads.Learnt, fetch-below t, fetch.Post, ended-reads.Asked, ended-reads.Learnt) (execute-at t) execute.Post
   execute-same-length-7 c = c .before .before .before .before .before .before .before .before .fetch .kept .1 .1 .0 ∙ c .before .before .before .before .before .before .before .before .before .before .before .before .before .before .before .before .before .before .before .before .before .before .before .before .before .before .step .kept .1 .1 .0
 
-  execute-same-length-8 : execute-lts.Need-same-length-8 (step-reads.Asked, step-reads.Learnt, counted-reads.Asked, counted-reads.Learnt, number-reads.Asked, number-reads.Learnt, ended-reads.Asked, ended-reads.Learnt, fetch-below t, fetch.Post) (execute-at t) execute.Post
+  execute-same-length-8 : execute-lts.Need-same-length-8 (step-reads.Asked, step-reads.Learnt, counted-reads.Asked, counted-reads.Learnt, failed-reads.Asked, failed-reads.Learnt, fetch-below t, fetch.Post, ended-reads.Asked, ended-reads.Learnt) (execute-at t) execute.Post
   execute-same-length-8 c = c .before .before .before .before .before .before .before .before .fetch .kept .1 .1 .1 .0 ∙ c .before .before .before .before .before .before .before .before .before .before .before .before .before .before .before .before .before .before .before .before .before .before .before .before .before .before .step .kept .1 .1 .1 .0
 
-  execute-returns-2 : execute-lts.Need-returns-2 (step-reads.Asked, step-reads.Learnt, counted-reads.Asked, counted-reads.Learnt, number-reads.Asked, number-reads.Learnt, ended-reads.Asked, ended-reads.Learnt, fetch-below t, fetch.Post) (execute-at t) execute.Post
+  execute-returns-2 : execute-lts.Need-returns-2 (step-reads.Asked, step-reads.Learnt, counted-reads.Asked, counted-reads.Learnt, failed-reads.Asked, failed-reads.Learnt, fetch-below t, fetch.Post, ended-reads.Asked, ended-reads.Learnt) (execute-at t) execute.Post
   execute-returns-2 c =
       let a = c .before .before .before .before .before .before .before .before .before .before .before .before .before .before .before .before .before .before .before .before .before .before .before .before .before .before .before .before .before .before .before .before .before .before .before .before .args in
       let s = c .before .before .before .before .before .before .before .before .before .before .before .before .before .before .before .before .before .before .before .before .before .before .before .before .before .before .step in
@@ -127,81 +124,81 @@ module _ (t : ℕ) where
       (executed-on (fetched (a .left)) (a .count) (a .at) w (worldOf (s .last .0) (s .last .1 .0) (s .last .1 .1 .0) (s .last .1 .1 .1 .0) (s .result .units)) (s .result) (s .ensures) (c .before .before .before .before .before .before .before .before .before .before .before .before .before .before .enum-told .given .1) (c .before .before .before .before .before .before .before .before .before .before .before .before .before .if1 .taken))
       (rw (c .before .before .before .before .before .before .before .before .before .before .before .before .before .before .before .before .counted .ensures) at (f .ensures))
 
-  execute-same-length-9 : execute-lts.Need-same-length-9 (step-reads.Asked, step-reads.Learnt, counted-reads.Asked, counted-reads.Learnt, number-reads.Asked, number-reads.Learnt, ended-reads.Asked, ended-reads.Learnt, fetch-below t, fetch.Post) (execute-at t) execute.Post
+  execute-same-length-9 : execute-lts.Need-same-length-9 (step-reads.Asked, step-reads.Learnt, counted-reads.Asked, counted-reads.Learnt, failed-reads.Asked, failed-reads.Learnt, fetch-below t, fetch.Post, ended-reads.Asked, ended-reads.Learnt) (execute-at t) execute.Post
   execute-same-length-9 c = c .before .before .before .before .before .before .before .before .before .before .before .before .before .before .step .kept .0
 
-  execute-same-length-10 : execute-lts.Need-same-length-10 (step-reads.Asked, step-reads.Learnt, counted-reads.Asked, counted-reads.Learnt, number-reads.Asked, number-reads.Learnt, ended-reads.Asked, ended-reads.Learnt, fetch-below t, fetch.Post) (execute-at t) execute.Post
+  execute-same-length-10 : execute-lts.Need-same-length-10 (step-reads.Asked, step-reads.Learnt, counted-reads.Asked, counted-reads.Learnt, failed-reads.Asked, failed-reads.Learnt, fetch-below t, fetch.Post, ended-reads.Asked, ended-reads.Learnt) (execute-at t) execute.Post
   execute-same-length-10 c = c .before .before .before .before .before .before .before .before .before .before .before .before .before .before .step .kept .1 .0
 
-  execute-same-length-11 : execute-lts.Need-same-length-11 (step-reads.Asked, step-reads.Learnt, counted-reads.Asked, counted-reads.Learnt, number-reads.Asked, number-reads.Learnt, ended-reads.Asked, ended-reads.Learnt, fetch-below t, fetch.Post) (execute-at t) execute.Post
+  execute-same-length-11 : execute-lts.Need-same-length-11 (step-reads.Asked, step-reads.Learnt, counted-reads.Asked, counted-reads.Learnt, failed-reads.Asked, failed-reads.Learnt, fetch-below t, fetch.Post, ended-reads.Asked, ended-reads.Learnt) (execute-at t) execute.Post
   execute-same-length-11 c = c .before .before .before .before .before .before .before .before .before .before .before .before .before .before .step .kept .1 .1 .0
 
-  execute-same-length-12 : execute-lts.Need-same-length-12 (step-reads.Asked, step-reads.Learnt, counted-reads.Asked, counted-reads.Learnt, number-reads.Asked, number-reads.Learnt, ended-reads.Asked, ended-reads.Learnt, fetch-below t, fetch.Post) (execute-at t) execute.Post
+  execute-same-length-12 : execute-lts.Need-same-length-12 (step-reads.Asked, step-reads.Learnt, counted-reads.Asked, counted-reads.Learnt, failed-reads.Asked, failed-reads.Learnt, fetch-below t, fetch.Post, ended-reads.Asked, ended-reads.Learnt) (execute-at t) execute.Post
   execute-same-length-12 c = c .before .before .before .before .before .before .before .before .before .before .before .before .before .before .step .kept .1 .1 .1 .0
 
-  execute-returns-3 : execute-lts.Need-returns-3 (step-reads.Asked, step-reads.Learnt, counted-reads.Asked, counted-reads.Learnt, number-reads.Asked, number-reads.Learnt, ended-reads.Asked, ended-reads.Learnt, fetch-below t, fetch.Post) (execute-at t) execute.Post
+  execute-returns-3 : execute-lts.Need-returns-3 (step-reads.Asked, step-reads.Learnt, counted-reads.Asked, counted-reads.Learnt, failed-reads.Asked, failed-reads.Learnt, fetch-below t, fetch.Post, ended-reads.Asked, ended-reads.Learnt) (execute-at t) execute.Post
   execute-returns-3 c =
       let a = c .before .before .before .before .before .before .before .before .before .before .before .before .before .before .before .before .before .before .before .before .before .before .before .before .args in
       let s = c .before .before .before .before .before .before .before .before .before .before .before .before .before .before .step in
       let w = (worldOf (a .host .now) (a .image0 .now) (a .image1 .now) (a .events .now) (a .units)) in
-      rw (c .ended2 .ensures, c .before .before .before .before .counted .ensures)
+      rw (c .ended .ensures, c .before .before .before .before .counted .ensures)
       (came-to RunAnswer.Done 0 (countedOf (a .count) (s .result .sectors)) (s .result .units) (s .last .0) (s .last .1 .0) (s .last .1 .1 .0) (s .last .1 .1 .1 .0) _
       (executed-done (fetched (a .left)) (a .count) (a .at) w (worldOf (s .last .0) (s .last .1 .0) (s .last .1 .1 .0) (s .last .1 .1 .1 .0) (s .result .units)) (s .result) (s .ensures) (c .before .before .enum-told .given .1) (c .before .if1 .left)))
 
-  fetch-ended-requires : fetch-lts.Need-ended-requires (ended-reads.Asked, ended-reads.Learnt, holds-reads.Asked, holds-reads.Learnt, execute-below t, execute.Post) (fetch-at t) fetch.Post
+  fetch-ended-requires : fetch-lts.Need-ended-requires (ended-reads.Asked, ended-reads.Learnt, holds-block-reads.Asked, holds-block-reads.Learnt, execute-below t, execute.Post) (fetch-at t) fetch.Post
   fetch-ended-requires c κs = search needs
 
-  fetch-returns : fetch-lts.Need-returns (ended-reads.Asked, ended-reads.Learnt, holds-reads.Asked, holds-reads.Learnt, execute-below t, execute.Post) (fetch-at t) fetch.Post
+  fetch-returns : fetch-lts.Need-returns (ended-reads.Asked, ended-reads.Learnt, holds-block-reads.Asked, holds-block-reads.Learnt, execute-below t, execute.Post) (fetch-at t) fetch.Post
   fetch-returns c =
       let a = c .before .before .before .before .before .before .args in
       rw (c .ended .ensures)
       (came-to RunAnswer.AllowanceSpent 0 (a .count) (a .units) (a .host .now) (a .image0 .now) (a .image1 .now) (a .events .now) _
       (fetched-spent (a .left) (tallyOf (a .count)) (a .at) (worldOf (a .host .now) (a .image0 .now) (a .image1 .now) (a .events .now) (a .units)) (c .before .if1 .taken)))
 
-  fetch-holds-requires : fetch-lts.Need-holds-requires (ended-reads.Asked, ended-reads.Learnt, holds-reads.Asked, holds-reads.Learnt, execute-below t, execute.Post) (fetch-at t) fetch.Post
-  fetch-holds-requires c κs = search needs
+  fetch-holds-block-requires : fetch-lts.Need-holds-block-requires (ended-reads.Asked, ended-reads.Learnt, holds-block-reads.Asked, holds-block-reads.Learnt, execute-below t, execute.Post) (fetch-at t) fetch.Post
+  fetch-holds-block-requires c κs = search needs
 
-  fetch-ended-requires-2 : fetch-lts.Need-ended-requires-2 (ended-reads.Asked, ended-reads.Learnt, holds-reads.Asked, holds-reads.Learnt, execute-below t, execute.Post) (fetch-at t) fetch.Post
+  fetch-ended-requires-2 : fetch-lts.Need-ended-requires-2 (ended-reads.Asked, ended-reads.Learnt, holds-block-reads.Asked, holds-block-reads.Learnt, execute-below t, execute.Post) (fetch-at t) fetch.Post
   fetch-ended-requires-2 c κs = search needs
 
-  fetch-same-length : fetch-lts.Need-same-length (ended-reads.Asked, ended-reads.Learnt, holds-reads.Asked, holds-reads.Learnt, execute-below t, execute.Post) (fetch-at t) fetch.Post
+  fetch-same-length : fetch-lts.Need-same-length (ended-reads.Asked, ended-reads.Learnt, holds-block-reads.Asked, holds-block-reads.Learnt, execute-below t, execute.Post) (fetch-at t) fetch.Post
   fetch-same-length c = search needs
 
-  fetch-returns-2 : fetch-lts.Need-returns-2 (ended-reads.Asked, ended-reads.Learnt, holds-reads.Asked, holds-reads.Learnt, execute-below t, execute.Post) (fetch-at t) fetch.Post
+  fetch-returns-2 : fetch-lts.Need-returns-2 (ended-reads.Asked, ended-reads.Learnt, holds-block-reads.Asked, holds-block-reads.Learnt, execute-below t, execute.Post) (fetch-at t) fetch.Post
   fetch-returns-2 c =
       let a = c .before .before .before .before .before .before .before .before .before .args in
-      let held = c .before .before .holds in
+      let held = c .before .before .holds-block in
       rw (c .ended2 .ensures)
       (came-to RunAnswer.LinkBad 0 (a .count) (a .units) (a .host .now) (a .image0 .now) (a .image1 .now) (a .events .now) _
       (fetched-bad (a .left) (tallyOf (a .count)) (a .at) (worldOf (a .host .now) (a .image0 .now) (a .image1 .now) (a .events .now) (a .units)) (omega arith) (denied (held .result) _ (c .before .if2 .taken) (held .ensures))))
 
-  fetch-sub-execute : fetch-lts.Need-sub-execute (ended-reads.Asked, ended-reads.Learnt, holds-reads.Asked, holds-reads.Learnt, execute-below t, execute.Post) (fetch-at t) fetch.Post
+  fetch-sub-execute : fetch-lts.Need-sub-execute (ended-reads.Asked, ended-reads.Learnt, holds-block-reads.Asked, holds-block-reads.Learnt, execute-below t, execute.Post) (fetch-at t) fetch.Post
   fetch-sub-execute c = search needs
 
-  fetch-execute-requires : fetch-lts.Need-execute-requires (ended-reads.Asked, ended-reads.Learnt, holds-reads.Asked, holds-reads.Learnt, execute-below t, execute.Post) (fetch-at t) fetch.Post
+  fetch-execute-requires : fetch-lts.Need-execute-requires (ended-reads.Asked, ended-reads.Learnt, holds-block-reads.Asked, holds-block-reads.Learnt, execute-below t, execute.Post) (fetch-at t) fetch.Post
   fetch-execute-requires c κs =
       let a = c .before .before .before .before .before .before .before .before .before .before .before .before .args in
       let pre = c .before .before .before .before .before .before .before .before .before .before .before .before .pre in
-      let held = c .before .before .before .before .before .holds in
+      let held = c .before .before .before .before .before .holds-block in
       let one : a .left - 1 + 1 ≡ a .left = omega arith in
       (omega (arith, pre .0), (granted (held .result) _ (c .before .before .before .before .if2 .left) (held .ensures), rw one (pre .1)))
 
-  fetch-same-length-2 : fetch-lts.Need-same-length-2 (ended-reads.Asked, ended-reads.Learnt, holds-reads.Asked, holds-reads.Learnt, execute-below t, execute.Post) (fetch-at t) fetch.Post
+  fetch-same-length-2 : fetch-lts.Need-same-length-2 (ended-reads.Asked, ended-reads.Learnt, holds-block-reads.Asked, holds-block-reads.Learnt, execute-below t, execute.Post) (fetch-at t) fetch.Post
   fetch-same-length-2 c = search needs
 
-  fetch-same-length-3 : fetch-lts.Need-same-length-3 (ended-reads.Asked, ended-reads.Learnt, holds-reads.Asked, holds-reads.Learnt, execute-below t, execute.Post) (fetch-at t) fetch.Post
+  fetch-same-length-3 : fetch-lts.Need-same-length-3 (ended-reads.Asked, ended-reads.Learnt, holds-block-reads.Asked, holds-block-reads.Learnt, execute-below t, execute.Post) (fetch-at t) fetch.Post
   fetch-same-length-3 c = search needs
 
-  fetch-same-length-4 : fetch-lts.Need-same-length-4 (ended-reads.Asked, ended-reads.Learnt, holds-reads.Asked, holds-reads.Learnt, execute-below t, execute.Post) (fetch-at t) fetch.Post
+  fetch-same-length-4 : fetch-lts.Need-same-length-4 (ended-reads.Asked, ended-reads.Learnt, holds-block-reads.Asked, holds-block-reads.Learnt, execute-below t, execute.Post) (fetch-at t) fetch.Post
   fetch-same-length-4 c = search needs
 
-  fetch-same-length-5 : fetch-lts.Need-same-length-5 (ended-reads.Asked, ended-reads.Learnt, holds-reads.Asked, holds-reads.Learnt, execute-below t, execute.Post) (fetch-at t) fetch.Post
+  fetch-same-length-5 : fetch-lts.Need-same-length-5 (ended-reads.Asked, ended-reads.Learnt, holds-block-reads.Asked, holds-block-reads.Learnt, execute-below t, execute.Post) (fetch-at t) fetch.Post
   fetch-same-length-5 c = search needs
 
-  fetch-returns-3 : fetch-lts.Need-returns-3 (ended-reads.Asked, ended-reads.Learnt, holds-reads.Asked, holds-reads.Learnt, execute-below t, execute.Post) (fetch-at t) fetch.Post
+  fetch-returns-3 : fetch-lts.Need-returns-3 (ended-reads.Asked, ended-reads.Learnt, holds-block-reads.Asked, holds-block-reads.Learnt, execute-below t, execute.Post) (fetch-at t) fetch.Post
   fetch-returns-3 c =
       let a = c .before .before .before .before .before .before .before .before .before .before .before .before .before .before .before .before .before .before .before .before .before .args in
-      let held = c .before .before .before .before .before .before .before .before .before .before .before .before .before .before .holds in
+      let held = c .before .before .before .before .before .before .before .before .before .before .before .before .before .before .holds-block in
       let e = c .before .before .before .before .before .before .before .before .execute in
       came-the-same _ _ _ (e .result)
       (fetched-on (a .left) (tallyOf (a .count)) (a .at) (worldOf (a .host .now) (a .image0 .now) (a .image1 .now) (a .events .now) (a .units)) (omega (arith, c .before .before .before .before .before .before .before .before .before .before .before .before .before .before .before .before .if1 .left)) (granted (held .result) _ (c .before .before .before .before .before .before .before .before .before .before .before .before .before .if2 .left) (held .ensures)))
@@ -210,7 +207,7 @@ module _ (t : ℕ) where
 pub +execute+fetch-spec : {M : Type 1} → statement M
 +execute+fetch-spec =
     close μ-execute μ-fetch
-    (λ t. execute-lts.spec (step-reads.Asked, step-reads.Learnt, counted-reads.Asked, counted-reads.Learnt, number-reads.Asked, number-reads.Learnt, ended-reads.Asked, ended-reads.Learnt, fetch-below t, fetch.Post) (execute-at t) execute.Post
-    (execute-cast-step t) (execute-step-requires t) (execute-counted-requires t) (execute-enum-known-answer t) (execute-number-requires t) (execute-ended-requires t) (execute-enum-told t) (execute-fetch-requires t) (execute-ended-requires-2 t) (execute-same-length t) (execute-same-length-2 t) (execute-same-length-3 t) (execute-same-length-4 t) (execute-returns t) (execute-same-length-5 t) (execute-same-length-6 t) (execute-same-length-7 t) (execute-same-length-8 t) (execute-returns-2 t) (execute-same-length-9 t) (execute-same-length-10 t) (execute-same-length-11 t) (execute-same-length-12 t) (execute-returns-3 t))
-    (λ t. fetch-lts.spec (ended-reads.Asked, ended-reads.Learnt, holds-reads.Asked, holds-reads.Learnt, execute-below t, execute.Post) (fetch-at t) fetch.Post
-    (fetch-ended-requires t) (fetch-returns t) (fetch-holds-requires t) (fetch-ended-requires-2 t) (fetch-same-length t) (fetch-returns-2 t) (fetch-sub-execute t) (fetch-execute-requires t) (fetch-same-length-2 t) (fetch-same-length-3 t) (fetch-same-length-4 t) (fetch-same-length-5 t) (fetch-returns-3 t))
+    (λ t. execute-lts.spec (step-reads.Asked, step-reads.Learnt, counted-reads.Asked, counted-reads.Learnt, failed-reads.Asked, failed-reads.Learnt, fetch-below t, fetch.Post, ended-reads.Asked, ended-reads.Learnt) (execute-at t) execute.Post
+    (execute-cast-step t) (execute-step-requires t) (execute-counted-requires t) (execute-enum-known-answer t) (execute-failed-requires t) (execute-enum-told t) (execute-fetch-requires t) (execute-ended-requires t) (execute-same-length t) (execute-same-length-2 t) (execute-same-length-3 t) (execute-same-length-4 t) (execute-returns t) (execute-same-length-5 t) (execute-same-length-6 t) (execute-same-length-7 t) (execute-same-length-8 t) (execute-returns-2 t) (execute-same-length-9 t) (execute-same-length-10 t) (execute-same-length-11 t) (execute-same-length-12 t) (execute-returns-3 t))
+    (λ t. fetch-lts.spec (ended-reads.Asked, ended-reads.Learnt, holds-block-reads.Asked, holds-block-reads.Learnt, execute-below t, execute.Post) (fetch-at t) fetch.Post
+    (fetch-ended-requires t) (fetch-returns t) (fetch-holds-block-requires t) (fetch-ended-requires-2 t) (fetch-same-length t) (fetch-returns-2 t) (fetch-sub-execute t) (fetch-execute-requires t) (fetch-same-length-2 t) (fetch-same-length-3 t) (fetch-same-length-4 t) (fetch-same-length-5 t) (fetch-returns-3 t))

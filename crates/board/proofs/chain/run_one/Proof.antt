@@ -8,17 +8,17 @@ use Rattle.board.proofs.chain.run_one.Tie as tie
 use Rattle.board.proofs.chain.run_one.Reads as reads
 use Rattle.board.proofs.chain.run_one.Lts as lts
 use Rattle.board.proofs.chain.step.Reads as step-reads
-use Rattle.wire.proofs.holds.Reads as holds-reads
+use Rattle.board.proofs.chain.holds_block.Reads as holds-block-reads
 
-holds-requires : tie.Need-holds-requires
-holds-requires c κs = search needs
+holds-block-requires : tie.Need-holds-block-requires
+holds-block-requires c κs = search needs
 
 same-length : tie.Need-same-length
 same-length c = search needs
 
 returns : tie.Need-returns
 returns c =
-    let held = c .before .holds in
+    let held = c .before .holds-block in
     (λ f. denied (held .result) _ (c .if1 .taken) (held .ensures) (f .place), refl)
 
 mul-if2 : tie.Need-mul-if2
@@ -35,7 +35,7 @@ returns-2 c = search needs
 
 step-requires : tie.Need-step-requires
 step-requires c κs =
-    let held = c .before .before .before .before .before .before .holds in
+    let held = c .before .before .before .before .before .before .holds-block in
     let place = granted (held .result) _ (c .before .before .before .before .before .if1 .left) (held .ensures) in
     record { block = place .inside; entry = omega arith }
 
@@ -53,14 +53,14 @@ same-length-6 c = search needs
 
 returns-3 : tie.Need-returns-3
 returns-3 c =
-    let held = c .before .before .before .before .before .before .before .before .before .before .before .before .before .before .before .holds in
+    let held = c .before .before .before .before .before .before .before .before .before .before .before .before .before .before .before .holds-block in
     (record { place = granted (held .result) _ (c .before .before .before .before .before .before .before .before .before .before .before .before .before .before .if1 .left) (held .ensures); entry = omega (arith, c .before .before .before .before .before .before .before .before .before .before .before .before .before .if2 .left) }, c .before .before .before .before .before .before .before .before .step .ensures)
 
 pub run-one-spec : {M : Type 1} → statement M
 run-one-spec =
     tie.close
     (tie.spec
-    holds-requires
+    holds-block-requires
     same-length
     returns
     mul-if2

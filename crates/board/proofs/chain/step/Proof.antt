@@ -1,4 +1,5 @@
--- The unit that the request names chooses the drive; what the block does there is its effect on the world.
+-- The unit of the block's request chooses the drive.
+-- What the block does there is its effect on the world.
 use Rattle.request.specs.declared.UnitNumber.{UnitNumber}
 use Rattle.block.specs.Steps.{three}
 use Rattle.board.specs.Lent.{worldOf}
@@ -10,8 +11,8 @@ use Rattle.board.proofs.chain.step.Tie as tie
 read-requires : tie.Need-read-requires
 read-requires c κs = search needs
 
-request-requires : tie.Need-request-requires
-request-requires c κs = search needs
+unit-requires : tie.Need-unit-requires
+unit-requires c κs = search needs
 
 enum-told : tie.Need-enum-told
 enum-told c = search needs
@@ -36,11 +37,11 @@ same-length-3 c = search needs
 
 returns : tie.Need-returns
 returns c =
-    let a = c .before .before .before .before .before .before .before .before .before .before .before .before .before .before .before .before .before .before .before .before .before .before .before .before .args in
+    let a = c .before .before .before .before .before .before .before .before .before .before .before .before .before .before .before .before .before .before .before .before .before .before .before .args in
     let done = c .before .before .before .before .before .before .before .run-block in
     step-by (worldOf (a .host .now) (a .image0 .now) (a .image1 .now) (a .events .now) (a .units)) (a .at) (a .i) _ _ UnitNumber.Zero
-    (c .before .before .before .before .before .before .before .before .before .before .before .before .before .before .before .before .before .before .read .ensures)
-    (c .before .before .before .before .before .before .before .before .before .before .before .before .before .request .ensures)
+    (c .before .before .before .before .before .before .before .before .before .before .before .before .before .before .before .before .before .read .ensures)
+    (c .before .before .before .before .before .before .before .before .before .before .before .before .before .unit .ensures)
     (c .before .before .before .before .before .before .before .before .before .before .before .enum-told .given .1)
     (three (done .last .0) (done .last .1 .0) (done .last .1 .1 .0)) (done .result) _ (done .ensures)
 
@@ -55,11 +56,11 @@ same-length-6 c = search needs
 
 returns-2 : tie.Need-returns-2
 returns-2 c =
-    let a = c .before .before .before .before .before .before .before .before .before .before .before .before .before .before .before .before .before .before .before .before .before .before .before .before .args in
+    let a = c .before .before .before .before .before .before .before .before .before .before .before .before .before .before .before .before .before .before .before .before .before .before .before .args in
     let done = c .before .before .before .before .before .before .before .run-block2 in
     step-by (worldOf (a .host .now) (a .image0 .now) (a .image1 .now) (a .events .now) (a .units)) (a .at) (a .i) _ _ UnitNumber.One
-    (c .before .before .before .before .before .before .before .before .before .before .before .before .before .before .before .before .before .before .read .ensures)
-    (c .before .before .before .before .before .before .before .before .before .before .before .before .before .request .ensures)
+    (c .before .before .before .before .before .before .before .before .before .before .before .before .before .before .before .before .before .read .ensures)
+    (c .before .before .before .before .before .before .before .before .before .before .before .before .before .unit .ensures)
     (c .before .before .before .before .before .before .before .before .before .before .before .enum-told2 .given .1)
     (three (done .last .0) (done .last .1 .0) (done .last .1 .1 .0)) (done .result) _ (done .ensures)
 
@@ -68,7 +69,7 @@ step-spec =
     tie.close
     (tie.spec
     read-requires
-    request-requires
+    unit-requires
     enum-told
     run-block-requires
     enum-told-2

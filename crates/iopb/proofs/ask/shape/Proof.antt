@@ -10,24 +10,24 @@ use Rattle.iopb.proofs.Answers.{shapeAt-inside, shapeAt-outside}
 use Rattle.iopb.proofs.ask.shape.Statement.{statement}
 use Rattle.iopb.proofs.ask.shape.Tie as tie
 
-holds-requires : tie.Need-holds-requires
-holds-requires c κs = search needs
+holds-uib-requires : tie.Need-holds-uib-requires
+holds-uib-requires c κs = search needs
 
 returns : tie.Need-returns
 returns c =
-    let h = c .before .holds in
+    let h = c .before .holds-uib in
     sym (shapeAt-outside _ _ (denied (h .result) _ (c .if1 .taken) (h .ensures)))
 
 uib-requires : tie.Need-uib-requires
 uib-requires c κs =
-    let h = c .before .holds in
+    let h = c .before .holds-uib in
     let place = granted (h .result) (InMemory _ _ _) (c .if1 .left) (h .ensures) in
     omega (arith, place .inside)
 
 returns-2 : tie.Need-returns-2
 returns-2 c =
-    let h = c .before .before .holds in
+    let h = c .before .before .holds-uib in
     ap Shape.Given (c .uib .ensures) ∙ sym (shapeAt-inside _ _ (granted (h .result) _ (c .before .if1 .left) (h .ensures)))
 
 pub shape-spec : {M : Type 1} → statement M
-shape-spec = tie.close (tie.spec holds-requires returns uib-requires returns-2)
+shape-spec = tie.close (tie.spec holds-uib-requires returns uib-requires returns-2)

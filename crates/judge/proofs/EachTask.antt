@@ -1,0 +1,155 @@
+-- Whatever is shown by going through the tasks one by one: a task more is a line in each, here and in no other file.
+-- What they have in common stands beside them (Buffers, Known), and what follows for every task above (Table, Locality, LetThrough).
+use Prim.Native.Nat.{ℕ, _+_, _*_, _≤_, _<_}
+use mathlib.Core.List.{List, [], _∷_, _++_}
+use mathlib.Core.Path.{_≡_, refl}
+use native.Mathlib.Omega.{arith}
+use lib.Dec.{T}
+use lib.ListN.{getD, length}
+use Rattle.geometry.specs.Drive.{B}
+use Rattle.geometry.specs.Sectors.{address, onDrive?}
+use Rattle.geometry.proofs.Decided.{within?}
+use Rattle.memory.specs.Lists.{ListGood}
+use Rattle.request.specs.declared.Buffer.{Buffer}
+use Rattle.request.specs.declared.Buffer.the-variants.{Piece, List as Elements}
+use Rattle.request.specs.declared.Shape.the-variants.{Misplaced, Given as Uib}
+use Rattle.request.specs.declared.Task.{Task}
+use Rattle.request.specs.declared.Task.the-variants.{Unknown, Move as Moves, Handshake, Initialize, Restore, Seek, Format}
+use Rattle.unit.specs.Landing.{spotOf}
+use Rattle.unit.specs.Standing.{UnitRecord, geometry}
+use Rattle.unit.proofs.Decided.{counts?}
+use Rattle.unit.proofs.Laws.{track-inside, track-whole}
+use Rattle.wire.specs.Memory.{inMemory?}
+use Rattle.judge.specs.declared.Leaving.{Leaving}
+use Rattle.judge.specs.Asks.{beforeBuffer, bytesOf, firstChecks, found, imageShort, jobOf, notInitialized, ofBuffer, ownChecks, planOf, trackOutside, unlisted}
+use Rattle.judge.specs.Checks.{Check, None, answersOf}
+use Rattle.judge.specs.Decided.{covers?}
+use Rattle.judge.specs.Fits.{SpanGood}
+use Rattle.judge.specs.Given.{Asked, beginsAt}
+use Rattle.judge.specs.Reads.{InList}
+use Rattle.judge.specs.Table.{inOrder, keepsOrder, rows}
+use Rattle.judge.specs.Verdict.{verdict}
+use Rattle.judge.proofs.Known.{Accepted, covered, good-buffer, heads-only, seek-inside, so}
+use Rattle.judge.proofs.Buffers.{after-the-same, before-list, on, same-buffer, same-range}
+use Rattle.judge.proofs.First.{none-of-all}
+
+-- ---- what is asked first, and in which order
+
+-- A listed command passes what all are asked first.
+pub passes-first : (a : Asked) → (T (unlisted (a .task)) → ⊥) → None (firstChecks a)
+unfolding None
+passes-first a listed = (listed, tt)
+
+-- Every list of checks keeps the order of the paper's rows.
+pub asked-in-order : (a : Asked) (t : Task) → T (keepsOrder (answersOf (firstChecks a ++ ownChecks a t)) (inOrder rows))
+asked-in-order a t = by-task t
+  where
+    InOrder : List Check → Type 0
+    InOrder ks = T (keepsOrder (answersOf ks) (inOrder rows))
+
+    with-buffer : (ks : List Check) (b : Buffer) (n : ℕ) → ((x y : ℕ) → InOrder (ks ++ ofBuffer a (Piece x) n)) → ((x y : ℕ) → InOrder (ks ++ ofBuffer a (Elements x y) n)) → InOrder (ks ++ ofBuffer a b n)
+    with-buffer ks (Piece x) n piece list = piece x 0
+    with-buffer ks (Elements x y) n piece list = list x y
+
+    by-task : (t : Task) → InOrder (firstChecks a ++ ownChecks a t)
+    by-task Unknown = tt
+    by-task (Moves m) = with-buffer (firstChecks a ++ beforeBuffer a m) (m .buffer) (bytesOf a m) (λ x y. tt) (λ x y. tt)
+    by-task Handshake = tt
+    by-task (Initialize s) = tt
+    by-task Restore = tt
+    by-task (Seek t) = tt
+    by-task (Format k) = tt
+
+-- ---- the same in two memories
+
+module _ (u : UnitRecord) (image : ℕ) (h k : List ℕ) (long : length h ≡ length k) where
+  pub verdict-local : (t : Task) → ((i : ℕ) → InList (on u image t h) i → getD h i 0 ≡ getD k i 0) → verdict (on u image t h) ≡ verdict (on u image t k)
+  unfolding verdict
+  verdict-local Unknown alike = refl
+  verdict-local (Moves m) alike =
+      let a = on u image (Moves m) h in
+      after-the-same (firstChecks a ++ beforeBuffer a m) (ofBuffer a (m .buffer) (bytesOf a m))
+      (ofBuffer (on u image (Moves m) k) (m .buffer) (bytesOf a m)) (planOf u (Moves m))
+      (λ passed. same-buffer u image h k long m alike passed (m .buffer) refl (bytesOf a m) (planOf u (Moves m)))
+  verdict-local Handshake alike = refl
+  verdict-local (Initialize s) alike = refl
+  verdict-local Restore alike = refl
+  verdict-local (Seek t) alike = refl
+  verdict-local (Format x) alike =
+      let a = on u image (Format x) h in
+      after-the-same (firstChecks a ++ notInitialized a ∷ trackOutside a x ∷ imageShort a ∷ []) _ _ (planOf u (Format x))
+      (λ passed. same-range u image h k long (Format x) (x .buffer) (B (geometry u)) (planOf u (Format x)))
+
+-- ---- what its plan is known to be
+
+module _ (u : UnitRecord) (image : ℕ) (host : List ℕ) where
+  pub accepted : (t : Task) → None (firstChecks (on u image t host)) → None (ownChecks (on u image t host) t) → Accepted (on u image t host) (planOf u t)
+  unfolding None
+  accepted Unknown (listed, rest) none = absurd (listed tt)
+  accepted (Moves m) first (initialized, (present, (some-sectors, (inside, (long, buffer))))) =
+      let a = on u image (Moves m) host in
+      let begin = beginsAt u (m .target) in
+      let some : 0 < m .count = omega arith in
+      let span : SpanGood u (jobOf m (found begin) .span) =
+      record {
+        some = some;
+        inside = covered u image host (m .target .volume) begin (m .count) some (so (covers? u (m .target .volume) begin (m .count)) inside);
+      } in
+      let good = good-buffer u image host a (m .buffer) (bytesOf a m) buffer in
+      record {
+        fits =
+            record {
+              moving = record { span = span; long = omega arith; buffer = good };
+              leaving = (so (counts? u) initialized, span);
+            };
+        mover = (m, (refl, refl));
+        report = tt;
+        quiet = refl;
+        list = λ at n x is among.
+            let l : ListGood host at n (bytesOf a m) = (rw is at good) .0 in
+            record {
+              move = m;
+              asks = refl;
+              at = at;
+              elements = n;
+              buffer = is;
+              passed =
+                  before-list a m at n refl is
+                  (none-of-all (firstChecks a) (beforeBuffer a m) first
+                  (initialized, (present, (some-sectors, (inside, (long, tt))))));
+              some = l .some;
+              most = l .most;
+              place = l .place;
+              among = among;
+            };
+      }
+  accepted Handshake first none = record { fits = record { moving = tt; leaving = tt }; mover = tt; report = refl; quiet = tt; list = tt }
+  accepted (Initialize Misplaced) first (placed, rest) = absurd (placed tt)
+  accepted (Initialize (Uib g)) first (placed, (within, rest)) = heads-only u image host _ (Leaving.Fresh g) (so (within? g) within)
+  accepted Restore first (initialized, rest) =
+      let counts = so (counts? u) initialized in
+      heads-only u image host _ (Leaving.HeadsAt 0) (counts, omega (arith, counts .within .sizes .cylinders))
+  accepted (Seek t) first (initialized, (present, (inside, rest))) =
+      let begin = beginsAt u t in
+      heads-only u image host _ (Leaving.HeadsAt (spotOf u (t .volume) (found begin) .cylinder))
+      (so (counts? u) initialized, seek-inside u image host (t .volume) begin (so (covers? u (t .volume) begin 1) inside))
+  accepted (Format k) first (initialized, (inside, (long, (held, rest)))) =
+      let counts = so (counts? u) initialized in
+      let on = so (onDrive? (geometry u) (address (k .cylinder) (k .head) 0)) inside in
+      record {
+        fits =
+            record {
+              moving =
+                  record {
+                    some = counts .within .sizes .sectors .0;
+                    track = omega (arith, track-inside u (k .cylinder) (k .head) on, track-whole u (k .cylinder) (k .head));
+                    long = omega arith;
+                    buffer = so (inMemory? host (k .buffer) (B (geometry u))) held;
+                  };
+              leaving = (counts, on .cylinder);
+            };
+        mover = (k, refl);
+        report = tt;
+        quiet = tt;
+        list = tt;
+      }
