@@ -1,9 +1,9 @@
 -- The ends of the volumes, and the limits told by them: what a program compares is an end, what the limits say is of heads.
 -- A volume that is present ends at start head plus heads and one that is absent at 0, and two intervals share no head where one ends before the other starts.
 use Prim.Native.Nat.{ℕ, _+_, _≤_, _<_, max}
-use mathlib.Core.Logic.{_⊎_, inl, inr, ⊎-elim, if-pos, if-neg}
+use mathlib.Core.Logic.{_⊎_, inl, inr, ⊎-elim, by-cases, if-pos, if-neg}
 use mathlib.Core.Path.{_≡_, sym, _∙_}
-use native.Mathlib.Decide.{decLt}
+use native.Mathlib.Decide.{decLe, decLt}
 use native.Mathlib.Nat.{eq-zero-or-pos}
 use native.Mathlib.Omega.{arith}
 use Rattle.geometry.specs.declared.Geometry.{Geometry}
@@ -74,3 +74,9 @@ module _ (g : Geometry) where
       let e0 = ended v0 (omega arith) in
       let e1 = ended v1 (omega arith) in
       w .apart (e1 .0) (max (start v0) (start v1)) (omega arith) (omega arith)
+
+  -- So one of two volumes inside the limits ends before the other starts.
+  pub aside-of-within : VolumesWithin g → (end v1 ≤ start v0) ⊎ (end v0 ≤ start v1)
+  aside-of-within w =
+      by-cases (decLe (end v1) (start v0)) (λ aside. inl aside)
+      (λ in1. by-cases (decLe (end v0) (start v1)) (λ aside. inr aside) (λ in0. absurd (not-aside w (omega arith) (omega arith))))

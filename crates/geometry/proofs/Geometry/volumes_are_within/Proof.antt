@@ -1,56 +1,42 @@
--- The ends that the calls gave tell the limits: Ends has each case.
--- The last test decides between two volumes that stand aside and two that share the higher start head.
-use mathlib.Core.Logic.{inl, inr}
+-- Volume 0 has a head, the ends are low and the volumes are apart: Ends makes the limits of these, and takes them from the limits.
+-- A part that is denied denies the whole; where the first two are granted, the third's answer is the whole answer.
 use native.Mathlib.Omega.{arith}
 use borrow.Author.Needs.{needs}
-use Rattle.wire.proofs.Promises.{says-leb}
-use Rattle.geometry.specs.Limits.{VolumesWithin}
+use Rattle.wire.proofs.Promises.{denied, granted, says-same}
+use Rattle.geometry.specs.Limits.{Present, VolumesWithin}
 use Rattle.geometry.specs.declared.VolumeNumber.the-variants.{Zero, One}
-use Rattle.geometry.proofs.Ends.{low-of-within, not-aside, some-of-within, within-of-ends}
+use Rattle.geometry.proofs.Ends.{aside-of-within, end-present, low-of-within, within-of-ends}
 use Rattle.geometry.proofs.Geometry.volumes_are_within.Statement.{statement}
 use Rattle.geometry.proofs.Geometry.volumes_are_within.Tie as tie
 
-end-requires : tie.Need-end-requires
-end-requires c κs = search needs
-
-end-requires-2 : tie.Need-end-requires-2
-end-requires-2 c κs = search needs
-
 returns : tie.Need-returns
-returns c = λ w. omega (arith, some-of-within (c .before .before .before .args .self) w)
+unfolding Present
+returns c = λ w. omega (arith, w .one-head)
+
+ends-are-within-requires : tie.Need-ends-are-within-requires
+ends-are-within-requires c κs = search needs
 
 returns-2 : tie.Need-returns-2
-returns-2 c = λ w. omega (arith, low-of-within (c .before .before .before .before .args .self) w Zero)
+returns-2 c =
+    let g = c .before .before .before .before .args .self in
+    let ends = c .before .ends-are-within in
+    λ w. denied (ends .result) _ (c .if2 .taken) (ends .ensures) (low-of-within g w Zero, low-of-within g w One)
+
+volumes-are-apart-requires : tie.Need-volumes-are-apart-requires
+volumes-are-apart-requires c κs = search needs
 
 returns-3 : tie.Need-returns-3
-returns-3 c = λ w. omega (arith, low-of-within (c .before .before .before .before .before .args .self) w One)
-
-cast-if4 : tie.Need-cast-if4
-cast-if4 c = search needs
-
-returns-4 : tie.Need-returns-4
-returns-4 c = within-of-ends (c .before .before .before .before .before .before .before .args .self) (omega arith) (omega arith) (omega arith) (inl (omega arith))
-
-cast-result : tie.Need-cast-result
-cast-result c = search needs
-
-returns-5 : tie.Need-returns-5
-returns-5 c =
-    let g = (c .before .before .before .before .before .before .before .before .args .self) in
-    says-leb (c .before .before .before .before .before .before .before .end .result) (g .volume1 .«start_head») (VolumesWithin g)
-    (λ aside. within-of-ends g (omega arith) (omega arith) (omega arith) (inr (omega arith)))
-    (λ over w. not-aside g w (omega arith) (omega arith))
+returns-3 c =
+    let g = c .before .before .before .before .before .args .self in
+    let ends = c .before .before .ends-are-within in
+    let low = granted (ends .result) _ (c .before .if2 .left) (ends .ensures) in
+    let some = end-present (g .volume0) (omega arith) in
+    says-same (c .volumes-are-apart .result) _ (VolumesWithin g)
+    (λ aside. within-of-ends g (omega arith) (low .0) (low .1) aside)
+    (λ w. aside-of-within g w)
+    (c .volumes-are-apart .ensures)
 
 pub volumes-are-within-spec : {M : Type 1} → statement M
 volumes-are-within-spec =
     tie.close
-    (tie.spec
-    end-requires
-    end-requires-2
-    returns
-    returns-2
-    returns-3
-    cast-if4
-    returns-4
-    cast-result
-    returns-5)
+    (tie.spec returns ends-are-within-requires returns-2 volumes-are-apart-requires returns-3)
