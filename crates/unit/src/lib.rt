@@ -9,6 +9,8 @@ use geometry::Place;
 use geometry::Volume;
 use geometry::VolumeNumber;
 ghost use mathlib.Core.Path.{_≡_};
+ghost use Prim.Native.Nat.{_<_};
+ghost use Rattle.geometry.specs.Drive.{C};
 ghost use Rattle.unit.specs.Landing.{landing, landingAt, numberOn, trackLanding};
 ghost use Rattle.unit.specs.Standing.{CountsAsInitialized, blank, cylinder, fresh, geometry, initialized, movedTo, recordOf};
 ghost use Rattle.wire.specs.Promise.{Says};
@@ -130,6 +132,13 @@ impl Record {
         if !self.geometry.is_within() {
             return false;
         }
+        self.heads_are_on_the_drive()
+    }
+
+    // Whether the heads stand on a cylinder that the drive has.
+    fn heads_are_on_the_drive(self) -> bool
+        ensures { λ r. ⌜ Says r (cylinder self < C (geometry self)) ⌝ }
+    {
         self.cylinder < self.geometry.cylinders()
     }
 
