@@ -10,6 +10,7 @@ ghost use lib.ListN.{length};
 ghost use Rattle.memory.specs.Lists.{GoodCount};
 ghost use Rattle.memory.specs.Pieces.{filled, piecesOf};
 ghost use Rattle.memory.specs.Scan.{Listing, Scanned};
+ghost use Rattle.wire.specs.Memory.{InMemory};
 ghost use Rattle.wire.specs.Promise.{Says};
 
 // What one pass over a list finds: whether every byte count is good, whether every range is, and the sum of the counts.
@@ -63,21 +64,37 @@ pub enum Listed {
     Good,
 }
 
-// The list's own place is tested before any of it is read.
+// The list's own number and place are tested before any of it is read.
 pub fn list(host: &[u8], at: u32, elements: u8, bytes: u64) -> Listed
     ensures { λ r. ⌜ Listing (now (host .entry)) at elements bytes r ⌝ }
 {
-    let n = elements as usize;
-    if n == 0 {
-        return Listed::Bad;
-    }
-    if 64 < n {
+    if !number_is_good(elements) {
         return Listed::Bad;
     }
     if !holds(host, at, 8 * (elements as u64)) {
         return Listed::Bad;
     }
-    let seen = scan(host, at as usize, n);
+    pass_over(host, at as usize, elements as usize, bytes)
+}
+
+fn number_is_good(elements: u8) -> bool
+    ensures { λ r. ⌜ Says r ((1 ≤ elements) × (elements ≤ 64)) ⌝ }
+{
+    if elements == 0 {
+        return false;
+    }
+    if 64 < elements {
+        return false;
+    }
+    true
+}
+
+// A list of a good number at a good place, by what one pass over it finds.
+fn pass_over(host: &[u8], at: usize, elements: usize, bytes: u64) -> Listed
+    requires { ⌜ (1 ≤ elements) × (elements ≤ 64) × InMemory (now host) at (8 * elements) ⌝ }
+    ensures { λ r. ⌜ Listing (now (host .entry)) at elements bytes r ⌝ }
+{
+    let seen = scan(host, at, elements);
     if !seen.counts {
         return Listed::Bad;
     }
