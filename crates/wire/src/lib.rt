@@ -65,15 +65,21 @@ pub fn copy(bytes: &[u8], from: usize, into: &mut [u8], to: usize, n: usize)
     }
 }
 
-// Whether so many bytes from an address on lie in host memory, from an even address on. Addresses have 32 bits and lengths are
-// the memory's: they are compared in 64 bits, by what is left, so that no sum is made that could be cut off.
+// Whether so many bytes from an address on lie in host memory, from an even address on.
 pub fn holds(host: &[u8], at: u32, bytes: u64) -> bool
     ensures { λ r. ⌜ Says r (InMemory (now (host .entry)) at bytes) ⌝ }
 {
-    let long = host.len() as u64;
     if at % 2 != 0 {
         return false;
     }
+    lies_inside(host.len() as u64, at, bytes)
+}
+
+// Addresses have 32 bits and lengths are the memory's: they are compared in 64 bits, by what is left, so that no sum is made
+// that could be cut off.
+fn lies_inside(long: u64, at: u32, bytes: u64) -> bool
+    ensures { λ r. ⌜ Says r (at + bytes ≤ long) ⌝ }
+{
     if long < bytes {
         return false;
     }
