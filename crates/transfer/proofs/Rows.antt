@@ -3,8 +3,9 @@
 use Prim.Native.Nat.{ℕ, _+_, _-_, _≤_, _<_, min}
 use mathlib.Core.Bool.{Bool, true, false, cond}
 use mathlib.Core.List.{List}
-use mathlib.Core.Logic.{if-neg, if-pos}
+use mathlib.Core.Logic.{by-cases, if-neg, if-pos}
 use mathlib.Core.Path.{_≡_, refl, sym, ap, _∙_}
+use native.Mathlib.Decide.{decLt}
 use native.Mathlib.Nat.{zero-add}
 use native.Mathlib.Omega.{arith}
 use borrow.Author.Tests.{ne-eqb}
@@ -17,8 +18,20 @@ use Rattle.geometry.specs.Drive.{driveSectors}
 use Rattle.geometry.specs.Sectors.{markByte}
 use Rattle.geometry.proofs.Laws.{bytes-inside, mark-inside, marks-consecutive}
 use Rattle.transfer.specs.Progress.{Fate, InImage, fateAt, inImage?, moves, stops}
-use Rattle.transfer.specs.Runs.{Readable, inARow}
+use Rattle.transfer.specs.Runs.{Readable, inARow, rowOf}
 use Rattle.transfer.proofs.Progress.{all-move, stops-at}
+
+-- What a row comes to, by its tests.
+module _ (good there n : ℕ) where
+  pub unreadable-of : good < there → rowOf good there n ≡ record { sectors = good; answer = BlockAnswer.Failed Refusal.Unreadable }
+  unreadable-of less = if-pos (decLt good there) less _ _
+
+  pub past-of :
+      there ≤ good → there < n → rowOf good there n ≡ record { sectors = there; answer = BlockAnswer.Failed Refusal.PastTheImage }
+  past-of clear less = if-neg (decLt good there) (λ h. omega arith) _ _ ∙ if-pos (decLt there n) less _ _
+
+  pub whole-of : there ≤ good → n ≤ there → rowOf good there n ≡ record { sectors = n; answer = BlockAnswer.Ended }
+  whole-of clear whole = if-neg (decLt good there) (λ h. omega arith) _ _ ∙ if-neg (decLt there n) (λ h. omega arith) _ _
 
 module _
     (image : List ℕ) (g : Geometry) (heeds : Bool) (place n : ℕ) (inside : place + n ≤ driveSectors g)
@@ -64,20 +77,25 @@ module _
     all-before : (i : ℕ) → i < r → fate (0 + i) ≡ moves
     all-before i h = rw zero-add (moved i (omega (arith, found .most)) (omega (arith, found .most)) (found .good i h))
 
-    pub row-unreadable :
-        r < fit → inARow image g heeds place n ≡ record { sectors = r; answer = BlockAnswer.Failed Refusal.Unreadable }
+    row-unreadable : r < fit → inARow image g heeds place n ≡ rowOf r fit n
     row-unreadable less =
         let stop = found .ends less in
-        rw zero-add at
+        (rw zero-add at
         (stops-at fate 0 r n Refusal.Unreadable (omega arith) all-before
-        (rw zero-add (unreadable r (omega arith) (omega arith) (stop .0) (stop .1))))
+        (rw zero-add (unreadable r (omega arith) (omega arith) (stop .0) (stop .1)))))
+        ∙ sym (unreadable-of r fit n less)
 
-    pub row-past :
-        fit ≤ r → fit < n →
-        inARow image g heeds place n ≡ record { sectors = fit; answer = BlockAnswer.Failed Refusal.PastTheImage }
+    row-past : fit ≤ r → fit < n → inARow image g heeds place n ≡ rowOf r fit n
     row-past clear less =
-        rw zero-add at
-        (stops-at fate 0 fit n Refusal.PastTheImage less (λ i h. all-before i (omega arith)) (rw zero-add (past fit (omega arith))))
+        (rw zero-add at
+        (stops-at fate 0 fit n Refusal.PastTheImage less (λ i h. all-before i (omega arith)) (rw zero-add (past fit (omega arith)))))
+        ∙ sym (past-of r fit n clear less)
 
-    pub row-whole : fit ≤ r → n ≤ fit → inARow image g heeds place n ≡ record { sectors = n; answer = BlockAnswer.Ended }
-    row-whole clear whole = rw zero-add at (all-move fate 0 n (λ i h. all-before i (omega arith)))
+    row-whole : fit ≤ r → n ≤ fit → inARow image g heeds place n ≡ rowOf r fit n
+    row-whole clear whole =
+        (rw zero-add at (all-move fate 0 n (λ i h. all-before i (omega arith)))) ∙ sym (whole-of r fit n clear whole)
+
+    pub row-comes : inARow image g heeds place n ≡ rowOf r fit n
+    row-comes =
+        by-cases (decLt r fit) row-unreadable
+        (λ clear. by-cases (decLt fit n) (row-past (omega arith)) (λ whole. row-whole (omega arith) (omega arith)))

@@ -2,8 +2,12 @@
 use Prim.Native.Nat.{ℕ, _+_, _-_, _*_, _%_, _^_, _≤_, _<_}
 use mathlib.Core.Bool.{Bool, true, false}
 use mathlib.Core.List.{List, []}
+use mathlib.Core.Logic.{ite}
 use mathlib.Core.Path.{_≡_}
+use native.Mathlib.Decide.{decLt}
 use lib.ListN.{getD, length}
+use Rattle.answers.specs.declared.BlockAnswer.{BlockAnswer}
+use Rattle.answers.specs.declared.Refusal.{Refusal}
 use Rattle.geometry.specs.declared.Geometry.{Geometry}
 use Rattle.geometry.specs.declared.VolumeNumber.{VolumeNumber}
 use Rattle.geometry.specs.Drive.{B, volumeSectors}
@@ -33,6 +37,14 @@ pub record Readable (heeds : Bool) (image : List ℕ) (at n r : ℕ) : Type 0 wh
 -- How far n sectors in a row come.
 abbrev pub inARow : List ℕ → Geometry → Bool → ℕ → ℕ → Progress
 inARow image g heeds place n = progress (λ j. fateAt image g heeds (place + j)) 0 n
+
+-- What n sectors in a row come to, where so many of their marks are in the image and so many of these are good: a mark may stop
+-- them; otherwise the image's end may; otherwise they come to their own end.
+abbrev pub rowOf : (good there n : ℕ) → Progress
+rowOf good there n =
+    ite (decLt good there) (record { sectors = good; answer = BlockAnswer.Failed Refusal.Unreadable })
+    (ite (decLt there n) (record { sectors = there; answer = BlockAnswer.Failed Refusal.PastTheImage })
+    (record { sectors = n; answer = BlockAnswer.Ended }))
 
 -- How far n sectors from a number of a volume on come.
 abbrev pub progressFrom : List ℕ → UnitRecord → VolumeNumber → Bool → ℕ → ℕ → Progress

@@ -3,15 +3,16 @@
 // It changes no mark and no byte after the marks, and nothing at all where a request does not fit.
 use answers::BlockAnswer;
 use answers::Refusal;
+use geometry::Geometry;
 use geometry::Sector;
 use unit::Record;
 use unit::Span;
 use unit::Spot;
 ghost use mathlib.Core.Bool.{_&&_, not};
 ghost use mathlib.Core.Path.{_≡_};
-ghost use Prim.Native.Nat.{_-_, _^_, _<_};
+ghost use Prim.Native.Nat.{_+_, _-_, _^_, _≤_, _<_};
 ghost use lib.ListN.{length};
-ghost use Rattle.geometry.specs.Drive.{volumeSectors};
+ghost use Rattle.geometry.specs.Drive.{S, driveSectors, volumeSectors};
 ghost use Rattle.transfer.specs.Runs.{PiecesFit, lent};
 ghost use Rattle.transfer.specs.Stores.{after};
 ghost use Rattle.transfer.specs.Whole.{SectorsFit, TrackFits, idle, sectorsResult, trackResult};
@@ -33,6 +34,12 @@ pub struct Moved {
     pub answer: BlockAnswer,
 }
 
+fn piece_fits(at: u32, bytes: u32, long: u64) -> bool
+    ensures { λ r. ⌜ Says r (at + bytes ≤ long) ⌝ }
+{
+    (at as u64) + (bytes as u64) <= long
+}
+
 // Whether pieces lie in a host memory of so many bytes, and have so many bytes together. What is left to be had is counted
 // down, so that no sum can wrap.
 fn pieces_fit(lengths: &[u32], addresses: &[u32], long: u64, bytes: u64) -> bool
@@ -42,11 +49,11 @@ fn pieces_fit(lengths: &[u32], addresses: &[u32], long: u64, bytes: u64) -> bool
     let mut left = bytes;
     let mut i = 0;
     while i < lengths.len() {
-        let n = lengths[i] as u64;
-        if long < (addresses[i] as u64) + n {
+        let n = lengths[i];
+        if !piece_fits(addresses[i], n, long) {
             return false;
         }
-        left = less(left, n);
+        left = less(left, n as u64);
         i += 1;
     }
     left == 0
@@ -58,8 +65,9 @@ fn less(a: u64, b: u64) -> u64
     if a <= b { 0 } else { a - b }
 }
 
-fn sectors_fit(u: Record, span: Span, lengths: &[u32], addresses: &[u32], long: u64) -> bool
-    ensures says { λ r. ⌜ Says r (SectorsFit u span (now (lengths .entry)) (now (addresses .entry)) long) ⌝ }
+// Whether a span has sectors, and its volume has them.
+fn span_fits(u: Record, span: Span) -> bool
+    ensures says { λ r. ⌜ Says r ((0 < span .count) × (span .first + span .count ≤ volumeSectors (geometry u) (span .volume))) ⌝ }
     ensures small { λ _. ⌜ volumeSectors (geometry u) (span .volume) < 2 ^ 64 ⌝ }
 {
     let volume = span.volume;
@@ -70,7 +78,14 @@ fn sectors_fit(u: Record, span: Span, lengths: &[u32], addresses: &[u32], long: 
     if sectors < (span.count as u64) {
         return false;
     }
-    if sectors - (span.count as u64) < span.first {
+    span.first <= sectors - (span.count as u64)
+}
+
+fn sectors_fit(u: Record, span: Span, lengths: &[u32], addresses: &[u32], long: u64) -> bool
+    ensures says { λ r. ⌜ Says r (SectorsFit u span (now (lengths .entry)) (now (addresses .entry)) long) ⌝ }
+    ensures small { λ _. ⌜ volumeSectors (geometry u) (span .volume) < 2 ^ 64 ⌝ }
+{
+    if !span_fits(u, span) {
         return false;
     }
     if addresses.len() != lengths.len() {
@@ -95,6 +110,17 @@ fn heeds(to_host: bool, past_marks: bool) -> bool
     if to_host { !past_marks } else { false }
 }
 
+fn first_sectors(span: Span, count: u16) -> Span
+    ensures { λ r. ⌜ r ≡ record { volume = span .volume; first = span .first; count = count } ⌝ }
+{
+    let volume = span.volume;
+    Span {
+        volume,
+        first: span.first,
+        count,
+    }
+}
+
 // Moves the sectors of a span to pieces of host memory, or from them. To host memory it stops at a mark that is not 0, unless it
 // goes past the marks.
 pub fn move_sectors(
@@ -114,20 +140,15 @@ pub fn move_sectors(
         return idle();
     }
     let moved = survey(image, u, span, heeds(to_host, past_marks));
-    let volume = span.volume;
-    let reached = Span {
-        volume,
-        first: span.first,
-        count: moved.sectors,
-    };
+    let reached = first_sectors(span, moved.sectors);
     carry(host, image, u, reached, to_host, lengths, addresses);
     moved
 }
 
-fn track_fits(u: Record, spot: Spot, at: u32, long: u64) -> bool
-    ensures { λ r. ⌜ Says r (TrackFits u spot at long) ⌝ }
+// Whether a track has sectors, and the drive has them all from a place on.
+fn on_drive(g: Geometry, place: u64) -> bool
+    ensures { λ r. ⌜ Says r ((0 < S g) × (place + S g ≤ driveSectors g)) ⌝ }
 {
-    let g = u.geometry();
     let sectors = g.sectors_a_track() as u64;
     let all = g.drive_sectors();
     if sectors == 0 {
@@ -136,7 +157,14 @@ fn track_fits(u: Record, spot: Spot, at: u32, long: u64) -> bool
     if all < sectors {
         return false;
     }
-    if all - sectors < spot.place {
+    place <= all - sectors
+}
+
+fn track_fits(u: Record, spot: Spot, at: u32, long: u64) -> bool
+    ensures { λ r. ⌜ Says r (TrackFits u spot at long) ⌝ }
+{
+    let g = u.geometry();
+    if !on_drive(g, spot.place) {
         return false;
     }
     (at as u64) + (g.bytes_a_sector() as u64) <= long

@@ -12,7 +12,7 @@ ghost use mathlib.Core.Path.{_≡_};
 ghost use Prim.Native.Nat.{_+_, _-_, _≤_, _<_, min};
 ghost use lib.ListN.{length};
 ghost use Rattle.geometry.specs.Drive.{driveSectors, volumeSectors};
-ghost use Rattle.transfer.specs.Runs.{Advanced, Readable, RunAt, Spans, inARow, progressFrom, reached};
+ghost use Rattle.transfer.specs.Runs.{Advanced, Readable, RunAt, Spans, inARow, progressFrom, reached, rowOf};
 ghost use Rattle.unit.specs.Standing.{geometry};
 
 // A run of sectors that follow one another in the image.
@@ -75,6 +75,28 @@ fn readable(image: &[u8], at: usize, n: usize, heeds: bool) -> usize
     n
 }
 
+// What n sectors in a row come to, where so many of their marks are in the image and so many of these let a transfer pass.
+fn came(good: u16, there: u16, n: u16) -> Moved
+    ensures { λ r. ⌜ r ≡ reached (rowOf good there n) ⌝ }
+{
+    if good < there {
+        return Moved {
+            sectors: good,
+            answer: BlockAnswer::Failed(Refusal::Unreadable),
+        };
+    }
+    if there < n {
+        return Moved {
+            sectors: there,
+            answer: BlockAnswer::Failed(Refusal::PastTheImage),
+        };
+    }
+    Moved {
+        sectors: n,
+        answer: BlockAnswer::Ended,
+    }
+}
+
 // How far a run comes. A sector whose mark is in the image is in the image too, since all marks stand after all sectors.
 pub(crate) fn reach(image: &[u8], g: Geometry, heeds: bool, place: u64, n: u16) -> Moved
     requires { ⌜ (0 < n) × (place + n ≤ driveSectors g) ⌝ }
@@ -88,22 +110,7 @@ pub(crate) fn reach(image: &[u8], g: Geometry, heeds: bool, place: u64, n: u16) 
     };
     let fit = fitting(image.len() as u64, mark, n);
     let sectors = readable(image, mark as usize, fit as usize, heeds) as u16;
-    if sectors < fit {
-        return Moved {
-            sectors,
-            answer: BlockAnswer::Failed(Refusal::Unreadable),
-        };
-    }
-    if fit < n {
-        return Moved {
-            sectors: fit,
-            answer: BlockAnswer::Failed(Refusal::PastTheImage),
-        };
-    }
-    Moved {
-        sectors: n,
-        answer: BlockAnswer::Ended,
-    }
+    came(sectors, fit, n)
 }
 
 // How far the run from a number on comes.

@@ -50,15 +50,19 @@ heeds-requires c κs = search needs
 survey-requires : tie.Need-survey-requires
 survey-requires c κs = spans (c .before .before)
 
+first-sectors-requires : tie.Need-first-sectors-requires
+first-sectors-requires c κs = search needs
+
 carry-requires : tie.Need-carry-requires
 carry-requires c κs =
-    let a = c .before .before .before .before .before .before .before .before .before .before .before .args in
-    let f = fits (c .before .before .before .before .before) in
-    rw (c .before .before .survey .ensures) (
-      reached-spans (a .image .now) (a .u) (a .span) (c .before .before .before .heeds .result) (spans (c .before .before .before .before .before)),
+    let a = c .before .before .before .before .before .before .before .before .before .before .before .before .args in
+    let heeds = c .before .before .before .before .heeds .result in
+    let fit = c .before .before .before .before .before .before in
+    rw (c .before .before .first-sectors .ensures, c .before .before .before .survey .ensures) (
+      reached-spans (a .image .now) (a .u) (a .span) heeds (spans fit),
       (
-        reached-held (a .image .now) (a .u) (a .span) (c .before .before .before .heeds .result),
-        reached-pieces (a .image .now) (a .u) (a .span) (c .before .before .before .heeds .result) (length (a .host .now)) (a .lengths .now) (a .addresses .now) (f .pieces),
+        reached-held (a .image .now) (a .u) (a .span) heeds,
+        reached-pieces (a .image .now) (a .u) (a .span) heeds (length (a .host .now)) (a .lengths .now) (a .addresses .now) (fits fit .pieces),
       ),
     )
 
@@ -71,12 +75,13 @@ same-length-2 c = search needs
 returns-2 : tie.Need-returns-2
 unfolding dataOn
 returns-2 c =
-    let surveyed = rw (c .before .before .before .before .before .before .before .before .heeds .ensures) at (c .before .before .before .before .before .before .before .survey .ensures) in
-    let a = c .before .before .before .before .before .before .before .before .before .before .before .before .before .before .before .before .args in
+    let surveyed = rw (c .before .before .before .before .before .before .before .before .before .heeds .ensures) at (c .before .before .before .before .before .before .before .before .survey .ensures) in
+    let first = c .before .before .before .before .before .before .before .first-sectors .ensures in
+    let a = c .before .before .before .before .before .before .before .before .before .before .before .before .before .before .before .before .before .args in
     rw
     (sectors-fit (length (a .host .now)) (a .image .now) (a .u) (a .span) (a .to-host) (a .past-marks) (a .lengths .now) (a .addresses .now)
-    (fits (c .before .before .before .before .before .before .before .before .before .before)))
-    (surveyed, rw surveyed at (c .before .before .before .before .carry .ensures))
+    (fits (c .before .before .before .before .before .before .before .before .before .before .before)))
+    (surveyed, rw (first, surveyed) at (c .before .before .before .before .carry .ensures))
 
 pub move-sectors-spec : {M : Type 1} → statement M
 move-sectors-spec =
@@ -87,6 +92,7 @@ move-sectors-spec =
     returns
     heeds-requires
     survey-requires
+    first-sectors-requires
     carry-requires
     same-length
     same-length-2

@@ -7,12 +7,9 @@ use native.Mathlib.Omega.{arith}
 use lib.ListN.{getD, length}
 use Rattle.transfer.specs.Pieces.{sum}
 use Rattle.wire.proofs.Decided.{all-more}
-use Rattle.wire.proofs.Promises.{says-eqb}
+use Rattle.wire.proofs.Promises.{denied, granted, says-eqb}
 use Rattle.transfer.proofs.pieces_fit.Statement.{statement}
 use Rattle.transfer.proofs.pieces_fit.Tie as tie
-use Rattle.transfer.proofs.pieces_fit.Reads as reads
-use Rattle.transfer.proofs.pieces_fit.Lts as lts
-use Rattle.transfer.proofs.less.Reads as less-reads
 
 abbrev Inv-loop : tie.InvT-loop
 Inv-loop lengths addresses long bytes left₀ i₀ left i =
@@ -32,23 +29,22 @@ mul-n c = omega arith
 shared-slice-read-n : tie.Need-shared-slice-read-n Inv-loop μ-loop
 shared-slice-read-n c = omega arith
 
-cast-n : tie.Need-cast-n Inv-loop μ-loop
-cast-n c = omega (arith, c .shared-slice-known3 .given (c .before .before .loop .i))
+mul-piece-fits : tie.Need-mul-piece-fits Inv-loop μ-loop
+mul-piece-fits c = omega arith
 
-mul-if1 : tie.Need-mul-if1 Inv-loop μ-loop
-mul-if1 c = omega arith
+shared-slice-read-piece-fits : tie.Need-shared-slice-read-piece-fits Inv-loop μ-loop
+shared-slice-read-piece-fits c = omega arith
 
-shared-slice-read-if1 : tie.Need-shared-slice-read-if1 Inv-loop μ-loop
-shared-slice-read-if1 c = omega arith
-
-cast-if1 : tie.Need-cast-if1 Inv-loop μ-loop
-cast-if1 c = omega (arith, c .shared-slice-known4 .given (c .before .before .before .loop .i))
-
-add-if1 : tie.Need-add-if1 Inv-loop μ-loop
-add-if1 c = omega (arith, c .shared-slice-known4 .given (c .before .before .before .loop .i), c .before .shared-slice-known3 .given (c .before .before .before .loop .i))
+piece-fits-requires : tie.Need-piece-fits-requires Inv-loop μ-loop
+piece-fits-requires c κs = tt
 
 returns : tie.Need-returns Inv-loop μ-loop
-returns c = λ f. omega (arith, f .inside (c .before .before .before .before .loop .i) (omega arith))
+returns c =
+    let now = c .before .before .before .before .before .loop in
+    λ f. denied (c .before .piece-fits .result) _ (c .if1 .taken) (c .before .piece-fits .ensures) (f .inside (now .i) (omega arith))
+
+cast-less : tie.Need-cast-less Inv-loop μ-loop
+cast-less c = omega (arith, c .before .before .before .shared-slice-known3 .given (c .before .before .before .before .before .loop .i))
 
 less-requires : tie.Need-less-requires Inv-loop μ-loop
 less-requires c κs = tt
@@ -62,9 +58,11 @@ loop-less c = omega arith
 loop-again : tie.Need-loop-again Inv-loop μ-loop
 unfolding sum
 loop-again c =
-    let now = c .before .before .before .before .before .loop in (
+    let piece = c .before .before .piece-fits in
+    let now = c .before .before .before .before .before .before .loop in
+    let fits = granted (piece .result) _ (c .before .if1 .left) (piece .ensures) in (
       omega arith,
-      (rw add-one (all-more _ (now .i) (now .inv .1 .0) (omega arith)), rw add-one (omega arith)),
+      (rw add-one (all-more _ (now .i) (now .inv .1 .0) fits), rw add-one (omega arith)),
     )
 
 returns-2 : tie.Need-returns-2 Inv-loop μ-loop
@@ -86,12 +84,11 @@ pieces-fit-spec =
     loop-holds
     mul-n
     shared-slice-read-n
-    cast-n
-    mul-if1
-    shared-slice-read-if1
-    cast-if1
-    add-if1
+    mul-piece-fits
+    shared-slice-read-piece-fits
+    piece-fits-requires
     returns
+    cast-less
     less-requires
     add-i
     loop-less

@@ -1,50 +1,26 @@
--- Each test refuses what the statement asks, and the last one decides what is left.
--- The track is compared by what the drive has left, so that nothing wraps.
+-- A track that is not on the drive is refused; for one that is, the bytes in host memory decide.
+-- What is asked of the geometry is the unit's.
 use Prim.Native.Nat.{_+_}
 use mathlib.Core.Path.{_≡_}
 use native.Mathlib.Omega.{arith}
-use Rattle.geometry.specs.Drive.{B, S, driveSectors}
-use Rattle.transfer.specs.Whole.{TrackFits}
-use Rattle.wire.proofs.Promises.{says-leb}
+use Rattle.geometry.specs.Drive.{B}
+use Rattle.wire.proofs.Promises.{denied, granted, says-leb}
 use borrow.Author.Needs.{needs}
 use Rattle.transfer.proofs.track_fits.Statement.{statement}
 use Rattle.transfer.proofs.track_fits.Tie as tie
-use Rattle.transfer.proofs.track_fits.Reads as reads
-use Rattle.transfer.proofs.track_fits.Lts as lts
-use Rattle.geometry.proofs.Geometry.bytes_a_sector.Reads as bytes-a-sector-reads
-use Rattle.geometry.proofs.Geometry.drive_sectors.Reads as drive-sectors-reads
-use Rattle.geometry.proofs.Geometry.sectors_a_track.Reads as sectors-a-track-reads
-use Rattle.unit.proofs.Record.geometry.Reads as geometry-reads
 use Rattle.unit.specs.Standing.{geometry}
 
 geometry-requires : tie.Need-geometry-requires
 geometry-requires c κs = search needs
 
-sectors-a-track-requires : tie.Need-sectors-a-track-requires
-sectors-a-track-requires c κs = search needs
-
-cast-sectors : tie.Need-cast-sectors
-cast-sectors c = search needs
-
-drive-sectors-requires : tie.Need-drive-sectors-requires
-drive-sectors-requires c κs = search needs
-
--- What was asked of the geometry is the unit's.
-sizes :
-    (c : tie.After-drive-sectors) →
-    (c .before .sectors-a-track .result ≡ S (geometry (c .before .before .before .args .u))) × (c .drive-sectors .result ≡ driveSectors (geometry (c .before .before .before .args .u)))
-sizes c =
-    let is = c .before .before .geometry .ensures in
-    (rw is at (c .before .sectors-a-track .ensures), rw is at (c .drive-sectors .ensures .0))
+on-drive-requires : tie.Need-on-drive-requires
+on-drive-requires c κs = search needs
 
 returns : tie.Need-returns
-returns c = λ f. omega (arith, f .some, sizes (c .before))
-
-returns-2 : tie.Need-returns-2
-returns-2 c = λ f. omega (arith, f .inside, sizes (c .before .before))
-
-returns-3 : tie.Need-returns-3
-returns-3 c = λ f. omega (arith, f .inside, sizes (c .before .before .before .before))
+returns c =
+    let there = c .before .on-drive in
+    λ f.
+    denied (there .result) _ (c .if1 .taken) (there .ensures) (rw (c .before .before .geometry .ensures) (f .some, f .inside))
 
 bytes-a-sector-requires : tie.Need-bytes-a-sector-requires
 bytes-a-sector-requires c κs = search needs
@@ -55,27 +31,25 @@ cast-result c = search needs
 add-result : tie.Need-add-result
 add-result c = search needs
 
-returns-4 : tie.Need-returns-4
-returns-4 c =
-    let all = sizes (c .before .before .before .before .before) in
-    let bytes : c .bytes-a-sector .result ≡ B (geometry (c .before .before .before .before .before .before .before .before .args .u)) =
-    rw (c .before .before .before .before .before .before .before .geometry .ensures) at (c .bytes-a-sector .ensures) in
-    says-leb (c .before .before .before .before .before .before .before .before .args .at + c .bytes-a-sector .result) (c .before .before .before .before .before .before .before .before .args .long) (TrackFits (c .before .before .before .before .before .before .before .before .args .u) (c .before .before .before .before .before .before .before .before .args .spot) (c .before .before .before .before .before .before .before .before .args .at) (c .before .before .before .before .before .before .before .before .args .long))
-    (λ fits. record { some = omega (arith, all); inside = omega (arith, all); memory = omega (arith, bytes) })
-    (λ over f. omega (arith, f .memory, bytes))
+returns-2 : tie.Need-returns-2
+returns-2 c =
+    let a = c .before .before .before .before .args in
+    let is = c .before .before .before .geometry .ensures in
+    let there = c .before .before .on-drive in
+    let on = rw is at (granted (there .result) _ (c .before .if1 .left) (there .ensures)) in
+    let bytes : c .bytes-a-sector .result ≡ B (geometry (a .u)) = rw is at (c .bytes-a-sector .ensures) in
+    says-leb (a .at + c .bytes-a-sector .result) (a .long) _
+    (λ fits. record { some = on .0; inside = on .1; memory = omega arith })
+    (λ over f. omega (arith, f .memory))
 
 pub track-fits-spec : {M : Type 1} → statement M
 track-fits-spec =
     tie.close
     (tie.spec
     geometry-requires
-    sectors-a-track-requires
-    cast-sectors
-    drive-sectors-requires
+    on-drive-requires
     returns
-    returns-2
-    returns-3
     bytes-a-sector-requires
     cast-result
     add-result
-    returns-4)
+    returns-2)

@@ -1,11 +1,11 @@
 -- A place on the drive has a mark; of the marks that follow, those in the image are scanned, and what is found says how far.
--- Each way out is the row's law of the same name.
+-- What it came to is the row's law.
 use mathlib.Core.Path.{ap, sym, _∙_}
 use native.Mathlib.Omega.{arith}
 use Rattle.geometry.proofs.Answers.{at-sector, no-sector}
 use Rattle.transfer.specs.Progress.{Progress}
 use Rattle.transfer.specs.Runs.{reached}
-use Rattle.transfer.proofs.Rows.{row-past, row-unreadable, row-whole}
+use Rattle.transfer.proofs.Rows.{row-comes}
 use borrow.Author.Needs.{needs}
 use Rattle.transfer.proofs.reach.reach.Statement.{statement}
 use Rattle.transfer.proofs.reach.reach.Tie as tie
@@ -41,44 +41,21 @@ readable-requires c κs = search needs
 cast-sectors : tie.Need-cast-sectors
 cast-sectors c = search needs
 
+came-requires : tie.Need-came-requires
+came-requires c κs = search needs
+
 returns-2 : tie.Need-returns-2
 returns-2 c =
     let a = c .before .before .before .before .before .before .before .before .args in
     let sector = c .before .before .before .before .mark .given in
     let fit = c .before .before .fitting in
     let found = c .before .readable in
-    ap (λ (p : Progress). reached p)
+    c .came .ensures
+    ∙ ap (λ (p : Progress). reached p)
     (sym
-    (row-unreadable (a .image .now) (a .g) (a .heeds) (a .place) (a .n) (omega arith) (sector .0 .1 .0)
+    (row-comes (a .image .now) (a .g) (a .heeds) (a .place) (a .n) (omega arith) (sector .0 .1 .0)
     (at-sector (a .g) (a .place) (sector .0 .0) (sector .0 .1 .0) (sym (c .before .before .before .before .before .before .sector .ensures) ∙ sector .1) .1 .1)
-    (fit .result) (found .result) (fit .ensures) (found .ensures)
-    (c .if1 .taken)))
-
-returns-3 : tie.Need-returns-3
-returns-3 c =
-    let a = c .before .before .before .before .before .before .before .before .before .args in
-    let sector = c .before .before .before .before .before .mark .given in
-    let fit = c .before .before .before .fitting in
-    let found = c .before .before .readable in
-    ap (λ (p : Progress). reached p)
-    (sym
-    (row-past (a .image .now) (a .g) (a .heeds) (a .place) (a .n) (omega arith) (sector .0 .1 .0)
-    (at-sector (a .g) (a .place) (sector .0 .0) (sector .0 .1 .0) (sym (c .before .before .before .before .before .before .before .sector .ensures) ∙ sector .1) .1 .1)
-    (fit .result) (found .result) (fit .ensures) (found .ensures)
-    (c .before .if1 .left) (c .if2 .taken)))
-
-returns-4 : tie.Need-returns-4
-returns-4 c =
-    let a = c .before .before .before .before .before .before .before .before .before .args in
-    let sector = c .before .before .before .before .before .mark .given in
-    let fit = c .before .before .before .fitting in
-    let found = c .before .before .readable in
-    ap (λ (p : Progress). reached p)
-    (sym
-    (row-whole (a .image .now) (a .g) (a .heeds) (a .place) (a .n) (omega arith) (sector .0 .1 .0)
-    (at-sector (a .g) (a .place) (sector .0 .0) (sector .0 .1 .0) (sym (c .before .before .before .before .before .before .before .sector .ensures) ∙ sector .1) .1 .1)
-    (fit .result) (found .result) (fit .ensures) (found .ensures)
-    (c .before .if1 .left) (c .if2 .left)))
+    (fit .result) (found .result) (fit .ensures) (found .ensures)))
 
 pub reach-spec : {M : Type 1} → statement M
 reach-spec =
@@ -92,6 +69,5 @@ reach-spec =
     cast-readable
     readable-requires
     cast-sectors
-    returns-2
-    returns-3
-    returns-4)
+    came-requires
+    returns-2)
