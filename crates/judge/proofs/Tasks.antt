@@ -28,7 +28,7 @@ use Rattle.judge.specs.declared.Verdict.{Verdict}
 use Rattle.judge.specs.Asks.{carrying, jobOf, ofUnit, only, plan, planOf, unlisted}
 use Rattle.judge.specs.Checks.{None}
 use Rattle.judge.specs.Given.{Asked, Covers, HasTrack, asked, beginsAt}
-use Rattle.judge.specs.Verdict.{byItsOwn, fromBuffer, fromSectors, verdict}
+use Rattle.judge.specs.Verdict.{byItsOwn, fromAddress, fromBuffer, fromData, fromImage, fromSectors, verdict}
 use Rattle.judge.proofs.EachTask.{passes-first}
 use Rattle.judge.proofs.First.{done, never, on-its-own, pass, skip, stop}
 
@@ -93,23 +93,26 @@ module _ (s : Standing) (host : List ℕ) where
       unfolding byItsOwn
       seek-14 absent = skip _ _ _ (λ n. n counts) ∙ stop _ _ _ absent
 
-      module _ (present : Present (volume g (t .volume))) where
-        pub seek-16 : (Covers u (t .volume) at 1 → ⊥) → byItsOwn seek ≡ Verdict.Refused Refusal.SectorOutside
-        unfolding byItsOwn
-        seek-16 out = skip _ _ _ (λ n. n counts) ∙ skip _ _ _ (λ n. n present) ∙ stop _ _ _ out
+      pub seek-on : Present (volume g (t .volume)) → byItsOwn seek ≡ fromAddress seek t
+      unfolding byItsOwn fromAddress
+      seek-on present = skip _ _ _ (λ n. n counts) ∙ skip _ _ _ (λ n. n present)
 
-        pub seek-past : (n : ℕ) → at ≡ Number.Is n → volumeSectors g (t .volume) ≤ n → byItsOwn seek ≡ Verdict.Refused Refusal.SectorOutside
-        seek-past n is past = seek-16 (λ covers. let c : Covers u (t .volume) (Number.Is n) 1 = rw is at covers in omega arith)
+    pub address-16 : (Covers u (t .volume) at 1 → ⊥) → fromAddress seek t ≡ Verdict.Refused Refusal.SectorOutside
+    unfolding fromAddress
+    address-16 out = stop _ _ _ out
 
-        pub seek-nowhere : at ≡ Number.Outside → byItsOwn seek ≡ Verdict.Refused Refusal.SectorOutside
-        seek-nowhere is = seek-16 (λ covers. rw is at covers)
+    pub address-nowhere : at ≡ Number.Outside → fromAddress seek t ≡ Verdict.Refused Refusal.SectorOutside
+    address-nowhere is = address-16 (λ covers. rw is at covers)
 
-        pub seek-done :
-            (n : ℕ) → at ≡ Number.Is n → Covers u (t .volume) (Number.Is n) 1 →
-            byItsOwn seek ≡ Verdict.Do (only (Leaving.HeadsAt (spotOf u (t .volume) n .cylinder)))
-        unfolding byItsOwn
-        seek-done n is inside =
-            skip _ _ _ (λ x. x counts) ∙ skip _ _ _ (λ x. x present) ∙ skip _ _ _ (λ x. x (rw is inside)) ∙ done _ ∙ rw is
+    module _ (n : ℕ) (is : at ≡ Number.Is n) where
+      pub address-past : volumeSectors g (t .volume) ≤ n → fromAddress seek t ≡ Verdict.Refused Refusal.SectorOutside
+      address-past past = address-16 (λ covers. let c : Covers u (t .volume) (Number.Is n) 1 = rw is at covers in omega arith)
+
+      pub address-done :
+          Covers u (t .volume) (Number.Is n) 1 →
+          fromAddress seek t ≡ Verdict.Do (only (Leaving.HeadsAt (spotOf u (t .volume) n .cylinder)))
+      unfolding fromAddress
+      address-done inside = skip _ _ _ (λ x. x (rw is inside)) ∙ done _ ∙ rw is
 
   -- ---- 8C
 
@@ -131,18 +134,17 @@ module _ (s : Standing) (host : List ℕ) where
         unfolding byItsOwn
         format-17 short = skip _ _ _ (λ n. n counts) ∙ skip _ _ _ (λ n. n has) ∙ stop _ _ _ short
 
-        module _ (long : need g ≤ s .image) where
-          pub format-19 : (InMemory host (k .buffer) (B g) → ⊥) → byItsOwn format ≡ Verdict.Refused Refusal.DataMisplaced
-          unfolding byItsOwn
-          format-19 out =
-              skip _ _ _ (λ n. n counts) ∙ skip _ _ _ (λ n. n has) ∙ skip _ _ _ (λ n. omega arith) ∙ stop _ _ _ out
+        pub format-on : need g ≤ s .image → byItsOwn format ≡ fromData format k
+        unfolding byItsOwn fromData
+        format-on long = skip _ _ _ (λ n. n counts) ∙ skip _ _ _ (λ n. n has) ∙ skip _ _ _ (λ n. omega arith)
 
-          pub format-done :
-              InMemory host (k .buffer) (B g) →
-              byItsOwn format ≡ Verdict.Do (planOf u (Task.Format k))
-          unfolding byItsOwn
-          format-done held =
-              skip _ _ _ (λ n. n counts) ∙ skip _ _ _ (λ n. n has) ∙ skip _ _ _ (λ n. omega arith) ∙ skip _ _ _ (λ n. n held) ∙ done _
+    pub data-19 : (InMemory host (k .buffer) (B g) → ⊥) → fromData format k ≡ Verdict.Refused Refusal.DataMisplaced
+    unfolding fromData
+    data-19 out = stop _ _ _ out
+
+    pub data-done : InMemory host (k .buffer) (B g) → fromData format k ≡ Verdict.Do (planOf u (Task.Format k))
+    unfolding fromData
+    data-done held = skip _ _ _ (λ n. n held) ∙ done _
 
   -- ---- 81 82 A1 A2
 
@@ -170,19 +172,16 @@ module _ (s : Standing) (host : List ℕ) where
         unfolding byItsOwn
         move-15 none = skip _ _ _ (λ n. n counts) ∙ skip _ _ _ (λ n. n present) ∙ stop _ _ _ none
 
-        module _ (some : m .count ≡ 0 → ⊥) where
-          pub move-on : byItsOwn moves ≡ fromSectors moves m
-          unfolding byItsOwn fromSectors None
-          move-on = pass (ofUnit moves m) _ _ (λ n. n counts, (λ n. n present, (some, tt)))
+        pub move-on : (m .count ≡ 0 → ⊥) → byItsOwn moves ≡ fromSectors moves m
+        unfolding byItsOwn fromSectors None
+        move-on some = pass (ofUnit moves m) _ _ (λ n. n counts, (λ n. n present, (some, tt)))
 
-          pub move-nowhere : begins ≡ Number.Outside → byItsOwn moves ≡ Verdict.Refused Refusal.SectorOutside
-          unfolding fromSectors
-          move-nowhere is = move-on ∙ stop _ _ _ (λ covers. rw is at covers)
+    pub span-16 : (Covers u (m .target .volume) begins (m .count) → ⊥) → fromSectors moves m ≡ Verdict.Refused Refusal.SectorOutside
+    unfolding fromSectors
+    span-16 out = stop _ _ _ out
 
-    module _ (out : Covers u (m .target .volume) begins (m .count) → ⊥) where
-      pub span-16 : fromSectors moves m ≡ Verdict.Refused Refusal.SectorOutside
-      unfolding fromSectors
-      span-16 = stop _ _ _ out
+    pub start-nowhere : begins ≡ Number.Outside → fromSectors moves m ≡ Verdict.Refused Refusal.SectorOutside
+    start-nowhere is = span-16 (λ covers. rw is at covers)
 
     module _ (n : ℕ) (is : begins ≡ Number.Is n) where
       pub span-first : volumeSectors g (m .target .volume) ≤ n → fromSectors moves m ≡ Verdict.Refused Refusal.SectorOutside
@@ -201,14 +200,24 @@ module _ (s : Standing) (host : List ℕ) where
           0 < m .count → n + m .count ≤ volumeSectors g (m .target .volume) → Covers u (m .target .volume) begins (m .count)
       span-covers some fits = let c : Covers u (m .target .volume) (Number.Is n) (m .count) = omega arith in rw is c
 
+    pub image-17 : s .image < need g → fromImage moves m ≡ Verdict.Refused Refusal.ImageShort
+    unfolding fromImage
+    image-17 short = stop _ _ _ short
+
+    pub image-on : need g ≤ s .image → fromImage moves m ≡ fromBuffer moves m
+    unfolding fromImage fromBuffer
+    image-on long = skip _ _ _ (λ n. omega arith)
+
     module _ (covers : Covers u (m .target .volume) begins (m .count)) where
+      pub span-inside : fromSectors moves m ≡ fromImage moves m
+      unfolding fromSectors fromImage
+      span-inside = skip _ _ _ (λ n. n covers)
+
       pub span-17 : s .image < need g → fromSectors moves m ≡ Verdict.Refused Refusal.ImageShort
-      unfolding fromSectors
-      span-17 short = skip _ _ _ (λ n. n covers) ∙ stop _ _ _ short
+      span-17 short = span-inside ∙ image-17 short
 
       pub span-on : need g ≤ s .image → fromSectors moves m ≡ fromBuffer moves m
-      unfolding fromSectors fromBuffer
-      span-on long = skip _ _ _ (λ n. n covers) ∙ skip _ _ _ (λ n. omega arith)
+      span-on long = span-inside ∙ image-on long
 
     -- A buffer in one piece, and one that is a list.
     module _ (at : ℕ) (is : m .buffer ≡ Buffer.Piece at) where

@@ -26,10 +26,12 @@ ghost use Rattle.geometry.specs.Drive.{B, need, volume, volumeSectors};
 ghost use Rattle.geometry.specs.Limits.{Present};
 ghost use Rattle.judge.specs.Given.{asked, numberOf};
 ghost use Rattle.judge.specs.Asks.{carrying, jobOf, only};
-ghost use Rattle.judge.specs.Verdict.{Begins, byItsOwn, fromBuffer, fromSectors, verdict};
+ghost use Rattle.judge.specs.Verdict.{Begins, byItsOwn, fromAddress, fromBuffer, fromData, fromImage, fromSectors, verdict};
+ghost use Rattle.judge.specs.declared.Leaving.{Leaving};
 ghost use Rattle.judge.specs.declared.Verdict.{Verdict};
 ghost use Rattle.request.specs.declared.Task.{Task};
 ghost use Rattle.wire.specs.Promise.{Says};
+ghost use Rattle.unit.specs.Landing.{trackOf};
 ghost use Rattle.unit.specs.Standing.{geometry};
 
 // What is judged of a unit beside the request: its record, and how long its image is.
@@ -130,10 +132,17 @@ fn judge_restore(standing: Standing, host: &[u8]) -> Verdict
 {
     let u = standing.record;
     if u.counts_as_initialized() {
-        only(Leaving::HeadsAt(0))
+        restored()
     } else {
         Verdict::Refused(Refusal::NotInitialized)
     }
+}
+
+// The plan of 89: the heads go to cylinder 0.
+fn restored() -> Verdict
+    ensures { λ v. ⌜ v ≡ Verdict.Do (only (Leaving.HeadsAt 0)) ⌝ }
+{
+    only(Leaving::HeadsAt(0))
 }
 
 // What the checks ask of a unit's geometry.
@@ -176,18 +185,28 @@ fn number(u: Record, v: VolumeNumber, start: Start) -> Number
     }
 }
 
+// Checks 11 and 14 of a seek.
 fn judge_seek(t: Target, standing: Standing, host: &[u8]) -> Verdict
     ensures { λ v. ⌜ v ≡ byItsOwn (asked (Task.Seek t) standing (now (host .entry))) ⌝ }
 {
     let u = standing.record;
     let volume = t.volume;
-    let start = t.start;
     if !u.counts_as_initialized() {
         return Verdict::Refused(Refusal::NotInitialized);
     }
     if !has_volume(u, volume) {
         return Verdict::Refused(Refusal::VolumeAbsent);
     }
+    judge_address(t, standing, host)
+}
+
+// Check 16 of a seek, which is for its one address.
+fn judge_address(t: Target, standing: Standing, host: &[u8]) -> Verdict
+    ensures { λ v. ⌜ v ≡ fromAddress (asked (Task.Seek t) standing (now (host .entry))) t ⌝ }
+{
+    let u = standing.record;
+    let volume = t.volume;
+    let start = t.start;
     match number(u, volume, start) {
         Number::Is(n) => match u.land(volume, n) {
             Landing::At(spot) => only(Leaving::HeadsAt(spot.cylinder)),
@@ -197,6 +216,7 @@ fn judge_seek(t: Target, standing: Standing, host: &[u8]) -> Verdict
     }
 }
 
+// Checks 11, 16 and 17 of a format.
 fn judge_format(k: Track, standing: Standing, host: &[u8]) -> Verdict
     ensures { λ v. ⌜ v ≡ byItsOwn (asked (Task.Format k) standing (now (host .entry))) ⌝ }
 {
@@ -209,43 +229,63 @@ fn judge_format(k: Track, standing: Standing, host: &[u8]) -> Verdict
             if is_short(standing) {
                 return Verdict::Refused(Refusal::ImageShort);
             }
-            if !holds(host, k.buffer, sector_bytes(u)) {
-                return Verdict::Refused(Refusal::DataMisplaced);
-            }
-            Verdict::Do(Plan {
-                moving: Moving::Track(spot, k.buffer),
-                report: Report::Nothing,
-                leaving: Leaving::HeadsAt(k.cylinder),
-            })
+            judge_data(k, spot, standing, host)
         }
         Landing::Outside => Verdict::Refused(Refusal::SectorOutside),
     }
 }
 
-// Checks 11, 14 and 15 of a transfer, and whether it begins anywhere.
+// Check 19 of a format, which is for the bytes of one sector.
+fn judge_data(k: Track, spot: Spot, standing: Standing, host: &[u8]) -> Verdict
+    requires { ⌜ spot ≡ trackOf (standing .record) (k .cylinder) (k .head) ⌝ }
+    ensures { λ v. ⌜ v ≡ fromData (asked (Task.Format k) standing (now (host .entry))) k ⌝ }
+{
+    let u = standing.record;
+    if !holds(host, k.buffer, sector_bytes(u)) {
+        return Verdict::Refused(Refusal::DataMisplaced);
+    }
+    Verdict::Do(Plan {
+        moving: Moving::Track(spot, k.buffer),
+        report: Report::Nothing,
+        leaving: Leaving::HeadsAt(k.cylinder),
+    })
+}
+
+// Checks 11, 14 and 15 of a transfer.
 fn judge_move(m: Move, standing: Standing, host: &[u8]) -> Verdict
     ensures { λ v. ⌜ v ≡ byItsOwn (asked (Task.Move m) standing (now (host .entry))) ⌝ }
 {
-    let u = standing.record;
+    let record = standing.record;
     let target = m.target;
     let volume = target.volume;
-    let start = target.start;
-    if !u.counts_as_initialized() {
+    if !record.counts_as_initialized() {
         return Verdict::Refused(Refusal::NotInitialized);
     }
-    if !has_volume(u, volume) {
+    if !has_volume(record, volume) {
         return Verdict::Refused(Refusal::VolumeAbsent);
     }
     if m.count == 0 {
         return Verdict::Refused(Refusal::CountZero);
     }
+    judge_start(m, standing, host)
+}
+
+// Check 16 of a transfer, whether it begins anywhere.
+fn judge_start(m: Move, standing: Standing, host: &[u8]) -> Verdict
+    requires { ⌜ 0 < m .count ⌝ }
+    ensures { λ v. ⌜ v ≡ fromSectors (asked (Task.Move m) standing (now (host .entry))) m ⌝ }
+{
+    let u = standing.record;
+    let target = m.target;
+    let volume = target.volume;
+    let start = target.start;
     match number(u, volume, start) {
         Number::Is(n) => judge_span(m, n, standing, host),
         Number::Outside => Verdict::Refused(Refusal::SectorOutside),
     }
 }
 
-// Checks 16 and 17 of a transfer that begins at a number: the last sector is compared by what the volume has left.
+// Check 16 of a transfer that begins at a number: the last sector is compared by what the volume has left.
 fn judge_span(m: Move, n: u64, standing: Standing, host: &[u8]) -> Verdict
     requires { ⌜ Begins (asked (Task.Move m) standing (now host)) m n ⌝ }
     ensures { λ v. ⌜ v ≡ fromSectors (asked (Task.Move m) standing (now (host .entry))) m ⌝ }
@@ -260,6 +300,14 @@ fn judge_span(m: Move, n: u64, standing: Standing, host: &[u8]) -> Verdict
     if sectors - n < (m.count as u64) {
         return Verdict::Refused(Refusal::SectorOutside);
     }
+    judge_image(m, n, standing, host)
+}
+
+// Check 17 of a transfer.
+fn judge_image(m: Move, n: u64, standing: Standing, host: &[u8]) -> Verdict
+    requires { ⌜ Begins (asked (Task.Move m) standing (now host)) m n ⌝ }
+    ensures { λ v. ⌜ v ≡ fromImage (asked (Task.Move m) standing (now (host .entry))) m ⌝ }
+{
     if is_short(standing) {
         return Verdict::Refused(Refusal::ImageShort);
     }

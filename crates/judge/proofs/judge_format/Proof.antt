@@ -1,17 +1,11 @@
--- Checks 11, 16, 17 and 19, each passed before the next is asked.
--- Where the unit has a landing the track is on the drive.
-use mathlib.Core.Path.{ap, sym, _∙_}
+-- Checks 11, 16 and 17, each passed before the next is asked.
+-- Where the unit has a landing the track is on the drive, and what is left is judged by its data.
+use mathlib.Core.Path.{sym, _∙_}
 use native.Mathlib.Omega.{arith}
 use borrow.Author.Needs.{needs}
 use Rattle.wire.proofs.Promises.{denied, granted, says-no, says-yes}
 use Rattle.unit.proofs.Answers.{at-track, no-track}
-use Rattle.unit.specs.declared.Spot.{Spot}
-use Rattle.judge.specs.declared.Leaving.{Leaving}
-use Rattle.judge.specs.declared.Moving.{Moving}
-use Rattle.judge.specs.declared.Report.{Report}
-use Rattle.judge.specs.declared.Verdict.{Verdict}
-use Rattle.judge.specs.Asks.{plan}
-use Rattle.judge.proofs.Tasks.{format-11, format-16, format-17, format-19, format-done}
+use Rattle.judge.proofs.Tasks.{format-11, format-16, format-17, format-on}
 use Rattle.judge.proofs.judge_format.Statement.{statement}
 use Rattle.judge.proofs.judge_format.Tie as tie
 
@@ -34,57 +28,41 @@ is-short-requires c κs = search needs
 
 returns-2 : tie.Need-returns-2
 returns-2 c =
-    let a = c .before .before .before .before .before .before .before .before .before .before .args in
     let u = c .before .before .before .before .before .before .before .counts-as-initialized in
     let short = c .before .is-short in
-    let on = at-track (a .standing .record) (a .k .cylinder) (a .k .head) (c .before .before .before .spot .given .0 .0) (sym (c .before .before .before .before .before .land-track .ensures) ∙ c .before .before .before .spot .given .1) in
+    let spot = c .before .before .before .spot .given in
+    let on = at-track _ _ _ _ (sym (c .before .before .before .before .before .land-track .ensures) ∙ spot .1) in
     sym
-    (format-17 (a .standing) (a .host .now) (a .k) (granted (u .result) _ (c .before .before .before .before .before .before .if1 .left) (u .ensures)) (on .0)
+    (format-17 _ _ _ (granted (u .result) _ (c .before .before .before .before .before .before .if1 .left) (u .ensures)) (on .0)
     (says-yes (short .result) _ (c .if2 .taken) (short .ensures)))
 
-sector-bytes-requires : tie.Need-sector-bytes-requires
-sector-bytes-requires c κs = search needs
-
-holds-requires : tie.Need-holds-requires
-holds-requires c κs = search needs
-
-returns-3 : tie.Need-returns-3
-returns-3 c =
-    let a = c .before .before .before .before .before .before .before .before .before .before .before .before .before .args in
-    let u = c .before .before .before .before .before .before .before .before .before .before .counts-as-initialized in
-    let short = c .before .before .before .before .is-short in
-    let long = says-no (short .result) _ (c .before .before .before .if2 .left) (short .ensures) in
-    let on = at-track (a .standing .record) (a .k .cylinder) (a .k .head) (c .before .before .before .before .before .before .spot .given .0 .0) (sym (c .before .before .before .before .before .before .before .before .land-track .ensures) ∙ c .before .before .before .before .before .before .spot .given .1) in
-    let held = c .before .holds in
-    sym
-    (format-19 (a .standing) (a .host .now) (a .k) (granted (u .result) _ (c .before .before .before .before .before .before .before .before .before .if1 .left) (u .ensures)) (on .0)
-    (omega arith)
-    (denied (held .result) _ (c .if3 .taken) (rw (c .before .before .sector-bytes .ensures .0) at (held .ensures))))
+judge-data-requires : tie.Need-judge-data-requires
+judge-data-requires c κs =
+    let spot = c .before .before .before .spot .given in
+    at-track _ _ _ _ (sym (c .before .before .before .before .before .land-track .ensures) ∙ spot .1) .1
 
 enum-told : tie.Need-enum-told
 enum-told c = search needs
 
+returns-3 : tie.Need-returns-3
+returns-3 c =
+    let b = c .before in
+    let u = b .before .before .before .before .before .before .before .counts-as-initialized in
+    let short = b .before .is-short in
+    let long = says-no (short .result) _ (b .if2 .left) (short .ensures) in
+    let spot = b .before .before .before .spot .given in
+    let on = at-track _ _ _ _ (sym (b .before .before .before .before .before .land-track .ensures) ∙ spot .1) in
+    c .judge-data .ensures
+    ∙ sym
+    (format-on _ _ _ (granted (u .result) _ (b .before .before .before .before .before .before .if1 .left) (u .ensures)) (on .0)
+    (omega arith))
+
 returns-4 : tie.Need-returns-4
 returns-4 c =
-    let a = c .before .before .before .before .before .before .before .before .before .before .before .before .before .args in
-    let u = c .before .before .before .before .before .before .before .before .before .before .counts-as-initialized in
-    let short = c .before .before .before .before .is-short in
-    let long = says-no (short .result) _ (c .before .before .before .if2 .left) (short .ensures) in
-    let on = at-track (a .standing .record) (a .k .cylinder) (a .k .head) (c .before .before .before .before .before .before .spot .given .0 .0) (sym (c .before .before .before .before .before .before .before .before .land-track .ensures) ∙ c .before .before .before .before .before .before .spot .given .1) in
-    let held = c .before .holds in
-    ap (λ (x : Spot). Verdict.Do (plan (Moving.Track x (a .k .buffer)) Report.Nothing (Leaving.HeadsAt (a .k .cylinder)))) (on .1)
-    ∙ sym
-    (format-done (a .standing) (a .host .now) (a .k) (granted (u .result) _ (c .before .before .before .before .before .before .before .before .before .if1 .left) (u .ensures)) (on .0)
-    (omega arith)
-    (granted (held .result) _ (c .if3 .left) (rw (c .before .before .sector-bytes .ensures .0) at (held .ensures))))
-
-returns-5 : tie.Need-returns-5
-returns-5 c =
-    let a = c .before .before .before .before .before .before .before .args in
     let u = c .before .before .before .before .counts-as-initialized in
     sym
-    (format-16 (a .standing) (a .host .now) (a .k) (granted (u .result) _ (c .before .before .before .if1 .left) (u .ensures))
-    (no-track (a .standing .record) (a .k .cylinder) (a .k .head) (sym (c .before .before .land-track .ensures) ∙ c .enum-told .given .1)))
+    (format-16 _ _ _ (granted (u .result) _ (c .before .before .before .if1 .left) (u .ensures))
+    (no-track _ _ _ (sym (c .before .before .land-track .ensures) ∙ c .enum-told .given .1)))
 
 pub judge-format-spec : {M : Type 1} → statement M
 judge-format-spec =
@@ -96,9 +74,7 @@ judge-format-spec =
     enum-known-spot
     is-short-requires
     returns-2
-    sector-bytes-requires
-    holds-requires
-    returns-3
+    judge-data-requires
     enum-told
-    returns-4
-    returns-5)
+    returns-3
+    returns-4)

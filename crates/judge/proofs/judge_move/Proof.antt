@@ -1,10 +1,9 @@
 -- Checks 11, 14 and 15, each passed before the next is asked.
--- A start that the volume does not have is refused by 16; any other goes on from there.
+-- What is left is judged from its sectors on.
 use mathlib.Core.Path.{sym, _∙_}
-use native.Mathlib.Omega.{arith}
 use borrow.Author.Needs.{needs}
 use Rattle.wire.proofs.Promises.{denied, granted}
-use Rattle.judge.proofs.Tasks.{move-11, move-14, move-15, move-nowhere, move-on}
+use Rattle.judge.proofs.Tasks.{move-11, move-14, move-15, move-on}
 use Rattle.judge.proofs.judge_move.Statement.{statement}
 use Rattle.judge.proofs.judge_move.Tie as tie
 
@@ -33,39 +32,18 @@ returns-3 c =
     (move-15 _ _ _ (granted (u .result) _ (c .before .before .before .before .if1 .left) (u .ensures)) (granted (v .result) _ (c .before .before .if2 .left) (v .ensures))
     (c .if3 .taken))
 
-number-requires : tie.Need-number-requires
-number-requires c κs = search needs
-
-enum-known-n : tie.Need-enum-known-n
-enum-known-n c = search needs
-
-judge-span-requires : tie.Need-judge-span-requires
-judge-span-requires c κs = record { starts = sym (c .before .before .before .number .ensures) ∙ c .before .n .given .1; some = omega arith }
-
-enum-told : tie.Need-enum-told
-enum-told c = search needs
+judge-start-requires : tie.Need-judge-start-requires
+judge-start-requires c κs = search needs
 
 returns-4 : tie.Need-returns-4
 returns-4 c =
-    let a = c .before .before .before .before .before .before .before .before .before .before .before .before .before .before .args in
-    let u = c .before .before .before .before .before .before .before .before .before .before .counts-as-initialized in
-    let v = c .before .before .before .before .before .before .before .before .has-volume in
-    c .judge-span .ensures
+    let b = c .before in
+    let u = b .before .before .before .before .before .counts-as-initialized in
+    let v = b .before .before .before .has-volume in
+    c .judge-start .ensures
     ∙ sym
-    (move-on (a .standing) (a .host .now) (a .m) (granted (u .result) _ (c .before .before .before .before .before .before .before .before .before .if1 .left) (u .ensures))
-    (granted (v .result) _ (c .before .before .before .before .before .before .before .if2 .left) (v .ensures))
-    (c .before .before .before .before .before .if3 .left))
-
-returns-5 : tie.Need-returns-5
-returns-5 c =
-    let a = c .before .before .before .before .before .before .before .before .before .before .before .before .args in
-    let u = c .before .before .before .before .before .before .before .before .counts-as-initialized in
-    let v = c .before .before .before .before .before .before .has-volume in
-    sym
-    (move-nowhere (a .standing) (a .host .now) (a .m) (granted (u .result) _ (c .before .before .before .before .before .before .before .if1 .left) (u .ensures))
-    (granted (v .result) _ (c .before .before .before .before .before .if2 .left) (v .ensures))
-    (c .before .before .before .if3 .left)
-    (sym (c .before .before .number .ensures) ∙ c .enum-told .given .1))
+    (move-on _ _ _ (granted (u .result) _ (b .before .before .before .before .if1 .left) (u .ensures)) (granted (v .result) _ (b .before .before .if2 .left) (v .ensures))
+    (b .if3 .left))
 
 pub judge-move-spec : {M : Type 1} → statement M
 judge-move-spec =
@@ -76,9 +54,5 @@ judge-move-spec =
     has-volume-requires
     returns-2
     returns-3
-    number-requires
-    enum-known-n
-    judge-span-requires
-    enum-told
-    returns-4
-    returns-5)
+    judge-start-requires
+    returns-4)

@@ -10,13 +10,13 @@ use Rattle.judge.proofs.judge_restore.Tie as tie
 counts-as-initialized-requires : tie.Need-counts-as-initialized-requires
 counts-as-initialized-requires c κs = search needs
 
-only-requires : tie.Need-only-requires
-only-requires c κs = search needs
+restored-requires : tie.Need-restored-requires
+restored-requires c κs = search needs
 
 returns : tie.Need-returns
 returns c =
     let u = c .before .before .counts-as-initialized in
-    c .only .ensures ∙ sym (restore-done _ _ (says-yes (u .result) _ (c .before .if1 .taken) (u .ensures)))
+    c .restored .ensures ∙ sym (restore-done _ _ (says-yes (u .result) _ (c .before .if1 .taken) (u .ensures)))
 
 returns-2 : tie.Need-returns-2
 returns-2 c =
@@ -24,4 +24,5 @@ returns-2 c =
     sym (restore-refused _ _ (says-no (u .result) _ (c .if1 .left) (u .ensures)))
 
 pub judge-restore-spec : {M : Type 1} → statement M
-judge-restore-spec = tie.close (tie.spec counts-as-initialized-requires only-requires returns returns-2)
+judge-restore-spec =
+    tie.close (tie.spec counts-as-initialized-requires restored-requires returns returns-2)
