@@ -25,7 +25,7 @@ use Rattle.transfer.proofs.Stays.{append-stored, bytes-stored, stored-of-append
 use Rattle.block.specs.Block.{Effect, Performance, Words, begun, effectAt, effectOn, finish, finished, judged, reported, transferOf, wordsOf}
 use Rattle.block.specs.Events.{entry}
 use Rattle.block.specs.World.{Drive}
-use Rattle.demands.specs.Footprint.{WritesEvents, WritesHost, WritesImage, askedOf, comes, movingOf, namedDrive, reportOf, transferBy, verdictOf}
+use Rattle.demands.specs.Footprint.{WritesEvents, WritesHost, WritesImage, askedOf, comes, movingOf, namedDrive, reportOf, transferBy, verdictOf, wordsBy}
 use Rattle.demands.specs.Footprint.HostWritten.{moved, report, status-word}
 use Rattle.demands.specs.Visits.{Visit, blockOf, effectOf}
 
@@ -281,6 +281,14 @@ module _ (v : Visit) where
   -- ---- host bytes
 
   module _ (x : ℕ) where
+    -- What is stored counts as written: word 1 by the finish, and the words that are reported.
+    finish-counts : Stored closing (hostByte x) → WritesHost v x
+    finish-counts late =
+        status-word (finish-host (blockOf v) (v .at) (v .index) (performance .answer) (performance .travel) x late)
+
+    report-counts : Among (v .at + wordsBy (askedOf v) .from) (length (wordsBy (askedOf v) .bytes)) x → WritesHost v x
+    report-counts among = report among
+
     -- A host byte is written exactly where 01 says.
     pub host-written-exactly : WritesHost v x ↔ Stored (effectOf v .stores) (hostByte x)
     unfolding Lines
@@ -307,10 +315,9 @@ module _ (v : Visit) where
             (λ d.
             let k = host-data (namedDrive v .image) (transferBy (askedOf v)) x d in
             moved (record { goes = k .0; byte = k .1 .0; moved = k .1 .1 .0; here = k .1 .1 .1 }))
-            (λ w. report w) rest)
+            report-counts rest)
             (performs-host (v .world .host) (namedDrive v) (v .at) x (verdictOf v) early))
-            (λ late.
-            status-word (finish-host (blockOf v) (v .at) (v .index) (performance .answer) (performance .travel) x late))
+            finish-counts
             (of-target (hostByte x) there)
 
     -- ---- image bytes, of the named unit's image
