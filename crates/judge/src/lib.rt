@@ -20,14 +20,16 @@ use unit::Record;
 use unit::Span;
 use unit::Spot;
 use wire::holds;
+ghost use mathlib.Core.List.{List};
 ghost use mathlib.Core.Path.{_≡_};
-ghost use Prim.Native.Nat.{_<_};
+ghost use Prim.Native.Nat.{ℕ, _<_};
 ghost use Rattle.geometry.specs.Drive.{B, need, volume, volumeSectors};
 ghost use Rattle.geometry.specs.Limits.{Present};
 ghost use Rattle.judge.specs.Given.{asked, numberOf};
 ghost use Rattle.judge.specs.Asks.{carrying, jobOf, only};
 ghost use Rattle.judge.specs.Verdict.{Begins, byItsOwn, fromAddress, fromBuffer, fromData, fromImage, fromSectors, verdict};
 ghost use Rattle.judge.specs.declared.Leaving.{Leaving};
+ghost use Rattle.judge.specs.declared.Standing.{Standing};
 ghost use Rattle.judge.specs.declared.Verdict.{Verdict};
 ghost use Rattle.request.specs.declared.Task.{Task};
 ghost use Rattle.wire.specs.Promise.{Says};
@@ -94,9 +96,9 @@ pub fn judge(r: Request, standing: Standing, host: &[u8]) -> Verdict
             report: Report::Identity,
             leaving: Leaving::AsItWas,
         }),
-        Task::Initialize(s) => judge_shape(s, standing, host),
-        Task::Restore => judge_restore(standing, host),
-        Task::Seek(t) => judge_seek(t, standing, host),
+        Task::Initialize(s) => judge_shape(s),
+        Task::Restore => judge_restore(standing),
+        Task::Seek(t) => judge_seek(t, standing),
         Task::Format(k) => judge_format(k, standing, host),
     }
 }
@@ -112,8 +114,8 @@ fn only(leaving: Leaving) -> Verdict
     })
 }
 
-fn judge_shape(s: Shape, standing: Standing, host: &[u8]) -> Verdict
-    ensures { λ v. ⌜ v ≡ byItsOwn (asked (Task.Initialize s) standing (now (host .entry))) ⌝ }
+fn judge_shape(s: Shape) -> Verdict
+    ensures { λ v. ⌜ ((standing : Standing) (host : List ℕ) → v ≡ byItsOwn (asked (Task.Initialize s) standing host)) ⌝ }
 {
     match s {
         Shape::Misplaced => Verdict::Refused(Refusal::UibMisplaced),
@@ -127,8 +129,8 @@ fn judge_shape(s: Shape, standing: Standing, host: &[u8]) -> Verdict
     }
 }
 
-fn judge_restore(standing: Standing, host: &[u8]) -> Verdict
-    ensures { λ v. ⌜ v ≡ byItsOwn (asked Task.Restore standing (now (host .entry))) ⌝ }
+fn judge_restore(standing: Standing) -> Verdict
+    ensures { λ v. ⌜ ((host : List ℕ) → v ≡ byItsOwn (asked Task.Restore standing host)) ⌝ }
 {
     let u = standing.record;
     if u.counts_as_initialized() {
@@ -186,8 +188,8 @@ fn number(u: Record, v: VolumeNumber, start: Start) -> Number
 }
 
 // Checks 11 and 14 of a seek.
-fn judge_seek(t: Target, standing: Standing, host: &[u8]) -> Verdict
-    ensures { λ v. ⌜ v ≡ byItsOwn (asked (Task.Seek t) standing (now (host .entry))) ⌝ }
+fn judge_seek(t: Target, standing: Standing) -> Verdict
+    ensures { λ v. ⌜ ((host : List ℕ) → v ≡ byItsOwn (asked (Task.Seek t) standing host)) ⌝ }
 {
     let u = standing.record;
     let volume = t.volume;
@@ -197,12 +199,12 @@ fn judge_seek(t: Target, standing: Standing, host: &[u8]) -> Verdict
     if !has_volume(u, volume) {
         return Verdict::Refused(Refusal::VolumeAbsent);
     }
-    judge_address(t, standing, host)
+    judge_address(t, standing)
 }
 
 // Check 16 of a seek, which is for its one address.
-fn judge_address(t: Target, standing: Standing, host: &[u8]) -> Verdict
-    ensures { λ v. ⌜ v ≡ fromAddress (asked (Task.Seek t) standing (now (host .entry))) t ⌝ }
+fn judge_address(t: Target, standing: Standing) -> Verdict
+    ensures { λ v. ⌜ ((host : List ℕ) → v ≡ fromAddress (asked (Task.Seek t) standing host) t) ⌝ }
 {
     let u = standing.record;
     let volume = t.volume;

@@ -4,17 +4,17 @@ use Prim.Native.Nat.{_≤_, _-_}
 use mathlib.Core.Path.{_≡_, refl, sym, _∙_}
 use native.Mathlib.Omega.{arith}
 use borrow.Author.Needs.{needs}
-use lib.ListN.{drop}
+use lib.ListN.{drop, length}
 use Rattle.iopb.specs.Errors.{errorIn, errorTable}
 use Rattle.iopb.proofs.Lookup.{found, none-left, passed}
 use Rattle.iopb.proofs.error_of.Statement.{statement}
 use Rattle.iopb.proofs.error_of.Tie as tie
 
 abbrev Inv-loop : tie.InvT-loop
-Inv-loop number i₀ i = (i ≤ 9) × (errorIn (drop i errorTable) number ≡ errorIn errorTable number)
+Inv-loop number i₀ i = (i ≤ length errorTable) × (errorIn (drop i errorTable) number ≡ errorIn errorTable number)
 
 abbrev μ-loop : tie.MeasureT-loop
-μ-loop number i₀ i = 9 - i
+μ-loop number i₀ i = length errorTable - i
 
 loop-holds : tie.Need-loop-holds Inv-loop μ-loop
 loop-holds c = (omega arith, refl)

@@ -53,13 +53,13 @@ returns-3 : tie.Need-returns-3
 returns-3 c = rw (c .enum-told2 .given .1) (sym (handshake _ _))
 
 returns-4 : tie.Need-returns-4
-returns-4 c = rw (c .before .before .task2 .given .1) (c .judge-shape .ensures ∙ sym (own _ _ _ never))
+returns-4 c = rw (c .before .before .task2 .given .1) (c .judge-shape .ensures _ _ ∙ sym (own _ _ _ never))
 
 returns-5 : tie.Need-returns-5
-returns-5 c = rw (c .before .enum-told3 .given .1) (c .judge-restore .ensures ∙ sym (own _ _ _ never))
+returns-5 c = rw (c .before .enum-told3 .given .1) (c .judge-restore .ensures _ ∙ sym (own _ _ _ never))
 
 returns-6 : tie.Need-returns-6
-returns-6 c = rw (c .before .before .task3 .given .1) (c .judge-seek .ensures ∙ sym (own _ _ _ never))
+returns-6 c = rw (c .before .before .task3 .given .1) (c .judge-seek .ensures _ ∙ sym (own _ _ _ never))
 
 returns-7 : tie.Need-returns-7
 returns-7 c = rw (c .before .before .task4 .given .1) (c .judge-format .ensures ∙ sym (own _ _ _ never))

@@ -21,24 +21,24 @@ only-requires : tie.Need-only-requires
 only-requires c κs = search needs
 
 returns : tie.Need-returns
-returns c =
-    let is : c .before .before .before .args .s ≡ Shape.Misplaced = cc in
-    rw is (sym (shape-misplaced _ _))
+returns c standing host =
+    let is : c .before .before .args .s ≡ Shape.Misplaced = cc in
+    rw is (sym (shape-misplaced standing host))
 
 returns-2 : tie.Need-returns-2
-returns-2 c =
+returns-2 c standing host =
     let t = c .before in
     let g = t .before .before .before .s .given .0 .0 in
-    let is : t .before .before .before .before .before .before .args .s ≡ Shape.Given g = cc in
+    let is : t .before .before .before .before .before .args .s ≡ Shape.Given g = cc in
     let within = t .before .is-within in
-    rw is (c .only .ensures ∙ sym (shape-given _ _ g (says-yes (within .result) _ (t .if1 .taken) (within .ensures))))
+    rw is (c .only .ensures ∙ sym (shape-given standing host g (says-yes (within .result) _ (t .if1 .taken) (within .ensures))))
 
 returns-3 : tie.Need-returns-3
-returns-3 c =
+returns-3 c standing host =
     let g = c .before .before .before .s .given .0 .0 in
-    let is : c .before .before .before .before .before .before .args .s ≡ Shape.Given g = cc in
+    let is : c .before .before .before .before .before .args .s ≡ Shape.Given g = cc in
     let within = c .before .is-within in
-    rw is (sym (shape-outside _ _ g (says-no (within .result) _ (c .if1 .left) (within .ensures))))
+    rw is (sym (shape-outside standing host g (says-no (within .result) _ (c .if1 .left) (within .ensures))))
 
 pub judge-shape-spec : {M : Type 1} → statement M
 judge-shape-spec =
