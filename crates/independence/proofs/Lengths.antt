@@ -2,7 +2,7 @@
 -- What an 87 asks looks at the place of its UIB before it looks at its bytes; what the others ask looks at no byte, and neither do the
 -- checks before a list.
 use Prim.Native.Nat.{ℕ, _*_}
-use mathlib.Core.List.{List}
+use mathlib.Core.List.{List, [], _∷_}
 use mathlib.Core.Logic.{by-cases}
 use mathlib.Core.Path.{_≡_, sym, _∙_, subst}
 use native.Mathlib.Decide.{ℕ-discrete}
@@ -20,10 +20,11 @@ use Rattle.iopb.specs.declared.Block.{Block}
 use Rattle.iopb.specs.Ask.{shapeAt, taskOf}
 use Rattle.iopb.proofs.Answers.{shapeAt-inside, shapeAt-outside}
 use Rattle.iopb.proofs.Locality.{asked-by-87, task-apart}
-use Rattle.judge.specs.Asks.{checks}
+use Rattle.judge.specs.Asks.{checks, firstChecks, uibMisplaced}
 use Rattle.judge.specs.Checks.{None, before}
 use Rattle.judge.specs.Given.{Asked, BadPlace}
 use Rattle.judge.specs.Reads.{InList, InUib}
+use Rattle.judge.proofs.First.{none-of-all, none-of-parts}
 use Rattle.block.specs.Block.{asking}
 use Rattle.block.specs.World.{Drive}
 
@@ -81,11 +82,18 @@ module _ (h k : List ℕ) (long : length h ≡ length k) (d : Drive) where
         (λ is.
         let in-h = asked-by-87 h b is in
         let in-k = asked-by-87 k b is in
+        let uib-h = shapeAt h (b .address) in
+        let uib-k = shapeAt k (b .address) in
+        let a = asking (Initialize uib-h) d h in
+        let e = asking (Initialize uib-k) d k in
         let passed = subst (λ t. None (before UibOutsideLimits (checks (asking t d h)))) in-h (u .passed) in
+        let parts = none-of-parts (firstChecks a) (uibMisplaced a uib-h ∷ []) passed in
         record {
-          shape = shapeAt k (b .address);
+          shape = uib-k;
           asks = in-k;
-          passed = rw in-k (passed .0, (placed-alike (b .address) (passed .1 .0), tt));
+          passed =
+              subst (λ t. None (before UibOutsideLimits (checks (asking t d k)))) (sym in-k)
+              (none-of-all (firstChecks e) (uibMisplaced e uib-k ∷ []) (parts .0) (placed-alike (b .address) (parts .1 .0), tt));
           among = u .among;
         })
         (λ other.

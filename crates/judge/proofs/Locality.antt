@@ -21,7 +21,7 @@ use Rattle.request.specs.declared.Task.the-variants.{Move as Moves, Initialize}
 use Rattle.wire.specs.Memory.{Among}
 use Rattle.judge.specs.Asks.{firstChecks, checks, ownChecks, uibMisplaced}
 use Rattle.judge.specs.Checks.{None, before}
-use Rattle.judge.specs.Given.{Asked}
+use Rattle.judge.specs.Given.{Asked, BadPlace}
 use Rattle.judge.specs.Reads.{InList, InUib}
 use Rattle.judge.specs.Verdict.{verdict}
 use Rattle.judge.proofs.First.{early, none-of-all, none-of-parts, none?}
@@ -76,6 +76,21 @@ module _ (u : UnitRecord) (image : ℕ) (h k : List ℕ) (long : length h ≡ le
           by-cases (ℕ-discrete (b .command) 0x87) renewing (λ other. same-task (task-apart h k b other))
 
 -- ---- what is read, and what is not
+
+-- A UIB that lies in memory is read by an 87 that passes what all are asked first.
+pub placed-uib-read :
+    (a : Asked) (at bytes x : ℕ) (s : Shape) → a .task ≡ Initialize s → None (firstChecks a) → (BadPlace s → ⊥) → Among at bytes x →
+    InUib a at bytes x
+unfolding None
+placed-uib-read a at bytes x s is first placed among =
+    record {
+      shape = s;
+      asks = is;
+      passed =
+          subst (λ (t : Task). None (before Refusal.UibOutsideLimits (firstChecks a ++ ownChecks a t))) (sym is)
+          (none-of-all (firstChecks a) (uibMisplaced a s ∷ []) first (placed, tt));
+      among = among;
+    }
 
 -- A UIB that failed check 12 is not read.
 pub misplaced-uib-unread : (a : Asked) (at bytes x : ℕ) → a .task ≡ Initialize Shape.Misplaced → InUib a at bytes x → ⊥

@@ -22,7 +22,9 @@ use Rattle.judge.specs.declared.Report.{Report}
 use Rattle.judge.specs.declared.Verdict.{Verdict}
 use Rattle.judge.specs.Asks.{only, plan}
 use Rattle.judge.specs.Checks.{None}
+use Rattle.judge.proofs.EachTask.{passes-first}
 use Rattle.judge.proofs.First.{never}
+use Rattle.judge.proofs.Locality.{placed-uib-read}
 use Rattle.wire.proofs.Promises.{never as impossible}
 use Rattle.judge.proofs.Tasks.{handshake, move-11, own, restore-done, restore-refused, shape-given, shape-outside}
 use Rattle.unit.specs.Standing.{CountsAsInitialized, fresh}
@@ -400,7 +402,9 @@ read-by-other = (
   λ none.
       none 4 .0 (by-block 0 _ (read-pass .0) (λ v. WritesHost v 4) (report (rw read-report (omega arith, omega arith))))
       (by-block 28 _ (read-pass .1) (λ v. ReadsHost v 4)
-      (its-uib (record { shape = _; asks = refl; passed = (never, (λ bad. rw (shapeAt-inside (readByOther .host) 4 (omega arith)) at bad, tt)); among = omega arith }))),
+      (its-uib
+      (placed-uib-read _ _ _ _ _ refl (passes-first (askedOf (second-of readByOther)) never) (λ bad. rw (shapeAt-inside (readByOther .host) 4 (omega arith)) at bad)
+      (omega arith)))),
   (no-unit read-first read-second differ, (none-twice read-first read-second (omega arith), read-differs)),
 )
 
