@@ -29,6 +29,7 @@ pub enum Refusal {
     DataMisplaced,
     Unreadable,
     PastTheImage,
+    DriveHeld,
 }
 
 // How a block ended.
@@ -72,6 +73,7 @@ impl Refusal {
             Refusal::DataMisplaced => 19,
             Refusal::Unreadable => 20,
             Refusal::PastTheImage => 21,
+            Refusal::DriveHeld => 24,
         }
     }
 }

@@ -62,6 +62,7 @@ pub enum Task {
     Restore,
     Seek(Target),
     Format(Track),
+    Map,
 }
 
 pub struct Request {
