@@ -5,7 +5,7 @@ use mathlib.Core.Bool.{cond}
 use mathlib.Core.Path.{_≡_, refl, sym, ap, _∙_}
 use lib.Dec.{eqb}
 use Rattle.answers.specs.declared.Refusal.{Refusal}
-use Rattle.answers.specs.declared.Refusal.the-variants.{CommandUnknown, NotInitialized, UibMisplaced, UibOutsideLimits, VolumeAbsent, CountZero, SectorOutside, ImageShort, ListBad, DataMisplaced, Unreadable, PastTheImage, DriveHeld}
+use Rattle.answers.specs.declared.Refusal.the-variants.{CommandUnknown, NotInitialized, UibMisplaced, UibOutsideLimits, VolumeAbsent, CountZero, SectorOutside, ImageShort, ListBad, DataMisplaced, Unreadable, PastTheImage}
 use Rattle.answers.specs.declared.RunAnswer.{RunAnswer}
 use Rattle.answers.specs.declared.RunAnswer.the-variants.{Done, EventsShort, AllowanceBad, FirstBad, BlockFailed, LinkBad, AllowanceSpent}
 use Rattle.answers.specs.Numbers.{refusalNumber, runNumber}
@@ -23,8 +23,7 @@ refusal n =
     (cond (eqb n 18) ListBad
     (cond (eqb n 19) DataMisplaced
     (cond (eqb n 20) Unreadable
-    (cond (eqb n 21) PastTheImage
-    DriveHeld)))))))))))
+    PastTheImage))))))))))
 
 refusal-back : (a : Refusal) → refusal (refusalNumber a) ≡ a
 unfolding refusal
@@ -40,7 +39,6 @@ refusal-back ListBad = refl
 refusal-back DataMisplaced = refl
 refusal-back Unreadable = refl
 refusal-back PastTheImage = refl
-refusal-back DriveHeld = refl
 
 pub refusals-differ : (a b : Refusal) → refusalNumber a ≡ refusalNumber b → a ≡ b
 refusals-differ a b same = sym (refusal-back a) ∙ ap refusal same ∙ refusal-back b

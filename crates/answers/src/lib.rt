@@ -29,7 +29,6 @@ pub enum Refusal {
     DataMisplaced,
     Unreadable,
     PastTheImage,
-    DriveHeld,
 }
 
 // How a block ended.
@@ -73,7 +72,6 @@ impl Refusal {
             Refusal::DataMisplaced => 19,
             Refusal::Unreadable => 20,
             Refusal::PastTheImage => 21,
-            Refusal::DriveHeld => 24,
         }
     }
 }

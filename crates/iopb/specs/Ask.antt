@@ -62,7 +62,6 @@ tasks host b =
     (0x8c, Task.Format (trackOf b)) ∷
     (0xa1, Task.Move (moveOf b true (listOf b))) ∷
     (0xa2, Task.Move (moveOf b false (listOf b))) ∷
-    (0x85, Task.Map) ∷
     []
 
 -- The task that stands at a command's code, or none that is known.

@@ -52,7 +52,6 @@ fn task(b: Block, host: &[u8]) -> Task
         0x8C => Task::Format(track(b)),
         0xA1 => Task::Move(moving(b, true, list(b))),
         0xA2 => Task::Move(moving(b, false, list(b))),
-        0x85 => Task::Map,
         _ => Task::Unknown,
     }
 }

@@ -143,7 +143,7 @@ pub(crate) struct ErrorLine {
 }
 
 // The answers for which the manual has a line.
-const ERROR_LINES: [ErrorLine; 10] = [
+const ERROR_LINES: [ErrorLine; 9] = [
     ErrorLine {
         number: 10,
         error: 0x14,
@@ -179,10 +179,6 @@ const ERROR_LINES: [ErrorLine; 10] = [
     ErrorLine {
         number: 21,
         error: 0x20,
-    },
-    ErrorLine {
-        number: 24,
-        error: 0x2E,
     },
 ];
 

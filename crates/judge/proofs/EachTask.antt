@@ -14,7 +14,7 @@ use Rattle.request.specs.declared.Buffer.{Buffer}
 use Rattle.request.specs.declared.Buffer.the-variants.{Piece, List as Elements}
 use Rattle.request.specs.declared.Shape.the-variants.{Misplaced, Given as Uib}
 use Rattle.request.specs.declared.Task.{Task}
-use Rattle.request.specs.declared.Task.the-variants.{Unknown, Move as Moves, Handshake, Initialize, Restore, Seek, Format, Map}
+use Rattle.request.specs.declared.Task.the-variants.{Unknown, Move as Moves, Handshake, Initialize, Restore, Seek, Format}
 use Rattle.unit.specs.Landing.{spotOf}
 use Rattle.unit.specs.Standing.{UnitRecord, geometry}
 use Rattle.unit.proofs.Decided.{counts?}
@@ -38,7 +38,7 @@ use Rattle.judge.proofs.First.{none-of-all}
 -- A listed command passes what all are asked first.
 pub passes-first : (a : Asked) → (T (unlisted (a .task)) → ⊥) → None (firstChecks a)
 unfolding None
-passes-first a listed = (listed, (λ x. x, tt))
+passes-first a listed = (listed, tt)
 
 -- Every list of checks keeps the order of the paper's rows.
 pub asked-in-order : (a : Asked) (t : Task) → T (keepsOrder (answersOf (firstChecks a ++ ownChecks a t)) (inOrder rows))
@@ -59,7 +59,6 @@ asked-in-order a t = by-task t
     by-task Restore = tt
     by-task (Seek t) = tt
     by-task (Format k) = tt
-    by-task Map = tt
 
 -- ---- the same in two memories
 
@@ -80,7 +79,6 @@ module _ (u : UnitRecord) (image : ℕ) (h k : List ℕ) (long : length h ≡ le
       let a = on u image (Format x) h in
       after-the-same (firstChecks a ++ notInitialized a ∷ trackOutside a x ∷ imageShort a ∷ []) _ _ (planOf u (Format x))
       (λ passed. same-range u image h k long (Format x) (x .buffer) (B (geometry u)) (planOf u (Format x)))
-  verdict-local Map alike = refl
 
 -- ---- what its plan is known to be
 
@@ -155,4 +153,3 @@ module _ (u : UnitRecord) (image : ℕ) (host : List ℕ) where
         quiet = tt;
         list = tt;
       }
-  accepted Map first none = heads-only u image host _ Leaving.AsItWas tt

@@ -7,7 +7,7 @@ use mathlib.Core.Logic.{Dec·not}
 use mathlib.Core.Path.{_≡_}
 use native.Mathlib.Decide.{decLt, ℕ-discrete}
 use lib.Dec.{T}
-use Rattle.answers.specs.declared.Refusal.the-variants.{CommandUnknown, NotInitialized, UibMisplaced, UibOutsideLimits, VolumeAbsent, CountZero, SectorOutside, ImageShort, ListBad, DataMisplaced, DriveHeld}
+use Rattle.answers.specs.declared.Refusal.the-variants.{CommandUnknown, NotInitialized, UibMisplaced, UibOutsideLimits, VolumeAbsent, CountZero, SectorOutside, ImageShort, ListBad, DataMisplaced}
 use Rattle.geometry.specs.declared.Number.{Number}
 use Rattle.geometry.specs.declared.Number.the-variants.{Is, Outside}
 use Rattle.geometry.specs.declared.VolumeNumber.{VolumeNumber}
@@ -24,7 +24,7 @@ use Rattle.request.specs.declared.Shape.{Shape}
 use Rattle.request.specs.declared.Shape.the-variants.{Misplaced, Given as Uib}
 use Rattle.request.specs.declared.Target.{Target}
 use Rattle.request.specs.declared.Task.{Task}
-use Rattle.request.specs.declared.Task.the-variants.{Unknown, Move as Moves, Handshake, Initialize, Restore, Seek, Format, Map}
+use Rattle.request.specs.declared.Task.the-variants.{Unknown, Move as Moves, Handshake, Initialize, Restore, Seek, Format}
 use Rattle.request.specs.declared.Track.{Track}
 use Rattle.unit.specs.Landing.{spotOf, trackOf}
 use Rattle.unit.specs.Standing.{CountsAsInitialized, UnitRecord, geometry}
@@ -51,17 +51,12 @@ unlisted (Initialize s) = false
 unlisted Restore = false
 unlisted (Seek t) = false
 unlisted (Format k) = false
-unlisted Map = false
 
 module _ (a : Asked) where
   -- ---- the checks, each an answer with its case
 
   abbrev pub commandUnknown : Check
   commandUnknown = check CommandUnknown (T (unlisted (a .task))) (test? (unlisted (a .task)))
-
-  -- a check that is never given
-  abbrev pub driveHeld : Check
-  driveHeld = check DriveHeld ⊥ (no (λ x. x))
 
   -- "unit not initialized"
   abbrev pub notInitialized : Check
@@ -114,7 +109,7 @@ module _ (a : Asked) where
 
   -- What every command is asked first: a later answer that is for nearly all of them comes in here.
   abbrev pub firstChecks : List Check
-  firstChecks = commandUnknown ∷ driveHeld ∷ []
+  firstChecks = commandUnknown ∷ []
 
   -- What 81, 82, A1 and A2 are asked of the unit, of their sectors, and of the buffer, which may be a list.
   abbrev pub ofUnit : Move → List Check
@@ -142,7 +137,6 @@ module _ (a : Asked) where
   ownChecks Restore = notInitialized ∷ []
   ownChecks (Seek t) = notInitialized ∷ volumeAbsent (t .volume) ∷ sectorOutside t 1 ∷ []
   ownChecks (Format k) = notInitialized ∷ trackOutside k ∷ imageShort ∷ dataMisplaced (k .buffer) (B (geometry (a .unit))) ∷ []
-  ownChecks Map = []
 
   abbrev pub checks : List Check
   checks = firstChecks ++ ownChecks (a .task)
@@ -193,4 +187,3 @@ planOf u Restore = only (HeadsAt 0)
 planOf u (Seek t) = only (HeadsAt (spotOf u (t .volume) (found (beginsAt u t)) .cylinder))
 -- 8C: "The heads end on the named cylinder."
 planOf u (Format k) = plan (Tracked (trackOf u (k .cylinder) (k .head)) (k .buffer)) Report.Nothing (HeadsAt (k .cylinder))
-planOf u Map = only AsItWas

@@ -5,7 +5,7 @@ use mathlib.Core.Bool.{Bool, true, false, cond, _||_}
 use mathlib.Core.List.{List, [], _∷_}
 use lib.Dec.{T, eqb}
 use Rattle.answers.specs.declared.Refusal.{Refusal}
-use Rattle.answers.specs.declared.Refusal.the-variants.{CommandUnknown, NotInitialized, UibMisplaced, UibOutsideLimits, VolumeAbsent, CountZero, SectorOutside, ImageShort, ListBad, DataMisplaced, DriveHeld}
+use Rattle.answers.specs.declared.Refusal.the-variants.{CommandUnknown, NotInitialized, UibMisplaced, UibOutsideLimits, VolumeAbsent, CountZero, SectorOutside, ImageShort, ListBad, DataMisplaced}
 use Rattle.answers.specs.Numbers.{refusalNumber}
 use Rattle.iopb.specs.declared.Block.{Block}
 use Rattle.iopb.specs.Ask.{taskOf}
@@ -24,13 +24,12 @@ row answer commands = record { answer = answer; commands = commands }
 
 -- The commands that there are (01, What the board answers for).
 abbrev pub listed : List ℕ
-listed = 0x81 ∷ 0x82 ∷ 0x86 ∷ 0x87 ∷ 0x89 ∷ 0x8a ∷ 0x8c ∷ 0xa1 ∷ 0xa2 ∷ 0x85 ∷ []
+listed = 0x81 ∷ 0x82 ∷ 0x86 ∷ 0x87 ∷ 0x89 ∷ 0x8a ∷ 0x8c ∷ 0xa1 ∷ 0xa2 ∷ []
 
 abbrev pub rows : List Row
 rows =
     -- "any": of the commands that there are none is refused so, and every other is (proofs/Table)
     row CommandUnknown listed ∷
-    row DriveHeld listed ∷
     row NotInitialized (0x81 ∷ 0x82 ∷ 0x89 ∷ 0x8a ∷ 0x8c ∷ 0xa1 ∷ 0xa2 ∷ []) ∷
     row UibMisplaced (0x87 ∷ []) ∷
     row UibOutsideLimits (0x87 ∷ []) ∷

@@ -100,7 +100,6 @@ pub fn judge(r: Request, standing: Standing, host: &[u8]) -> Verdict
         Task::Restore => judge_restore(standing),
         Task::Seek(t) => judge_seek(t, standing),
         Task::Format(k) => judge_format(k, standing, host),
-        Task::Map => only(Leaving::AsItWas),
     }
 }
 

@@ -62,7 +62,6 @@ pub enum Task {
     Restore,
     Seek(Target),
     Format(Track),
-    Map,
 }
 
 pub struct Request {

@@ -2,8 +2,7 @@
 -- Each promises the verdict by its kind's own checks, and a listed command passes what all are asked first.
 use mathlib.Core.Path.{sym, _∙_}
 use borrow.Author.Needs.{needs}
-use Rattle.judge.specs.Verdict.{byItsOwn}
-use Rattle.judge.proofs.First.{done, never}
+use Rattle.judge.proofs.First.{never}
 use Rattle.judge.proofs.Tasks.{handshake, own, unknown}
 use Rattle.judge.proofs.judge.Statement.{statement}
 use Rattle.judge.proofs.judge.Tie as tie
@@ -44,12 +43,6 @@ enum-known-task-4 c = search needs
 judge-format-requires : tie.Need-judge-format-requires
 judge-format-requires c κs = search needs
 
-enum-told-4 : tie.Need-enum-told-4
-enum-told-4 c = search needs
-
-only-requires : tie.Need-only-requires
-only-requires c κs = search needs
-
 returns : tie.Need-returns
 returns c = rw (c .enum-told .given .1) (sym (unknown _ _))
 
@@ -71,10 +64,6 @@ returns-6 c = rw (c .before .before .task3 .given .1) (c .judge-seek .ensures _ 
 returns-7 : tie.Need-returns-7
 returns-7 c = rw (c .before .before .task4 .given .1) (c .judge-format .ensures ∙ sym (own _ _ _ never))
 
-returns-8 : tie.Need-returns-8
-unfolding byItsOwn
-returns-8 c = rw (c .before .enum-told4 .given .1) (c .only .ensures ∙ sym (own _ _ _ never ∙ done _))
-
 pub judge-spec : {M : Type 1} → statement M
 judge-spec =
     tie.close
@@ -91,13 +80,10 @@ judge-spec =
     judge-seek-requires
     enum-known-task-4
     judge-format-requires
-    enum-told-4
-    only-requires
     returns
     returns-2
     returns-3
     returns-4
     returns-5
     returns-6
-    returns-7
-    returns-8)
+    returns-7)

@@ -71,11 +71,7 @@ returns-9 c = rw (c .before .before .match .keys9, c .moving4 .ensures, c .befor
 
 returns-10 : tie.Need-returns-10
 unfolding taskOf
-returns-10 c = rw (c .match .keys10)
-
-returns-11 : tie.Need-returns-11
-unfolding taskOf
-returns-11 c =
+returns-10 c =
     let none = c .match .rest in
     simp (
       ne-eqb _ _ (none .1),
@@ -87,7 +83,6 @@ returns-11 c =
       ne-eqb _ _ (none .0 .0 .0 .0 .0 .0 .1),
       ne-eqb _ _ (none .0 .0 .0 .0 .0 .0 .0 .1),
       ne-eqb _ _ (none .0 .0 .0 .0 .0 .0 .0 .0 .1),
-      ne-eqb _ _ (none .0 .0 .0 .0 .0 .0 .0 .0 .0 .1),
     )
 
 pub task-spec : {M : Type 1} → statement M
@@ -112,5 +107,4 @@ task-spec =
     returns-7
     returns-8
     returns-9
-    returns-10
-    returns-11)
+    returns-10)
