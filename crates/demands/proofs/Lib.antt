@@ -6,5 +6,6 @@ pub mod Keeps
 pub mod Lists
 pub mod RunAnswers
 pub mod RunMarks
+pub mod RunNumbers
 pub mod VersionTwo
 pub mod Written

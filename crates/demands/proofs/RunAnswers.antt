@@ -2,8 +2,8 @@
 -- The first three are the checks in their order; the others are told by the last block, whose end leaves one answer.
 use Prim.Native.Nat.{ℕ, zero, suc, _-_, _≤_, _<_}
 use mathlib.Core.Bool.{Bool, true, false}
-use mathlib.Core.List.{List, []}
-use mathlib.Core.Logic.{_↔_, Dec·and, by-cases, if-neg, if-pos}
+use mathlib.Core.List.{List, [], _∷_}
+use mathlib.Core.Logic.{_↔_, _⊎_, Dec·and, by-cases, if-neg, if-pos, inl, inr}
 use mathlib.Core.Path.{_≡_, sym, ap, _∙_}
 use native.Mathlib.Decide.{decLe, decLt}
 use native.Mathlib.Nat.{zero-add}
@@ -12,6 +12,7 @@ use lib.ListN.{length}
 use Rattle.wire.specs.Memory.{InMemory, inMemory?}
 use Rattle.answers.specs.declared.BlockAnswer.{BlockAnswer}
 use Rattle.answers.specs.declared.BlockAnswer.the-variants.{Ended, Failed}
+use Rattle.answers.specs.declared.Refusal.{Refusal}
 use Rattle.answers.specs.declared.RunAnswer.{RunAnswer}
 use Rattle.answers.specs.declared.RunAnswer.the-variants.{Done, EventsShort, AllowanceBad, FirstBad, BlockFailed, LinkBad, AllowanceSpent}
 use Rattle.answers.specs.Numbers.{refusalNumber, runNumber}
@@ -221,3 +222,26 @@ module _ (first allowance : ℕ) (w : World) where
       by-standing (bad long no-good e) = ap (λ (x : Ending). x .world) e
       by-standing (misplaced long good out e) = ap (λ (x : Ending). x .world) e
       by-standing (past passes) = absurd (refused passes)
+
+  -- "with answer 4 the failed block's answer number": a run's failed number is 0, or the number of a block's answer.
+  pub failed-number : (end .failed ≡ 0) ⊎ ((v : Visit) × ((r : Refusal) × ((end .failed ≡ refusalNumber r) × (effectOf v .answer ≡ Failed r))))
+  failed-number = by-standing stands
+    where
+      of-end :
+          (a : RunAnswer) (f left : ℕ) (v : Visit) → EndsWith a f left v →
+          (f ≡ 0) ⊎ ((v : Visit) × ((r : Refusal) × ((f ≡ refusalNumber r) × (effectOf v .answer ≡ Failed r))))
+      of-end Done f left v so = inl (so .0)
+      of-end BlockFailed f left v (r, (is, failed)) = inr (v, (r, (is, failed)))
+      of-end LinkBad f left v so = inl (so .0)
+      of-end AllowanceSpent f left v so = inl (so .0)
+      of-end EventsShort f left v so = absurd so
+      of-end AllowanceBad f left v so = absurd so
+      of-end FirstBad f left v so = absurd so
+
+      by-standing : Stands → (end .failed ≡ 0) ⊎ ((v : Visit) × ((r : Refusal) × ((end .failed ≡ refusalNumber r) × (effectOf v .answer ≡ Failed r))))
+      by-standing (short less e) = inl (ap (λ (x : Ending). x .failed) e)
+      by-standing (bad long no-good e) = inl (ap (λ (x : Ending). x .failed) e)
+      by-standing (misplaced long good out e) = inl (ap (λ (x : Ending). x .failed) e)
+      by-standing (past passes) =
+          let told = run-told passes in
+          of-end (end .answer) (end .failed) (allowance - length (one ∷ told .rest)) (lastOf one (told .rest)) (told .last)
