@@ -131,7 +131,6 @@ extern "C" {
 #define VSMD_LIST_BAD 18u            /* the list has no elements or over 64, is misplaced, or has wrong byte counts */
 #define VSMD_DATA_MISPLACED 19u      /* a data address is odd or its range not in host memory */
 #define VSMD_UNREADABLE 20u          /* a sector is marked unreadable; the sectors before it were moved */
-#define VSMD_PAST_THE_IMAGE 21u      /* kept for its number: the length of the image is asked before (17) */
 
 /* What a call returns that was refused: a buffer is too short for its layout, and nothing at all was changed. No answer above has
  * the low byte of one of these. */

@@ -1,11 +1,12 @@
 -- The numbers stay distinct (01, What the board answers for): a number leads back to its answer.
 -- Each answer is found again by its number, so two answers with one number are one answer.
-use Prim.Native.Nat.{ℕ}
+use Prim.Native.Nat.{ℕ, _≤_}
 use mathlib.Core.Bool.{cond}
 use mathlib.Core.Path.{_≡_, refl, sym, ap, _∙_}
+use native.Mathlib.Omega.{arith}
 use lib.Dec.{eqb}
 use Rattle.answers.specs.declared.Refusal.{Refusal}
-use Rattle.answers.specs.declared.Refusal.the-variants.{CommandUnknown, NotInitialized, UibMisplaced, UibOutsideLimits, VolumeAbsent, CountZero, SectorOutside, ImageShort, ListBad, DataMisplaced, Unreadable, PastTheImage}
+use Rattle.answers.specs.declared.Refusal.the-variants.{CommandUnknown, NotInitialized, UibMisplaced, UibOutsideLimits, VolumeAbsent, CountZero, SectorOutside, ImageShort, ListBad, DataMisplaced, Unreadable}
 use Rattle.answers.specs.declared.RunAnswer.{RunAnswer}
 use Rattle.answers.specs.declared.RunAnswer.the-variants.{Done, EventsShort, AllowanceBad, FirstBad, BlockFailed, LinkBad, AllowanceSpent}
 use Rattle.answers.specs.Numbers.{refusalNumber, runNumber}
@@ -22,8 +23,7 @@ refusal n =
     (cond (eqb n 17) ImageShort
     (cond (eqb n 18) ListBad
     (cond (eqb n 19) DataMisplaced
-    (cond (eqb n 20) Unreadable
-    PastTheImage))))))))))
+    Unreadable)))))))))
 
 refusal-back : (a : Refusal) → refusal (refusalNumber a) ≡ a
 unfolding refusal
@@ -38,7 +38,6 @@ refusal-back ImageShort = refl
 refusal-back ListBad = refl
 refusal-back DataMisplaced = refl
 refusal-back Unreadable = refl
-refusal-back PastTheImage = refl
 
 pub refusals-differ : (a b : Refusal) → refusalNumber a ≡ refusalNumber b → a ≡ b
 refusals-differ a b same = sym (refusal-back a) ∙ ap refusal same ∙ refusal-back b
@@ -65,3 +64,17 @@ answer-back AllowanceSpent = refl
 
 pub answers-differ : (a b : RunAnswer) → runNumber a ≡ runNumber b → a ≡ b
 answers-differ a b same = sym (answer-back a) ∙ ap answer same ∙ answer-back b
+
+-- A block's answer has one of the numbers 10 to 20.
+pub refusals-in-range : (a : Refusal) → (10 ≤ refusalNumber a) × (refusalNumber a ≤ 20)
+refusals-in-range CommandUnknown = omega arith
+refusals-in-range NotInitialized = omega arith
+refusals-in-range UibMisplaced = omega arith
+refusals-in-range UibOutsideLimits = omega arith
+refusals-in-range VolumeAbsent = omega arith
+refusals-in-range CountZero = omega arith
+refusals-in-range SectorOutside = omega arith
+refusals-in-range ImageShort = omega arith
+refusals-in-range ListBad = omega arith
+refusals-in-range DataMisplaced = omega arith
+refusals-in-range Unreadable = omega arith

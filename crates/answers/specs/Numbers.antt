@@ -3,7 +3,7 @@ use Prim.Native.Nat.{ℕ}
 use Rattle.answers.specs.declared.BlockAnswer.{BlockAnswer}
 use Rattle.answers.specs.declared.BlockAnswer.the-variants.{Ended, Failed}
 use Rattle.answers.specs.declared.Refusal.{Refusal}
-use Rattle.answers.specs.declared.Refusal.the-variants.{CommandUnknown, NotInitialized, UibMisplaced, UibOutsideLimits, VolumeAbsent, CountZero, SectorOutside, ImageShort, ListBad, DataMisplaced, Unreadable, PastTheImage}
+use Rattle.answers.specs.declared.Refusal.the-variants.{CommandUnknown, NotInitialized, UibMisplaced, UibOutsideLimits, VolumeAbsent, CountZero, SectorOutside, ImageShort, ListBad, DataMisplaced, Unreadable}
 use Rattle.answers.specs.declared.RunAnswer.{RunAnswer}
 use Rattle.answers.specs.declared.RunAnswer.the-variants.{Done, EventsShort, AllowanceBad, FirstBad, BlockFailed, LinkBad, AllowanceSpent}
 
@@ -46,8 +46,6 @@ refusalNumber ListBad = 18
 refusalNumber DataMisplaced = 19
 -- "unreadable sector, DE clear"
 refusalNumber Unreadable = 20
--- "a sector past the image's end though check 17 passed; kept from version two"
-refusalNumber PastTheImage = 21
 
 -- "the failed block's answer number, 10 and up (otherwise 0)" (01, What the board answers for)
 abbrev pub blockNumber : BlockAnswer → ℕ

@@ -28,7 +28,6 @@ pub enum Refusal {
     ListBad,
     DataMisplaced,
     Unreadable,
-    PastTheImage,
 }
 
 // How a block ended.
@@ -55,7 +54,7 @@ impl RunAnswer {
 }
 
 impl Refusal {
-    // The paper's number, 10 to 21.
+    // The paper's number, 10 to 20.
     pub fn number(self) -> u8
         ensures { λ r. ⌜ r ≡ refusalNumber self ⌝ }
     {
@@ -71,7 +70,6 @@ impl Refusal {
             Refusal::ListBad => 18,
             Refusal::DataMisplaced => 19,
             Refusal::Unreadable => 20,
-            Refusal::PastTheImage => 21,
         }
     }
 }

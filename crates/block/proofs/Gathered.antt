@@ -23,7 +23,7 @@ use Rattle.unit.specs.Standing.{UnitRecord, geometry}
 use Rattle.transfer.specs.declared.Moved.{Moved}
 use Rattle.transfer.specs.Data.{Transfer, dataOn, moveAt, progressOn}
 use Rattle.transfer.specs.Pieces.{joined, sum}
-use Rattle.transfer.specs.Progress.{fateAt}
+use Rattle.transfer.specs.Progress.{stopsAt}
 use Rattle.transfer.specs.Data.{placeFrom}
 use Rattle.transfer.specs.Runs.{PiecesFit, pieceByte}
 use Rattle.transfer.specs.Stores.{Store, after}
@@ -42,7 +42,7 @@ module _ (image : List ℕ) (u : UnitRecord) (j : Job) (f g : ℕ → ℕ) (same
   come : progressOn image (with f) .sectors ≤ j .span .count
   come =
       rw zero-add at
-      (progress-most (λ x. fateAt image (geometry u) (with f .heeds) (placeFrom u (j .span .volume) (j .span .first) x)) 0 (j .span .count))
+      (progress-most (λ x. stopsAt image (geometry u) (with f .heeds) (placeFrom u (j .span .volume) (j .span .first) x)) 0 (j .span .count))
 
   pub data-same : dataOn image (with f) ≡ dataOn image (with g)
   unfolding dataOn
@@ -128,11 +128,13 @@ module _ (host : List ℕ) (at n bytes : ℕ) (good : ListGood host at n bytes) 
 module _ (host image : List ℕ) (u : UnitRecord) (j : Job) (good : JobGood u (length image) host j) where
   fits-with :
       (lengths addresses : List ℕ) → PiecesFit (length host) (j .span .count * B (geometry u)) lengths addresses →
-      SectorsFit u (j .span) lengths addresses (length host)
-  fits-with lengths addresses pieces = record { some = good .span .some; inside = good .span .inside; pieces = pieces }
+      SectorsFit u (j .span) lengths addresses (length host) (length image)
+  fits-with lengths addresses pieces =
+      record { some = good .span .some; inside = good .span .inside; pieces = pieces; held = good .long }
 
   pub piece-fits :
-      (at : ℕ) → j .buffer ≡ Buffer.Piece at → SectorsFit u (j .span) (j .span .count * B (geometry u) ∷ []) (at ∷ []) (length host)
+      (at : ℕ) → j .buffer ≡ Buffer.Piece at →
+      SectorsFit u (j .span) (j .span .count * B (geometry u) ∷ []) (at ∷ []) (length host) (length image)
   piece-fits at is = fits-with _ _ (one-piece-fits host at (j .span .count * B (geometry u)) (rw is at (good .buffer)))
 
   module _ (at n : ℕ) (is : j .buffer ≡ Buffer.List at n) where
@@ -144,7 +146,7 @@ module _ (host image : List ℕ) (u : UnitRecord) (j : Job) (good : JobGood u (l
     unfolding piecesOf
     copied-out = if-pos (listPlace? host at n) (record { most = list-good .most; place = list-good .place }) _ _
 
-    pub elements-fit : SectorsFit u (j .span) (take n (lengthsOf host at n)) (take n (addressesOf host at n)) (length host)
+    pub elements-fit : SectorsFit u (j .span) (take n (lengthsOf host at n)) (take n (addressesOf host at n)) (length host) (length image)
     elements-fit = fits-with _ _ (list-fits host at n (j .span .count * B (geometry u)) list-good ((rw is at (good .buffer)) .1))
 
     pub slots-enough : (n ≤ length (lengthsOf host at n)) × (n ≤ length (addressesOf host at n))
@@ -152,5 +154,7 @@ module _ (host image : List ℕ) (u : UnitRecord) (j : Job) (good : JobGood u (l
 
 -- A track that fits.
 pub track-fits :
-    (host : List ℕ) (image : ℕ) (u : UnitRecord) (spot : Spot) (at : ℕ) → TrackGood u image host spot at → TrackFits u spot at (length host)
-track-fits host image u spot at good = record { some = good .some; inside = good .track; memory = good .buffer .inside }
+    (host : List ℕ) (image : ℕ) (u : UnitRecord) (spot : Spot) (at : ℕ) → TrackGood u image host spot at →
+    TrackFits u spot at (length host) image
+track-fits host image u spot at good =
+    record { some = good .some; inside = good .track; memory = good .buffer .inside; held = good .long }

@@ -37,10 +37,10 @@ abbrev pub Stores : List Store → (host image host′ image′ : List ℕ) → 
 Stores ss host image host′ image′ = (events : List ℕ) → three host′ image′ events ≡ after ss (three host image events)
 
 -- What is to be moved fits, to or from these pieces.
-abbrev pub Ready : UnitRecord → Moving → (lengths addresses : List ℕ) → ℕ → Type 0
-Ready u Nothing lengths addresses long = Unit {0}
-Ready u (Sectors j) lengths addresses long = SectorsFit u (j .span) lengths addresses long
-Ready u (Track spot at) lengths addresses long = TrackFits u spot at long
+abbrev pub Ready : UnitRecord → Moving → (lengths addresses : List ℕ) → (long image : ℕ) → Type 0
+Ready u Nothing lengths addresses long image = Unit {0}
+Ready u (Sectors j) lengths addresses long image = SectorsFit u (j .span) lengths addresses long image
+Ready u (Track spot at) lengths addresses long image = TrackFits u spot at long image
 
 -- A block was marked as running and a transfer made: what it came to, and every byte.
 pub record Made (t : Transfer) (at : ℕ) (host image host′ image′ : List ℕ) (m : Moved) : Type 0 where

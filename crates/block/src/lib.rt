@@ -93,7 +93,7 @@ fn begin(
     lengths: &[u32],
     addresses: &[u32],
 ) -> Moved
-    requires { ⌜ (at + 28 ≤ length (now host)) × Ready u moving (now lengths) (now addresses) (length (now host)) ⌝ }
+    requires { ⌜ (at + 28 ≤ length (now host)) × Ready u moving (now lengths) (now addresses) (length (now host)) (length (now image)) ⌝ }
     ensures { λ m. ⌜ Made (transferWith u moving (pieceByte (now (lengths .entry)) (now (addresses .entry)))) at (now (host .entry)) (now (image .entry)) (now (host .exit)) (now (image .exit)) m ⌝ }
 {
     put_status(host, at, 0x81, 0x00);
@@ -207,7 +207,7 @@ fn carry_job(host: &mut [u8], image: &mut [u8], u: Record, at: usize, job: Job) 
 
 // What needs no pieces: nothing to be moved, or a track, which is told by an address.
 fn without_pieces(host: &mut [u8], image: &mut [u8], u: Record, at: usize, moving: Moving) -> Moved
-    requires { ⌜ (at + 28 ≤ length (now host)) × Ready u moving (0 ∷ []) (0 ∷ []) (length (now host)) ⌝ }
+    requires { ⌜ (at + 28 ≤ length (now host)) × Ready u moving (0 ∷ []) (0 ∷ []) (length (now host)) (length (now image)) ⌝ }
     ensures { λ m. ⌜ Made (transferWith u moving (pieceByte (0 ∷ []) (0 ∷ []))) at (now (host .entry)) (now (image .entry)) (now (host .exit)) (now (image .exit)) m ⌝ }
 {
     let none = [0u32];

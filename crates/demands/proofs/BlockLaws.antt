@@ -2,7 +2,7 @@
 -- The first two are the exact footprint; a block fails only as the judgement or its transfer does, and each has its own law.
 use Prim.Native.Nat.{ℕ, _+_, _*_, _≤_, _<_}
 use mathlib.Core.List.{List, _∷_, _++_}
-use mathlib.Core.Logic.{_↔_, ⊎-elim}
+use mathlib.Core.Logic.{_↔_}
 use mathlib.Core.Path.{_≡_, refl, sym, ap, subst, _∙_}
 use native.Mathlib.Omega.{arith}
 use native.Mathlib.Nat.{zero-mul}
@@ -19,14 +19,14 @@ use Rattle.judge.specs.Table.{BeforeTransfer}
 use Rattle.judge.proofs.Exactly.{check-before-transfer, given-in-its-case, refused-before-transfer}
 use Rattle.request.specs.declared.UnitNumber.{UnitNumber}
 use Rattle.transfer.specs.Stores.{Stored, imageByte}
-use Rattle.transfer.proofs.Marks.{never-past-the-image, no-mark-stored}
+use Rattle.transfer.proofs.Marks.{no-mark-stored}
 use Rattle.transfer.proofs.Stops.{means-unreadable, stopped-with, unreadable-means}
 use Rattle.block.specs.Block.{Effect, judged, transferOf, wordsOf}
 use Rattle.block.specs.World.{driveOf}
 use Rattle.demands.specs.Footprint.{Stopped, WritesHost, WritesImage, askedOf, changes, comes, leavingOf, movingOf, namedDrive, names, reportOf, transferBy, verdictOf}
 use Rattle.demands.specs.Footprint.HostWritten.{moved, report, status-word}
 use Rattle.demands.specs.Visits.{Visit, effectOf, worldLeft}
-use Rattle.demands.proofs.Fits.{all-in-image, drives-geometry, on-drive}
+use Rattle.demands.proofs.Fits.{drives-geometry, on-drive}
 use Rattle.demands.proofs.Keeps.{block-keeps-events, block-keeps-host, block-keeps-image, block-keeps-record}
 use Rattle.demands.proofs.Written.{data-disk, effect-is, event-written-exactly, host-written-exactly, image-written-exactly, sectors-come}
 use Rattle.unit.specs.Standing.{geometry}
@@ -112,16 +112,14 @@ module _ (v : Visit) where
       by-verdict (Refused s) is answer = refused (is ∙ ap Verdict.Refused (cc (rw is at answer)))
       by-verdict (Do plan) is answer = stopped (rw is (rw is at answer))
 
-  -- An answer before transfer is a block's exactly where the judgement refuses it so. A transfer that is stopped has 20 or 21.
+  -- An answer before transfer is a block's exactly where the judgement refuses it so. A transfer that is stopped has 20.
   pub refused-exactly : (r : Refusal) → BeforeTransfer r → (effectOf v .answer ≡ BlockAnswer.Failed r) ↔ (verdictOf v ≡ Refused r)
   refused-exactly r early = (λ e. by-way (fails r e), λ is. refusal-moves-nothing r is .1)
     where
       by-way : Fails r → verdictOf v ≡ Refused r
       by-way (refused is) = is
       by-way (stopped stop) =
-          absurd
-          (⊎-elim (λ same. subst BeforeTransfer same early) (λ same. subst BeforeTransfer same early)
-          (stopped-with (namedDrive v .image) (transferBy (askedOf v)) r stop))
+          absurd (subst BeforeTransfer (stopped-with (namedDrive v .image) (transferBy (askedOf v)) r stop) early)
 
   -- So each of 10 to 19 is "given in its stated case and no other" (00, demand 1): a check's answer is the block's exactly where its
   -- case is given and that of no check before it, "Block answers, in order".
@@ -154,12 +152,4 @@ module _ (v : Visit) where
       by-stop stop =
           ap (λ (x : Effect). x .answer) (effect-is v)
           ∙ answers (verdictOf v) refl (stop .there)
-          ∙ means-unreadable (namedDrive v .image) (transferBy (askedOf v)) (all-in-image (askedOf v) (comes (askedOf v) (namedDrive v) .sectors) (stop .there)) stop
-
-  -- 21: "a sector past the image's end though check 17 passed". No block is answered so: where check 17 passed, no sector is.
-  pub never-21 : effectOf v .answer ≡ BlockAnswer.Failed Refusal.PastTheImage → ⊥
-  never-21 e = by-way (fails Refusal.PastTheImage e)
-    where
-      by-way : Fails Refusal.PastTheImage → ⊥
-      by-way (refused is) = refused-before-transfer _ Refusal.PastTheImage is
-      by-way (stopped stop) = never-past-the-image (namedDrive v .image) (transferBy (askedOf v)) (all-in-image (askedOf v)) stop
+          ∙ means-unreadable (namedDrive v .image) (transferBy (askedOf v)) stop

@@ -1,9 +1,10 @@
 -- What a verdict has moved fits, and so does what it leaves of the record: a plan that was let through does, and a refused block moves
 -- nothing and leaves the record as it was.
-use Prim.Native.Nat.{ℕ, _≤_, _<_}
+use Prim.Native.Nat.{ℕ, _+_, _≤_, _<_}
 use mathlib.Core.Path.{_≡_, refl}
 use native.Mathlib.Omega.{arith}
-use Rattle.geometry.specs.Drive.{need}
+use Rattle.geometry.specs.Drive.{B, need}
+use Rattle.geometry.specs.Sectors.{firstByte, markByte}
 use Rattle.geometry.proofs.Laws.{sector-in-image}
 use Rattle.judge.specs.declared.Moving.{Moving}
 use Rattle.judge.specs.declared.Moving.the-variants.{Nothing, Sectors, Track}
@@ -13,7 +14,6 @@ use Rattle.judge.specs.Fits.{LeavingFits, MovingFits}
 use Rattle.judge.specs.Given.{Asked}
 use Rattle.judge.specs.Verdict.{verdict}
 use Rattle.judge.proofs.LetThrough.{plan-fits}
-use Rattle.transfer.specs.Progress.{InImage}
 use Rattle.transfer.proofs.Marks.{StandsOnDrive, formatting-on-drive, moving-on-drive}
 use Rattle.block.specs.Block.{dataByte, transferOf}
 use Rattle.demands.specs.Footprint.{leavingOf, movingOf, transferBy}
@@ -53,10 +53,12 @@ module _ (a : Asked) where
       by-moving (Sectors j) = refl
       by-moving (Track spot at) = refl
 
-  pub all-in-image : (j : ℕ) → j < transferBy a .count → InImage (transferBy a .geometry) (a .image) (transferBy a .place j)
+  pub all-in-image :
+      (j : ℕ) → j < transferBy a .count →
+      (firstByte (transferBy a .geometry) (transferBy a .place j) + B (transferBy a .geometry) ≤ a .image) ×
+      (markByte (transferBy a .geometry) (transferBy a .place j) < a .image)
   all-in-image j less =
-      let image = sector-in-image (transferBy a .geometry) (a .image) (transferBy a .place j) (long (movingOf (verdict a)) moving-fits less) (on-drive j less) in
-      record { bytes = image .0; mark = image .1 }
+      sector-in-image (transferBy a .geometry) (a .image) (transferBy a .place j) (long (movingOf (verdict a)) moving-fits less) (on-drive j less)
     where
       long :
           (m : Moving) → MovingFits (a .unit) (a .image) (a .host) m → j < transferOf (a .host) (a .unit) m .count →

@@ -1,21 +1,18 @@
--- The failed number of a run: it is a block's, and what no block is answered no run tells.
--- A number leads back to its answer.
-use Prim.Native.Nat.{ℕ}
-use mathlib.Core.Logic.{⊎-elim}
-use mathlib.Core.Path.{_≡_, sym, ap, _∙_}
+-- The failed number of a run: 0, or that of a block's answer.
+use Prim.Native.Nat.{ℕ, _≤_}
+use mathlib.Core.Logic.{_⊎_, inl, inr, ⊎-elim}
+use mathlib.Core.Path.{_≡_}
 use native.Mathlib.Omega.{arith}
-use Rattle.answers.specs.declared.BlockAnswer.the-variants.{Failed}
-use Rattle.answers.specs.declared.Refusal.the-variants.{PastTheImage}
-use Rattle.answers.proofs.Laws.{refusals-differ}
+use Rattle.answers.proofs.Laws.{refusals-in-range}
 use Rattle.block.specs.World.{World}
 use Rattle.board.specs.Chain.{ran}
-use Rattle.demands.proofs.BlockLaws.{never-21}
 use Rattle.demands.proofs.RunAnswers.{failed-number}
 
--- 21 is no run's number, whatever the world, the first address and the allowance: no block is answered so, since a sector that check 17
--- let through lies in the image with its bytes and its mark (all-in-image of Fits; sectors-reachable of judge).
-pub never-21-in-a-run : (first allowance : ℕ) (w : World) → ran first allowance w .failed ≡ 21 → ⊥
-never-21-in-a-run first allowance w is =
-    ⊎-elim (λ none. omega arith)
-    (λ (v, (r, (number, failed))). never-21 v (failed ∙ ap Failed (refusals-differ r PastTheImage (sym number ∙ is))))
+-- It is 0 or one of 10 to 20, whatever the world, the first address and the allowance.
+pub failed-in-range :
+    (first allowance : ℕ) (w : World) →
+    (ran first allowance w .failed ≡ 0) ⊎ ((10 ≤ ran first allowance w .failed) × (ran first allowance w .failed ≤ 20))
+failed-in-range first allowance w =
+    ⊎-elim (λ none. inl none)
+    (λ (v, (r, (number, failed))). inr (omega (arith, refusals-in-range r)))
     (failed-number first allowance w)

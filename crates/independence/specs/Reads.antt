@@ -18,8 +18,7 @@ pub data HostRead (at uib : ℕ) (a : Asked) (d : Drive) (x : ℕ) : Type 0 wher
   its-uib : InUib a uib uibBytes x → HostRead at uib a d x
   -- "a list of 1 to 64 elements .."
   its-list : InList a x → HostRead at uib a d x
-  -- "the data of 82, A2 and 8C": the bytes moved, which are all of them, since only 21 would stop a write and no block is answered 21
-  -- (demands, never-21)
+  -- "the data of 82, A2 and 8C": the bytes moved, which are all of them, since nothing stops a write
   moved : HostData a d false x → HostRead at uib a d x
 
 -- What a block that was fetched reads, and what a run reads: some block that it fetches does.

@@ -1,6 +1,6 @@
 -- What a transfer leaves, for each byte: those of the sectors that come are there, and everything else is as it was.
 -- Its stores are copies from cells of which none is a target, so the last store to a cell leaves what its source held before.
-use Prim.Native.Nat.{ℕ, suc, _+_, _-_, _*_, _/_, _%_, _<_}
+use Prim.Native.Nat.{ℕ, suc, _+_, _-_, _*_, _/_, _%_, _<_, _≤_}
 use mathlib.Core.Bool.{Bool, true, false}
 use mathlib.Core.List.{List}
 use mathlib.Core.Path.{_≡_, refl, sym, ap, _∙_}
@@ -10,18 +10,19 @@ use lib.ListN.{getD, length}
 use lib.Seq.{getD-set-same}
 use Rattle.geometry.specs.declared.Geometry.{Geometry}
 use Rattle.geometry.specs.declared.VolumeNumber.{VolumeNumber}
-use Rattle.geometry.specs.Drive.{B}
+use Rattle.geometry.specs.Drive.{B, S, driveSectors, need, volumeSectors}
 use Rattle.geometry.specs.Sectors.{firstByte}
-use Rattle.geometry.proofs.Laws.{bytes-differ}
+use Rattle.geometry.proofs.Laws.{bytes-differ, sector-in-image}
 use Rattle.unit.specs.declared.Spot.{Spot}
 use Rattle.unit.specs.Standing.{UnitRecord, geometry}
 use Rattle.transfer.specs.Data.{Transfer, dataOn, diskByte, formatting, move, moving, placeFrom, progressOn}
-use Rattle.transfer.specs.Progress.{fateAt}
+use Rattle.transfer.specs.Progress.{stopsAt}
 use Rattle.transfer.specs.Stores.{Buffers, Cell, Store, Stored, after, copyOf, eventByte, held, hostByte, imageByte, upTo, with}
-use Rattle.transfer.proofs.Progress.{progress-most, progress-moved}
+use Rattle.transfer.proofs.Marks.{moving-on-drive}
+use Rattle.transfer.proofs.Progress.{progress-most}
 use Rattle.transfer.proofs.Stays.{events-stay, host-stays, image-stays, lengths-stay, stored-of-upTo, unstored-stays}
 use Rattle.transfer.proofs.Stores.{after-add, after-more}
-use Rattle.transfer.proofs.Wholes.{bytes-held, moved-in-image, some-bytes}
+use Rattle.transfer.proofs.Wholes.{bytes-held, some-bytes}
 
 -- ---- copies in a row
 
@@ -174,13 +175,13 @@ module _ (m : Buffers) (t : Transfer) where
         events-stay (dataOn (m .image) t) m
         (λ x there. let k = target (eventByte x) there in host-no-event _ _ (k .1 .1))
 
-  -- Every byte that comes lies in the image.
-  pub carried-in-image : (k : ℕ) → k < carried m t → onDisk t k < length (m .image)
-  carried-in-image =
-      bytes-held (t .geometry) (t .place) (progressOn (m .image) t .sectors) (length (m .image))
-      (λ j j<.
-      moved-in-image (m .image) (t .geometry) (t .heeds) (t .place j)
-      (progress-moved (λ i. fateAt (m .image) (t .geometry) (t .heeds) (t .place i)) 0 (t .count) j (omega arith) j<))
+  -- Every byte that comes lies in the image, where every sector does.
+  pub carried-in-image :
+      ((j : ℕ) → j < t .count → firstByte (t .geometry) (t .place j) + B (t .geometry) ≤ length (m .image)) →
+      (k : ℕ) → k < carried m t → onDisk t k < length (m .image)
+  carried-in-image there =
+      let most = rw zero-add at (progress-most (λ i. stopsAt (m .image) (t .geometry) (t .heeds) (t .place i)) 0 (t .count)) in
+      bytes-held (t .geometry) (t .place) (progressOn (m .image) t .sectors) (length (m .image)) (λ j j<. there j (omega arith))
 
   -- A transfer from the host.
   module _ (writes : t .to-host ≡ false) where
@@ -200,19 +201,21 @@ module _ (m : Buffers) (t : Transfer) where
 
     -- Of the bytes that come, each is in the image, at its place there, where no later one takes that place.
     pub image-has-byte :
+        ((j : ℕ) → j < t .count → firstByte (t .geometry) (t .place j) + B (t .geometry) ≤ length (m .image)) →
         (k : ℕ) → k < carried m t → ((i : ℕ) → k < i → i < carried m t → onDisk t i ≡ onDisk t k → ⊥) →
         getD (afterwards m t .image) (onDisk t k) 0 ≡ getD (m .host) (t .host-byte k) 0
-    image-has-byte k less last =
+    image-has-byte there k less last =
         rw (one-way false writes)
         (last-holds m (carried m t) host disk apart-again k less (λ i later i< same. last i later i< (same-image _ _ same))
-        (carried-in-image k less))
+        (carried-in-image there k less))
 
     -- So all of them are, where the sectors moved stand at different places: the image has the host's bytes for them.
     pub image-has-bytes :
+        ((j : ℕ) → j < t .count → firstByte (t .geometry) (t .place j) + B (t .geometry) ≤ length (m .image)) →
         ((i j : ℕ) → i < progressOn (m .image) t .sectors → j < progressOn (m .image) t .sectors → t .place i ≡ t .place j → i ≡ j) →
         (k : ℕ) → k < carried m t → getD (afterwards m t .image) (onDisk t k) 0 ≡ getD (m .host) (t .host-byte k) 0
-    image-has-bytes differ k less =
-        image-has-byte k less
+    image-has-bytes there differ k less =
+        image-has-byte there k less
         (λ i later i< same.
         omega (arith, disk-bytes-differ (t .geometry) (t .place) (progressOn (m .image) t .sectors) differ i k i< less same))
 
@@ -232,18 +235,24 @@ module _ (m : Buffers) (t : Transfer) where
 -- Sectors of a volume, written: where they stand at different places the image has the host's bytes for the sectors moved.
 pub moving-writes-bytes :
     (m : Buffers) (u : UnitRecord) (past-marks : Bool) (v : VolumeNumber) (first count : ℕ) (host-byte : ℕ → ℕ) →
+    first + count ≤ volumeSectors (geometry u) v → need (geometry u) ≤ length (m .image) →
     ((i j : ℕ) → i < count → j < count → placeFrom u v first i ≡ placeFrom u v first j → i ≡ j) →
     let t = moving u false past-marks v first count host-byte in
     (k : ℕ) → k < carried m t → getD (afterwards m t .image) (onDisk t k) 0 ≡ getD (m .host) (host-byte k) 0
-moving-writes-bytes m u past-marks v first count host-byte differ k less =
+moving-writes-bytes m u past-marks v first count host-byte inside long differ k less =
     let t = moving u false past-marks v first count host-byte in
-    let most = rw zero-add at (progress-most (λ j. fateAt (m .image) (t .geometry) (t .heeds) (t .place j)) 0 count) in
-    image-has-bytes m t refl (λ i j i< j< same. differ i j (omega arith) (omega arith) same) k less
+    let most = rw zero-add at (progress-most (λ j. stopsAt (m .image) (t .geometry) (t .heeds) (t .place j)) 0 count) in
+    image-has-bytes m t refl
+    (λ j j<. sector-in-image (geometry u) (length (m .image)) (t .place j) long (moving-on-drive u false past-marks v first count host-byte inside j j<) .0)
+    (λ i j i< j< same. differ i j (omega arith) (omega arith) same) k less
 
 -- A track, formatted: each of its sectors that is moved has the bytes from that address of host memory on.
 pub formatting-writes-bytes :
     (m : Buffers) (u : UnitRecord) (spot : Spot) (at : ℕ) →
+    spot .place + S (geometry u) ≤ driveSectors (geometry u) → need (geometry u) ≤ length (m .image) →
     let t = formatting u spot at in
     (k : ℕ) → k < carried m t → getD (afterwards m t .image) (onDisk t k) 0 ≡ getD (m .host) (at + k % B (geometry u)) 0
-formatting-writes-bytes m u spot at k less =
-    image-has-bytes m (formatting u spot at) refl (λ i j i< j< same. omega arith) k less
+formatting-writes-bytes m u spot at inside long k less =
+    image-has-bytes m (formatting u spot at) refl
+    (λ j j<. sector-in-image (geometry u) (length (m .image)) (spot .place + j) long (omega arith) .0)
+    (λ i j i< j< same. omega arith) k less

@@ -10,19 +10,19 @@ use native.Mathlib.Omega.{arith}
 use lib.Arith.{digits-mod}
 use lib.ListN.{length}
 use Rattle.wire.specs.Copy.{copied}
-use Rattle.geometry.specs.Drive.{B, S}
+use Rattle.geometry.specs.Drive.{B, S, driveSectors, need}
 use Rattle.geometry.specs.Sectors.{firstByte}
-use Rattle.geometry.proofs.Laws.{bytes-consecutive}
+use Rattle.geometry.proofs.Laws.{bytes-consecutive, sector-in-image}
 use Rattle.unit.specs.declared.Spot.{Spot}
 use Rattle.unit.specs.Standing.{UnitRecord, geometry}
 use Rattle.transfer.specs.Data.{dataOn, formatting, move, progressOn}
-use Rattle.transfer.specs.Progress.{Progress, fateAt}
+use Rattle.transfer.specs.Progress.{Progress, stopsAt}
 use Rattle.transfer.specs.Runs.{fillStore, lent}
 use Rattle.transfer.specs.Stores.{Buffers, Store, after, upTo}
 use Rattle.transfer.specs.Whole.{TrackFits, idle, movedOn, resultOf, trackFits?, trackResult}
 use Rattle.transfer.proofs.Cursors.{row-of-bytes}
-use Rattle.transfer.proofs.Progress.{progress-moved}
-use Rattle.transfer.proofs.Wholes.{moved-in-image, some-bytes}
+use Rattle.transfer.proofs.Progress.{progress-most}
+use Rattle.transfer.proofs.Wholes.{some-bytes}
 use Rattle.transfer.proofs.Stores.{after-add, run-is-copy, upTo-same}
 
 module _ (host image₀ : List ℕ) (first at bytes : ℕ) (memory : at + bytes ≤ length host) where
@@ -52,17 +52,18 @@ module _ (image : List ℕ) (u : UnitRecord) (spot : Spot) (at : ℕ) where
   abbrev come : Progress
   come = progressOn image (formatting u spot at)
 
-  -- The sectors that come have their bytes in the image.
-  pub track-room : 0 < come .sectors → firstByte (geometry u) (spot .place) + come .sectors * B (geometry u) ≤ length image
-  track-room some =
+  -- The sectors that come have their bytes in the image, since it is long enough for the drive, which has the track.
+  pub track-room :
+      spot .place + S (geometry u) ≤ driveSectors (geometry u) → need (geometry u) ≤ length image →
+      0 < come .sectors → firstByte (geometry u) (spot .place) + come .sectors * B (geometry u) ≤ length image
+  track-room inside long some =
       let last : ℕ = come .sectors - 1 in
-      let inside =
-      moved-in-image image (geometry u) false (spot .place + last)
-      (progress-moved (λ j. fateAt image (geometry u) false (spot .place + j)) 0 (S (geometry u)) last (omega arith) (omega arith)) in
+      let most = rw zero-add at (progress-most (λ j. stopsAt image (geometry u) false (spot .place + j)) 0 (S (geometry u))) in
+      let there = sector-in-image (geometry u) (length image) (spot .place + last) long (omega arith) in
       let all : come .sectors ≡ last + 1 = omega arith in
       omega (
         arith,
-        inside .bytes,
+        there .0,
         bytes-consecutive (geometry u) (spot .place) last,
         ap (λ (x : ℕ). x * B (geometry u)) all,
         add-mul last 1 (B (geometry u)),
@@ -84,11 +85,11 @@ module _ (image : List ℕ) (u : UnitRecord) (spot : Spot) (at : ℕ) where
 
   module _ (long : ℕ) where
     pub track-fit :
-        TrackFits u spot at long →
+        TrackFits u spot at long (length image) →
         trackResult long image u spot at ≡ resultOf (movedOn image (formatting u spot at)) (dataOn image (formatting u spot at))
     unfolding trackResult
-    track-fit fit = if-pos (trackFits? u spot at long) fit _ _
+    track-fit fit = if-pos (trackFits? u spot at long (length image)) fit _ _
 
-    pub track-unfit : (TrackFits u spot at long → ⊥) → trackResult long image u spot at ≡ resultOf idle []
+    pub track-unfit : (TrackFits u spot at long (length image) → ⊥) → trackResult long image u spot at ≡ resultOf idle []
     unfolding trackResult
-    track-unfit unfit = if-neg (trackFits? u spot at long) unfit _ _
+    track-unfit unfit = if-neg (trackFits? u spot at long (length image)) unfit _ _

@@ -1,5 +1,5 @@
 -- A transfer's sectors stand on the drive, before the marks: it changes no mark and no byte after the marks.
--- How many sectors come is read off its answer, and the image's end stops none where all of them lie in the image.
+-- How many sectors come is read off its answer.
 use Prim.Native.Nat.{ℕ, zero, suc, _+_, _*_, _/_, _≤_, _<_}
 use mathlib.Core.Bool.{Bool, true, false, cond}
 use mathlib.Core.List.{List}
@@ -20,7 +20,7 @@ use Rattle.unit.specs.declared.Spot.{Spot}
 use Rattle.unit.proofs.Laws.{spot-inside}
 use Rattle.unit.specs.Standing.{UnitRecord, geometry}
 use Rattle.transfer.specs.Data.{Transfer, dataOn, diskByte, formatting, move, moveAt, moving, progressOn}
-use Rattle.transfer.specs.Progress.{Fate, InImage, fateAt, inImage?, moves, onward, progress, stops}
+use Rattle.transfer.specs.Progress.{stopsAt}
 use Rattle.transfer.specs.Stores.{Buffers, Stored, after, held, imageByte}
 use Rattle.transfer.proofs.Progress.{Counts, progress-counts, progress-most}
 use Rattle.transfer.proofs.Stays.{stored-of-upTo, unstored-stays}
@@ -54,7 +54,7 @@ module _ (image : List ℕ) (t : Transfer) where
   come = progressOn image t .sectors
 
   most : come ≤ t .count
-  most = rw zero-add at (progress-most (λ j. fateAt image (t .geometry) (t .heeds) (t .place j)) 0 (t .count))
+  most = rw zero-add at (progress-most (λ j. stopsAt image (t .geometry) (t .heeds) (t .place j)) 0 (t .count))
 
   byte-before-marks :
       StandsOnDrive t → (k : ℕ) → k < come * B (t .geometry) → diskByte (t .geometry) (t .place) k < marksAt (t .geometry)
@@ -101,39 +101,9 @@ formatting-keeps-marks m u spot at inside = marks-stay m (formatting u spot at) 
 
 -- ---- how far it comes
 
--- What stopped a transfer is the fate of one of its sectors.
-stopped-by :
-    (fate : ℕ → Fate) (j n : ℕ) (r : Refusal) →
-    progress fate j n .answer ≡ BlockAnswer.Failed r → (i : ℕ) × ((i < j + n) × (fate i ≡ stops r))
-unfolding progress
-stopped-by fate j zero r is = let z : _≡_ {A = ℕ} 0 1 = cc in absurd (omega arith)
-stopped-by fate j (suc n) r is = by-fate (fate j) refl is (stopped-by fate (suc j) n r)
-  where
-    by-fate :
-        (f : Fate) → fate j ≡ f → onward f j (progress fate (suc j) n) .answer ≡ BlockAnswer.Failed r →
-        (progress fate (suc j) n .answer ≡ BlockAnswer.Failed r → (i : ℕ) × ((i < suc j + n) × (fate i ≡ stops r))) →
-        (i : ℕ) × ((i < j + suc n) × (fate i ≡ stops r))
-    by-fate moves here is rest = let k = rest is in (k .0, (omega (arith, k .1 .0), k .1 .1))
-    by-fate (stops x) here is rest = (j, (omega arith, cc))
-
--- The image's end stops no sector that lies in the image.
-not-past :
-    (image : List ℕ) (g : Geometry) (heeds : Bool) (place : ℕ) →
-    InImage g (length image) place → fateAt image g heeds place ≡ stops Refusal.PastTheImage → ⊥
-unfolding fateAt
-not-past image g heeds place inside is =
-    by-value heeds (eqb (getD image (markByte g place) 0) 0)
-    (sym (if-pos (inImage? g (length image) place) inside _ _) ∙ is)
-  where
-    by-value :
-        (b good : Bool) → cond b (cond good moves (stops Refusal.Unreadable)) moves ≡ stops Refusal.PastTheImage → ⊥
-    by-value true true same = let z : _≡_ {A = ℕ} 0 1 = cc in omega arith
-    by-value true false same = let z : _≡_ {A = ℕ} 0 1 = cc in omega arith
-    by-value false good same = let z : _≡_ {A = ℕ} 0 1 = cc in omega arith
-
 module _ (image : List ℕ) (t : Transfer) where
   counts : Counts (progressOn image t .answer) (progressOn image t .sectors) (t .count)
-  counts = rw zero-add at (progress-counts (λ j. fateAt image (t .geometry) (t .heeds) (t .place j)) 0 (t .count) .1)
+  counts = rw zero-add at (progress-counts (λ j. stopsAt image (t .geometry) (t .heeds) (t .place j)) 0 (t .count) .1)
 
   -- A transfer that is stopped has moved fewer sectors than were asked for, and one that ended has moved them all.
   pub stopped-short : (r : Refusal) → progressOn image t .answer ≡ BlockAnswer.Failed r → progressOn image t .sectors < t .count
@@ -141,21 +111,3 @@ module _ (image : List ℕ) (t : Transfer) where
 
   pub ended-whole : progressOn image t .answer ≡ BlockAnswer.Ended → progressOn image t .sectors ≡ t .count
   ended-whole is = rw is at counts
-
-  -- Where every sector asked for lies in the image, the image's end does not stop the transfer: 21 is not its answer.
-  pub never-past-the-image :
-      ((j : ℕ) → j < t .count → InImage (t .geometry) (length image) (t .place j)) →
-      progressOn image t .answer ≡ BlockAnswer.Failed Refusal.PastTheImage → ⊥
-  never-past-the-image inside is =
-      let i = stopped-by (λ j. fateAt image (t .geometry) (t .heeds) (t .place j)) 0 (t .count) Refusal.PastTheImage is in
-      not-past image (t .geometry) (t .heeds) (t .place (i .0)) (inside (i .0) (rw zero-add at (i .1 .0))) (i .1 .1)
-
-  -- So it is for a transfer on its drive where the image has all the bytes that the geometry needs, which is check 17.
-  pub never-past-a-long-image :
-      StandsOnDrive t → need (t .geometry) ≤ length image →
-      progressOn image t .answer ≡ BlockAnswer.Failed Refusal.PastTheImage → ⊥
-  never-past-a-long-image on long =
-      never-past-the-image
-      (λ j j<.
-      let here = sector-in-image (t .geometry) (length image) (t .place j) long (on j j<) in
-      record { bytes = here .0; mark = here .1 })

@@ -12,7 +12,7 @@ use Rattle.unit.specs.Landing.{spotOf}
 use Rattle.unit.proofs.Laws.{spot-inside, spots-consecutive}
 use Rattle.unit.specs.Standing.{UnitRecord, geometry}
 use Rattle.transfer.specs.declared.reach.Run.{Run}
-use Rattle.transfer.specs.Progress.{fateAt}
+use Rattle.transfer.specs.Progress.{stopsAt}
 use Rattle.transfer.specs.Runs.{RunAt, inARow, progressFrom}
 use Rattle.transfer.proofs.Progress.{progress-same}
 
@@ -29,4 +29,4 @@ module _ (u : UnitRecord) (v : VolumeNumber) (n most : ℕ) (r : Run) (inside : 
       progressFrom image u v heeds n (r .sectors) ≡ inARow image (geometry u) heeds (r .place) (r .sectors)
   run-comes image heeds =
       progress-same _ _ 0 (r .sectors)
-      (λ i h. ap (λ (p : ℕ). fateAt image (geometry u) heeds p) (rw zero-add (run-places i h)))
+      (λ i h. ap (λ (p : ℕ). stopsAt image (geometry u) heeds p) (rw zero-add (run-places i h)))

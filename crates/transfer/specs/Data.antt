@@ -11,7 +11,7 @@ use Rattle.geometry.specs.Sectors.{firstByte, markByte}
 use Rattle.unit.specs.declared.Spot.{Spot}
 use Rattle.unit.specs.Landing.{spotOf}
 use Rattle.unit.specs.Standing.{UnitRecord, geometry}
-use Rattle.transfer.specs.Progress.{Progress, fateAt, progress}
+use Rattle.transfer.specs.Progress.{Progress, progress, stopsAt}
 use Rattle.transfer.specs.Stores.{Store, copyOf, hostByte, imageByte, upTo}
 
 -- A transfer on a drive: which way it goes, whether it heeds the marks, how many sectors it is for, at which place its sector j
@@ -67,9 +67,9 @@ move to-host disk host =
     (record { to = imageByte disk; value = copyOf (hostByte host) })
 
 -- How far the transfer comes on an image as it stood before, and the bytes that it moves there. A read stores nothing in the
--- image, and what a write stores there changes neither its length nor a mark.
+-- image, and what a write stores there changes no mark.
 abbrev pub progressOn : List ℕ → Transfer → Progress
-progressOn image t = progress (λ j. fateAt image (t .geometry) (t .heeds) (t .place j)) 0 (t .count)
+progressOn image t = progress (λ j. stopsAt image (t .geometry) (t .heeds) (t .place j)) 0 (t .count)
 
 abbrev pub moveAt : Transfer → ℕ → Store
 moveAt t k = move (t .to-host) (diskByte (t .geometry) (t .place) k) (t .host-byte k)

@@ -7,7 +7,6 @@ use mathlib.Core.Path.{_≡_}
 use native.Mathlib.Decide.{decLt}
 use lib.ListN.{getD, length}
 use Rattle.answers.specs.declared.BlockAnswer.{BlockAnswer}
-use Rattle.answers.specs.declared.Refusal.{Refusal}
 use Rattle.geometry.specs.declared.Geometry.{Geometry}
 use Rattle.geometry.specs.declared.VolumeNumber.{VolumeNumber}
 use Rattle.geometry.specs.Drive.{B, volumeSectors}
@@ -19,7 +18,7 @@ use Rattle.transfer.specs.declared.carry.Cursor.{Cursor}
 use Rattle.transfer.specs.declared.reach.Run.{Run}
 use Rattle.transfer.specs.Data.{diskByte, move, placeFrom}
 use Rattle.transfer.specs.Pieces.{joined, sum}
-use Rattle.transfer.specs.Progress.{Progress, fateAt, progress}
+use Rattle.transfer.specs.Progress.{Progress, progress, stopped, stopsAt}
 use Rattle.transfer.specs.Stores.{Buffers, Store, after, upTo}
 
 -- Sectors that their volume has; their numbers can be counted in 64 bits.
@@ -36,19 +35,15 @@ pub record Readable (heeds : Bool) (image : List ℕ) (at n r : ℕ) : Type 0 wh
 
 -- How far n sectors in a row come.
 abbrev pub inARow : List ℕ → Geometry → Bool → ℕ → ℕ → Progress
-inARow image g heeds place n = progress (λ j. fateAt image g heeds (place + j)) 0 n
+inARow image g heeds place n = progress (λ j. stopsAt image g heeds (place + j)) 0 n
 
--- What n sectors in a row come to, where so many of their marks are in the image and so many of these are good: a mark may stop
--- them; otherwise the image's end may; otherwise they come to their own end.
-abbrev pub rowOf : (good there n : ℕ) → Progress
-rowOf good there n =
-    ite (decLt good there) (record { sectors = good; answer = BlockAnswer.Failed Refusal.Unreadable })
-    (ite (decLt there n) (record { sectors = there; answer = BlockAnswer.Failed Refusal.PastTheImage })
-    (record { sectors = n; answer = BlockAnswer.Ended }))
+-- What n sectors in a row come to, where so many of their marks are good: the next mark stops them, or they come to their end.
+abbrev pub rowOf : (good n : ℕ) → Progress
+rowOf good n = ite (decLt good n) (stopped good) (record { sectors = n; answer = BlockAnswer.Ended })
 
 -- How far n sectors from a number of a volume on come.
 abbrev pub progressFrom : List ℕ → UnitRecord → VolumeNumber → Bool → ℕ → ℕ → Progress
-progressFrom image u v heeds first n = progress (λ j. fateAt image (geometry u) heeds (placeFrom u v first j)) 0 n
+progressFrom image u v heeds first n = progress (λ j. stopsAt image (geometry u) heeds (placeFrom u v first j)) 0 n
 
 -- Progress, as the code hands it back.
 abbrev pub reached : Progress → Moved

@@ -9,7 +9,7 @@ use lib.ListN.{getD, length}
 use Rattle.wire.proofs.Decided.{all?}
 use Rattle.answers.specs.declared.BlockAnswer.{BlockAnswer}
 use Rattle.answers.specs.declared.Refusal.{Refusal}
-use Rattle.geometry.specs.Drive.{B, S, driveSectors, volumeSectors}
+use Rattle.geometry.specs.Drive.{B, S, driveSectors, need, volumeSectors}
 use Rattle.unit.specs.declared.Span.{Span}
 use Rattle.unit.specs.declared.Spot.{Spot}
 use Rattle.unit.specs.Standing.{UnitRecord, geometry}
@@ -19,17 +19,19 @@ use Rattle.transfer.specs.Pieces.{sum}
 use Rattle.transfer.specs.Runs.{PiecesFit, pieceByte, spanBytes}
 use Rattle.transfer.specs.Stores.{Store}
 
--- Some sectors, which their volume has, and pieces in host memory for all their bytes.
-pub record SectorsFit (u : UnitRecord) (s : Span) (lengths addresses : List ℕ) (long : ℕ) : Type 0 where
+-- Some sectors, which their volume has, pieces in host memory for all their bytes, and an image that is long enough for the drive.
+pub record SectorsFit (u : UnitRecord) (s : Span) (lengths addresses : List ℕ) (long image : ℕ) : Type 0 where
   pub some : 0 < s .count
   pub inside : s .first + s .count ≤ volumeSectors (geometry u) (s .volume)
   pub pieces : PiecesFit long (spanBytes u s) lengths addresses
+  pub held : need (geometry u) ≤ image
 
--- A track that the drive has, and the bytes of a sector in host memory.
-pub record TrackFits (u : UnitRecord) (spot : Spot) (at long : ℕ) : Type 0 where
+-- A track that the drive has, the bytes of a sector in host memory, and such an image.
+pub record TrackFits (u : UnitRecord) (spot : Spot) (at long image : ℕ) : Type 0 where
   pub some : 0 < S (geometry u)
   pub inside : spot .place + S (geometry u) ≤ driveSectors (geometry u)
   pub memory : at + B (geometry u) ≤ long
+  pub held : need (geometry u) ≤ image
 
 -- Nothing moved.
 abbrev pub idle : Moved
@@ -52,18 +54,21 @@ piecesFit? long bytes lengths addresses =
     (Dec·and (all? _ (λ i. decLe (getD addresses i 0 + getD lengths i 0) long) (length lengths))
     (decLe bytes (sum (λ i. getD lengths i 0) (length lengths)))))
 
-pub sectorsFit? : (u : UnitRecord) (s : Span) (lengths addresses : List ℕ) (long : ℕ) → Dec (SectorsFit u s lengths addresses long)
-sectorsFit? u s lengths addresses long =
-    map-dec (λ d. record { some = d .0; inside = d .1 .0; pieces = d .1 .1 }) (λ f. (f .some, (f .inside, f .pieces)))
+pub sectorsFit? : (u : UnitRecord) (s : Span) (lengths addresses : List ℕ) (long image : ℕ) → Dec (SectorsFit u s lengths addresses long image)
+sectorsFit? u s lengths addresses long image =
+    map-dec (λ d. record { some = d .0; inside = d .1 .0; pieces = d .1 .1 .0; held = d .1 .1 .1 })
+    (λ f. (f .some, (f .inside, (f .pieces, f .held))))
     (Dec·and (decLt 0 (s .count))
     (Dec·and (decLe (s .first + s .count) (volumeSectors (geometry u) (s .volume)))
-    (piecesFit? long (spanBytes u s) lengths addresses)))
+    (Dec·and (piecesFit? long (spanBytes u s) lengths addresses) (decLe (need (geometry u)) image))))
 
-pub trackFits? : (u : UnitRecord) (spot : Spot) (at long : ℕ) → Dec (TrackFits u spot at long)
-trackFits? u spot at long =
-    map-dec (λ d. record { some = d .0; inside = d .1 .0; memory = d .1 .1 }) (λ f. (f .some, (f .inside, f .memory)))
+pub trackFits? : (u : UnitRecord) (spot : Spot) (at long image : ℕ) → Dec (TrackFits u spot at long image)
+trackFits? u spot at long image =
+    map-dec (λ d. record { some = d .0; inside = d .1 .0; memory = d .1 .1 .0; held = d .1 .1 .1 })
+    (λ f. (f .some, (f .inside, (f .memory, f .held))))
     (Dec·and (decLt 0 (S (geometry u)))
-    (Dec·and (decLe (spot .place + S (geometry u)) (driveSectors (geometry u))) (decLe (at + B (geometry u)) long)))
+    (Dec·and (decLe (spot .place + S (geometry u)) (driveSectors (geometry u)))
+    (Dec·and (decLe (at + B (geometry u)) long) (decLe (need (geometry u)) image))))
 
 -- The outcome of a call: what is returned, and the stores that were made.
 pub record Result : Type 0 where
@@ -76,9 +81,9 @@ resultOf moved stores = record { moved = moved; stores = stores }
 unfoldable pub sectorsResult : ℕ → List ℕ → UnitRecord → Span → Bool → Bool → List ℕ → List ℕ → Result
 sectorsResult long image u s to-host past-marks lengths addresses =
     let t = spanTransfer u s to-host past-marks lengths addresses in
-    ite (sectorsFit? u s lengths addresses long) (resultOf (movedOn image t) (dataOn image t)) (resultOf idle [])
+    ite (sectorsFit? u s lengths addresses long (length image)) (resultOf (movedOn image t) (dataOn image t)) (resultOf idle [])
 
 unfoldable pub trackResult : ℕ → List ℕ → UnitRecord → Spot → ℕ → Result
 trackResult long image u spot at =
     let t = formatting u spot at in
-    ite (trackFits? u spot at long) (resultOf (movedOn image t) (dataOn image t)) (resultOf idle [])
+    ite (trackFits? u spot at long (length image)) (resultOf (movedOn image t) (dataOn image t)) (resultOf idle [])

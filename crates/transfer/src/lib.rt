@@ -12,7 +12,7 @@ ghost use mathlib.Core.Bool.{_&&_, not};
 ghost use mathlib.Core.Path.{_≡_};
 ghost use Prim.Native.Nat.{_+_, _-_, _^_, _≤_, _<_};
 ghost use lib.ListN.{length};
-ghost use Rattle.geometry.specs.Drive.{S, driveSectors, volumeSectors};
+ghost use Rattle.geometry.specs.Drive.{S, driveSectors, need, volumeSectors};
 ghost use Rattle.transfer.specs.Runs.{PiecesFit, lent};
 ghost use Rattle.transfer.specs.Stores.{after};
 ghost use Rattle.transfer.specs.Whole.{SectorsFit, TrackFits, idle, sectorsResult, trackResult};
@@ -81,11 +81,28 @@ fn span_fits(u: Record, span: Span) -> bool
     span.first <= sectors - (span.count as u64)
 }
 
-fn sectors_fit(u: Record, span: Span, lengths: &[u32], addresses: &[u32], long: u64) -> bool
-    ensures says { λ r. ⌜ Says r (SectorsFit u span (now (lengths .entry)) (now (addresses .entry)) long) ⌝ }
+// Whether an image of so many bytes is long enough for the drive: every sector, and every mark, is there.
+fn holds_drive(u: Record, image: u64) -> bool
+    ensures { λ r. ⌜ Says r (need (geometry u) ≤ image) ⌝ }
+{
+    u.geometry().need() <= image
+}
+
+fn sectors_fit(
+    u: Record,
+    span: Span,
+    lengths: &[u32],
+    addresses: &[u32],
+    long: u64,
+    image: u64,
+) -> bool
+    ensures says { λ r. ⌜ Says r (SectorsFit u span (now (lengths .entry)) (now (addresses .entry)) long image) ⌝ }
     ensures small { λ _. ⌜ volumeSectors (geometry u) (span .volume) < 2 ^ 64 ⌝ }
 {
     if !span_fits(u, span) {
+        return false;
+    }
+    if !holds_drive(u, image) {
         return false;
     }
     if addresses.len() != lengths.len() {
@@ -136,7 +153,14 @@ pub fn move_sectors(
     ensures result { λ r. ⌜ r ≡ sectorsResult (length (now (host .entry))) (now (image .entry)) u span «to_host» «past_marks» (now (lengths .entry)) (now (addresses .entry)) .moved ⌝ }
     ensures stores { λ _. ⌜ lent (now (host .exit)) (now (image .exit)) ≡ after (sectorsResult (length (now (host .entry))) (now (image .entry)) u span «to_host» «past_marks» (now (lengths .entry)) (now (addresses .entry)) .stores) (lent (now (host .entry)) (now (image .entry))) ⌝ }
 {
-    if !sectors_fit(u, span, lengths, addresses, host.len() as u64) {
+    if !sectors_fit(
+        u,
+        span,
+        lengths,
+        addresses,
+        host.len() as u64,
+        image.len() as u64,
+    ) {
         return idle();
     }
     let moved = survey(image, u, span, heeds(to_host, past_marks));
@@ -160,11 +184,14 @@ fn on_drive(g: Geometry, place: u64) -> bool
     place <= all - sectors
 }
 
-fn track_fits(u: Record, spot: Spot, at: u32, long: u64) -> bool
-    ensures { λ r. ⌜ Says r (TrackFits u spot at long) ⌝ }
+fn track_fits(u: Record, spot: Spot, at: u32, long: u64, image: u64) -> bool
+    ensures { λ r. ⌜ Says r (TrackFits u spot at long image) ⌝ }
 {
     let g = u.geometry();
     if !on_drive(g, spot.place) {
+        return false;
+    }
+    if !holds_drive(u, image) {
         return false;
     }
     (at as u64) + (g.bytes_a_sector() as u64) <= long
@@ -175,7 +202,7 @@ pub fn format_track(host: &[u8], image: &mut [u8], u: Record, spot: Spot, at: u3
     ensures result { λ r. ⌜ r ≡ trackResult (length (now (host .entry))) (now (image .entry)) u spot at .moved ⌝ }
     ensures stores { λ _. ⌜ lent (now (host .entry)) (now (image .exit)) ≡ after (trackResult (length (now (host .entry))) (now (image .entry)) u spot at .stores) (lent (now (host .entry)) (now (image .entry))) ⌝ }
 {
-    if !track_fits(u, spot, at, host.len() as u64) {
+    if !track_fits(u, spot, at, host.len() as u64, image.len() as u64) {
         return idle();
     }
     let g = u.geometry();

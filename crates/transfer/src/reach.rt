@@ -9,9 +9,9 @@ use unit::Landing;
 use unit::Record;
 use unit::Span;
 ghost use mathlib.Core.Path.{_≡_};
-ghost use Prim.Native.Nat.{_+_, _-_, _≤_, _<_, min};
+ghost use Prim.Native.Nat.{_+_, _≤_, _<_, min};
 ghost use lib.ListN.{length};
-ghost use Rattle.geometry.specs.Drive.{driveSectors, volumeSectors};
+ghost use Rattle.geometry.specs.Drive.{driveSectors, need, volumeSectors};
 ghost use Rattle.transfer.specs.Runs.{Advanced, Readable, RunAt, Spans, inARow, progressFrom, reached, rowOf};
 ghost use Rattle.unit.specs.Standing.{geometry};
 
@@ -44,22 +44,9 @@ fn lesser(a: u16, b: u16) -> u16
     if a <= b { a } else { b }
 }
 
-// How many of n marks there are from an index on.
-fn fitting(long: u64, mark: u64, n: u16) -> u16
-    ensures { λ r. ⌜ r ≡ min n (long - mark) ⌝ }
-{
-    if long <= mark {
-        return 0;
-    }
-    if (n as u64) <= long - mark {
-        return n;
-    }
-    (long - mark) as u16
-}
-
 // How many of n marks from an index on let a transfer pass, before the first that stops it.
 fn readable(image: &[u8], at: usize, n: usize, heeds: bool) -> usize
-    requires { ⌜ n ≤ length (now image) - at ⌝ }
+    requires { ⌜ at + n ≤ length (now image) ⌝ }
     ensures { λ r. ⌜ Readable heeds (now (image .entry)) at n r ⌝ }
 {
     if !heeds {
@@ -75,20 +62,14 @@ fn readable(image: &[u8], at: usize, n: usize, heeds: bool) -> usize
     n
 }
 
-// What n sectors in a row come to, where so many of their marks are in the image and so many of these let a transfer pass.
-fn came(good: u16, there: u16, n: u16) -> Moved
-    ensures { λ r. ⌜ r ≡ reached (rowOf good there n) ⌝ }
+// What n sectors in a row come to, where so many of their marks let a transfer pass.
+fn came(good: u16, n: u16) -> Moved
+    ensures { λ r. ⌜ r ≡ reached (rowOf good n) ⌝ }
 {
-    if good < there {
+    if good < n {
         return Moved {
             sectors: good,
             answer: BlockAnswer::Failed(Refusal::Unreadable),
-        };
-    }
-    if there < n {
-        return Moved {
-            sectors: there,
-            answer: BlockAnswer::Failed(Refusal::PastTheImage),
         };
     }
     Moved {
@@ -97,9 +78,9 @@ fn came(good: u16, there: u16, n: u16) -> Moved
     }
 }
 
-// How far a run comes. A sector whose mark is in the image is in the image too, since all marks stand after all sectors.
+// How far a run comes, on an image that has all the marks of its drive.
 pub(crate) fn reach(image: &[u8], g: Geometry, heeds: bool, place: u64, n: u16) -> Moved
-    requires { ⌜ (0 < n) × (place + n ≤ driveSectors g) ⌝ }
+    requires { ⌜ (0 < n) × ((place + n ≤ driveSectors g) × (need g ≤ length (now image))) ⌝ }
     ensures { λ r. ⌜ r ≡ reached (inARow (now (image .entry)) g heeds place n) ⌝ }
 {
     let Sector::At { first: _, mark } = g.sector(place) else {
@@ -108,14 +89,13 @@ pub(crate) fn reach(image: &[u8], g: Geometry, heeds: bool, place: u64, n: u16) 
             answer: BlockAnswer::Ended,
         };
     };
-    let fit = fitting(image.len() as u64, mark, n);
-    let sectors = readable(image, mark as usize, fit as usize, heeds) as u16;
-    came(sectors, fit, n)
+    let good = readable(image, mark as usize, n as usize, heeds) as u16;
+    came(good, n)
 }
 
 // How far the run from a number on comes.
 fn advance(image: &[u8], u: Record, v: VolumeNumber, number: u64, most: u16, heeds: bool) -> Moved
-    requires { ⌜ (0 < most) × (number + most ≤ volumeSectors (geometry u) v) ⌝ }
+    requires { ⌜ (0 < most) × ((number + most ≤ volumeSectors (geometry u) v) × (need (geometry u) ≤ length (now image))) ⌝ }
     ensures { λ r. ⌜ Advanced (now (image .entry)) u v number most heeds r ⌝ }
 {
     let run = run_at(u, v, number, most);
@@ -124,7 +104,7 @@ fn advance(image: &[u8], u: Record, v: VolumeNumber, number: u64, most: u16, hee
 
 // How far a span comes, run after run until one is stopped.
 pub(crate) fn survey(image: &[u8], u: Record, span: Span, heeds: bool) -> Moved
-    requires { ⌜ Spans u span ⌝ }
+    requires { ⌜ Spans u span × (need (geometry u) ≤ length (now image)) ⌝ }
     ensures { λ r. ⌜ r ≡ reached (progressFrom (now (image .entry)) u (span .volume) heeds (span .first) (span .count)) ⌝ }
 {
     let volume = span.volume;

@@ -1,9 +1,8 @@
 -- The two-sector drive of the pairs: its numbers, which of its requests pass, and what becomes of each of its sectors.
 -- The geometry's shut definitions are opened by their equations, and what is left is arithmetic on numerals.
 use Prim.Native.Nat.{ℕ, _+_, _*_, _≤_, _<_}
-use mathlib.Core.Bool.{Bool, true, false, cond}
+use mathlib.Core.Bool.{Bool, true, false, not}
 use mathlib.Core.List.{List}
-use mathlib.Core.Logic.{if-pos}
 use mathlib.Core.Path.{_≡_, refl, ap, _∙_}
 use native.Mathlib.Omega.{arith}
 use lib.Dec.{eqb}
@@ -16,7 +15,7 @@ use Rattle.geometry.specs.declared.VolumeNumber.the-variants.{Zero, One}
 use Rattle.geometry.specs.Drive.{driveHeads, marksAt, need, volume, volumeSectors}
 use Rattle.geometry.specs.Drive.Inside.{driveHeads-is, driveSectors-is, marksAt-is, need-is, volumeSectors-is}
 use Rattle.geometry.specs.Limits.{Has, Present}
-use Rattle.geometry.specs.Sectors.Inside.{addressOf-is, firstByte-is, markByte-is, placeOf-is}
+use Rattle.geometry.specs.Sectors.Inside.{addressOf-is, markByte-is, placeOf-is}
 use Rattle.geometry.proofs.Ends.{end-absent, end-present}
 use Rattle.judge.specs.declared.Moving.{Moving}
 use Rattle.judge.specs.declared.Standing.{Standing}
@@ -32,7 +31,7 @@ use Rattle.request.specs.declared.Start.{Start}
 use Rattle.request.specs.declared.Target.{Target}
 use Rattle.request.specs.declared.Task.{Task}
 use Rattle.transfer.specs.Data.{progressOn}
-use Rattle.transfer.specs.Progress.{InImage, Progress, fateAt, inImage?, moves, progress, stops}
+use Rattle.transfer.specs.Progress.{Progress, progress, stopsAt}
 use Rattle.unit.specs.Landing.{spotOf}
 use Rattle.unit.specs.Landing.Behind.{spotAt-is, spotOf-is}
 use Rattle.unit.specs.Standing.{CountsAsInitialized, UnitRecord, fresh, movedTo}
@@ -111,21 +110,16 @@ module _ (host : List ℕ) (c : ℕ) (heads : c < 2) where
       span-on s host m (span-covers s host m n refl some (omega (arith, sectors-2))) (omega (arith, need-130)) ∙
       piece-done s host m at refl n refl held
 
--- ---- a sector's fate
+-- ---- what stops a transfer
 
-module _ (image : List ℕ) (long : length image ≡ 130) (place : ℕ) (less : place < 2) where
-  in-image : InImage tiny (length image) place
-  in-image = record { bytes = omega (arith, firstByte-is tiny place); mark = omega (arith, markByte-is tiny place, marks-128) }
+module _ (image : List ℕ) (place : ℕ) where
+  pub unheeded : stopsAt image tiny false place ≡ false
+  unfolding stopsAt
+  unheeded = refl
 
-  pub unheeded-moves : fateAt image tiny false place ≡ moves
-  unfolding fateAt
-  unheeded-moves = if-pos (inImage? tiny (length image) place) in-image _ _
-
-  pub heeded : fateAt image tiny true place ≡ cond (eqb (getD image (128 + place) 0) 0) moves (stops Refusal.Unreadable)
-  unfolding fateAt
-  heeded =
-      if-pos (inImage? tiny (length image) place) in-image _ _ ∙
-      ap (λ x. cond (eqb (getD image x 0) 0) moves (stops Refusal.Unreadable)) (markByte-is tiny place ∙ rw marks-128)
+  pub heeded : stopsAt image tiny true place ≡ not (eqb (getD image (128 + place) 0) 0)
+  unfolding stopsAt
+  heeded = ap (λ x. not (eqb (getD image x 0) 0)) (markByte-is tiny place ∙ rw marks-128)
 
 -- How far the transfers of the pairs come, all of them from the first sector on. Where their bytes lie in host memory does not matter.
 module _ (image : List ℕ) (long : length image ≡ 130) (at : ℕ) where
@@ -134,15 +128,15 @@ module _ (image : List ℕ) (long : length image ≡ 130) (at : ℕ) where
 
   pub write-of-one : carriedOn false 1 ≡ record { sectors = 1; answer = BlockAnswer.Ended }
   unfolding progress
-  write-of-one = rw (place-is 0 0, unheeded-moves image long 0 (omega arith))
+  write-of-one = rw (place-is 0 0, unheeded image 0)
 
   module _ (good : getD image 128 0 ≡ 0) where
     pub read-of-one : carriedOn true 1 ≡ record { sectors = 1; answer = BlockAnswer.Ended }
     unfolding progress
-    read-of-one = rw (place-is 0 0, heeded image long 0 (omega arith), good)
+    read-of-one = rw (place-is 0 0, heeded image 0, good)
 
     pub read-stopped :
         getD image 129 0 ≡ 1 → carriedOn true 2 ≡ record { sectors = 1; answer = BlockAnswer.Failed Refusal.Unreadable }
     unfolding progress
     read-stopped bad =
-        rw (place-is 0 0, place-is 0 1, heeded image long 0 (omega arith), heeded image long 1 (omega arith), good, bad)
+        rw (place-is 0 0, place-is 0 1, heeded image 0, heeded image 1, good, bad)

@@ -2,7 +2,7 @@
 
 use crate::case::{record_in, Case};
 use crate::worlds::Way;
-use model::{Outcome, Record, Trace, Visit, CHECKS, COMMANDS, NEVER_GIVEN, STOPS};
+use model::{Outcome, Record, Trace, Visit, CHECKS, COMMANDS, STOPS};
 use std::collections::BTreeMap;
 
 /// How often each thing has to have occurred.
@@ -178,7 +178,7 @@ impl Coverage {
         self.block_answers.get(number).copied().unwrap_or(0)
     }
 
-    /// What occurred too seldom, and what is never to occur.
+    /// What occurred too seldom, and what is no answer at all.
     pub fn missing(&self) -> Vec<String> {
         let mut missing: Vec<String> = self
             .things()
@@ -186,8 +186,8 @@ impl Coverage {
             .filter(|(_, count)| *count < LEAST)
             .map(|(name, count)| format!("{}: {} times, and {} are asked", name, count, LEAST))
             .collect();
-        for number in &NEVER_GIVEN {
-            if self.answered(number) > 0 {
+        for number in self.block_answers.keys() {
+            if *number != 0 && !CHECKS.contains(number) && !STOPS.contains(number) {
                 missing.push(format!("the model gave answer {}", number));
             }
         }

@@ -7,9 +7,6 @@ pub const CHECKS: [u8; 10] = [10, 11, 12, 13, 14, 15, 16, 17, 18, 19];
 /// What stops a transfer that the checks let through.
 pub const STOPS: [u8; 1] = [20];
 
-/// What is listed and never given: a sector past the image's end, which check 17 leaves none of.
-pub const NEVER_GIVEN: [u8; 1] = [21];
-
 /// Whether a block's answer says that the checks let it through.
 pub(crate) fn let_through(answer: u8) -> bool {
     !CHECKS.contains(&answer)

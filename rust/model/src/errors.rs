@@ -1,7 +1,7 @@
 //! The error byte that each block answer stores.
 
 /// "The error bytes are one constant table." An answer first, then its byte.
-pub const ERROR_BYTES: [(u8, u8); 12] = [
+pub const ERROR_BYTES: [(u8, u8); 11] = [
     (10, 0x14),
     (11, 0x40),
     (12, 0x62),
@@ -13,7 +13,6 @@ pub const ERROR_BYTES: [(u8, u8); 12] = [
     (18, 0xff),
     (19, 0x62),
     (20, 0x13),
-    (21, 0x20),
 ];
 
 /// The error byte of a block's answer: 00 at status 80, which is answer 0 here; "an answer with

@@ -18,7 +18,7 @@ mod run;
 mod session;
 mod trace;
 
-pub use answers::{CHECKS, NEVER_GIVEN, STOPS};
+pub use answers::{CHECKS, STOPS};
 pub use block::{Block, Element, BLOCK_BYTES, ELEMENT_BYTES};
 pub use errors::{error_byte, ERROR_BYTES};
 pub use faults::{with_fault, Fault};

@@ -278,7 +278,6 @@ impl Chain<'_> {
     fn format(&mut self, block: &Block, accepted: &Accepted) -> Done {
         let unit = block.unit() as usize;
         let geometry = self.world.records[unit].geometry;
-        let mut answer = 0;
         let mut sectors = 0;
         for sector in 0..geometry.sectors_a_track as u64 {
             let address = Address {
@@ -286,9 +285,7 @@ impl Chain<'_> {
                 head: block.head as u64,
                 sector,
             };
-            let place = geometry.drive_place(address);
-            let Some(place) = self.in_image(unit, &geometry, place) else {
-                answer = 21;
+            let Some(place) = geometry.drive_place(address) else {
                 break;
             };
             self.sector_from_host(unit, &geometry, place, &accepted.pieces, 0);
@@ -299,11 +296,7 @@ impl Chain<'_> {
             sectors = 1;
         }
         let heads = self.move_heads(block, block.cylinder as u64);
-        Done {
-            answer,
-            sectors,
-            ..heads
-        }
+        Done { sectors, ..heads }
     }
 
     /// "81 and A1 copy sectors to host memory, through the elements joined in list order."
@@ -319,8 +312,7 @@ impl Chain<'_> {
         let mut moved_unreadable = false;
         while sectors < block.sector_count {
             let n = target.first + sectors as u64;
-            let Some((cylinder, place)) = self.find(unit, &geometry, block.volume(), n) else {
-                answer = 21;
+            let Some((cylinder, place)) = find(&geometry, block.volume(), n) else {
                 break;
             };
             let unreadable = self.unreadable(unit, &geometry, place);
@@ -357,12 +349,10 @@ impl Chain<'_> {
             return NOTHING_MOVED;
         };
         let mut tried_cylinder = target.cylinder;
-        let mut answer = 0;
         let mut sectors: u16 = 0;
         while sectors < block.sector_count {
             let n = target.first + sectors as u64;
-            let Some((cylinder, place)) = self.find(unit, &geometry, block.volume(), n) else {
-                answer = 21;
+            let Some((cylinder, place)) = find(&geometry, block.volume(), n) else {
                 break;
             };
             tried_cylinder = cylinder;
@@ -371,31 +361,10 @@ impl Chain<'_> {
         }
         let heads = self.move_heads(block, tried_cylinder);
         Done {
-            answer,
             sectors,
             tried_cylinder,
             ..heads
         }
-    }
-
-    /// The cylinder and the place of a logical sector; None "past the image's end".
-    fn find(&self, unit: usize, geometry: &Geometry, volume: u8, n: u64) -> Option<(u64, u64)> {
-        let address = geometry.address(volume, n)?;
-        let place = self.in_image(unit, geometry, geometry.place(volume, address))?;
-        Some((address.cylinder, place))
-    }
-
-    /// The place again, if the image has the sector's bytes and its mark. Check 17 has seen to
-    /// that, so answer 21 is never given; the test stays because the answer does.
-    fn in_image(&self, unit: usize, geometry: &Geometry, place: Option<u64>) -> Option<u64> {
-        let place = place?;
-        let length = self.world.images[unit].len() as u64;
-        let data_end = (place + 1) * geometry.bytes_a_sector as u64;
-        let mark = geometry.marks_at() + place;
-        if data_end > length || mark >= length {
-            return None;
-        }
-        Some(place)
     }
 
     /// A sector's mark: "0 good, any other unreadable".
@@ -406,7 +375,8 @@ impl Chain<'_> {
         } else {
             0
         };
-        let mark = self.world.images[unit][(geometry.marks_at() + place + next) as usize];
+        let at = (geometry.marks_at() + place + next) as usize;
+        let mark = self.world.images[unit].get(at).copied().unwrap_or(0);
         if seeded(Fault::MarkForgotten) {
             // every sector is good
             return false;
@@ -506,4 +476,12 @@ fn joined(pieces: &[Piece], k: u64) -> Option<u64> {
         before += piece.bytes;
     }
     None
+}
+
+/// The cylinder and the place of a logical sector. Check 16 has seen to it that there is one, and check
+/// 17 that the image has its bytes and its mark.
+fn find(geometry: &Geometry, volume: u8, n: u64) -> Option<(u64, u64)> {
+    let address = geometry.address(volume, n)?;
+    let place = geometry.place(volume, address)?;
+    Some((address.cylinder, place))
 }

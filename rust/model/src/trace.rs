@@ -28,7 +28,7 @@ pub struct Visit {
     pub unit: u8,
     pub command: u8,
     pub options: u8,
-    /// 0 if it ended 80, else its answer, 10 to 21.
+    /// 0 if it ended 80, else its answer, 10 to 20.
     pub answer: u8,
     /// Sectors copied by this block.
     pub sectors: u16,

@@ -184,7 +184,9 @@ fn holds(before: &World, after: &World, outcome: &Outcome, trace: &Trace, allowa
         }
     }
     for visit in &trace.blocks {
-        assert_ne!(visit.answer, 21);
+        let known =
+            visit.answer == 0 || CHECKS.contains(&visit.answer) || STOPS.contains(&visit.answer);
+        assert!(known);
     }
 }
 

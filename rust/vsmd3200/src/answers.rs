@@ -47,8 +47,6 @@ pub enum BlockAnswer {
     DataMisplaced = 19,
     /// A sector is unreadable; the sectors before it were moved.
     Unreadable = 20,
-    /// A sector is past the image's end. Kept for its number; no run gives it.
-    PastTheImage = 21,
 }
 
 impl RunAnswer {
@@ -76,7 +74,7 @@ impl RunAnswer {
 
 impl BlockAnswer {
     /// All of them, by number.
-    pub const ALL: [BlockAnswer; 12] = [
+    pub const ALL: [BlockAnswer; 11] = [
         BlockAnswer::CommandUnknown,
         BlockAnswer::NotInitialized,
         BlockAnswer::UibMisplaced,
@@ -88,10 +86,9 @@ impl BlockAnswer {
         BlockAnswer::ListBad,
         BlockAnswer::DataMisplaced,
         BlockAnswer::Unreadable,
-        BlockAnswer::PastTheImage,
     ];
 
-    /// The answer with a number, 10 to 21.
+    /// The answer with a number, 10 to 20.
     pub fn from_number(number: u8) -> Option<BlockAnswer> {
         let index = number.checked_sub(BlockAnswer::CommandUnknown.number())?;
         BlockAnswer::ALL.get(usize::from(index)).copied()

@@ -216,7 +216,7 @@ fn answers_are_their_numbers() {
         assert_eq!(run.is_some(), number <= 6);
         assert!(run.is_none_or(|answer| answer.number() == number));
         let block = BlockAnswer::from_number(number);
-        assert_eq!(block.is_some(), (10..=21).contains(&number));
+        assert_eq!(block.is_some(), (10..=20).contains(&number));
         assert!(block.is_none_or(|answer| answer.number() == number));
     }
     let mut bytes = [0x01, 0x00, 0x00, 0x10, 4, 20, 0, 0, 0, 0, 0, 3, 0, 1, 0, 0];

@@ -34,7 +34,7 @@ idle-requires : tie.Need-idle-requires
 idle-requires c κs = search needs
 
 -- After the test the request fits, and what is asked of the geometry is the unit's.
-fits : (c : tie.Else1) → TrackFits (c .before .before .before .before .args .u) (c .before .before .before .before .args .spot) (c .before .before .before .before .args .at) (length (c .before .before .before .before .args .host .now))
+fits : (c : tie.Else1) → TrackFits (c .before .before .before .before .args .u) (c .before .before .before .before .args .spot) (c .before .before .before .before .args .at) (length (c .before .before .before .before .args .host .now)) (length (c .before .before .before .before .args .image .now))
 fits c = granted (c .before .track-fits .result) _ (c .if1 .left) (c .before .track-fits .ensures)
 
 returns : tie.Need-returns
@@ -74,7 +74,7 @@ sectors-a-track-requires c κs = search needs
 reach-requires : tie.Need-reach-requires
 reach-requires c κs =
     let f = fits (c .before .before .before .before .before .before .before) in
-    rw (c .sectors-a-track .ensures, c .before .before .before .before .before .before .geometry .ensures) (f .some, f .inside)
+    rw (c .sectors-a-track .ensures, c .before .before .before .before .before .before .geometry .ensures) (f .some, (f .inside, f .held))
 
 bytes-a-sector-requires : tie.Need-bytes-a-sector-requires
 bytes-a-sector-requires c κs = search needs
@@ -106,7 +106,7 @@ fill-requires : tie.Need-fill-requires
 fill-requires c κs =
     let a = c .before .before .before .before .before .before .before .before .before .before .before .before .before .before .before .args in
     let k = known c in
-    rw (k .0, k .1 .0, k .1 .1) (fits (c .before .before .before .before .before .before .before .before .before .before .before) .memory, track-room (a .image .now) (a .u) (a .spot) (a .at))
+    rw (k .0, k .1 .0, k .1 .1) (fits (c .before .before .before .before .before .before .before .before .before .before .before) .memory, track-room (a .image .now) (a .u) (a .spot) (a .at) (fits (c .before .before .before .before .before .before .before .before .before .before .before) .inside) (fits (c .before .before .before .before .before .before .before .before .before .before .before) .held))
 
 same-length : tie.Need-same-length
 same-length c = search needs

@@ -29,7 +29,7 @@ idle-requires c κs = search needs
 -- After the test the request fits, and its numbers can be counted in 64 bits.
 fits :
     (c : tie.Else1) →
-    SectorsFit (c .before .before .before .before .before .before .args .u) (c .before .before .before .before .before .before .args .span) (c .before .before .before .before .before .before .args .lengths .now) (c .before .before .before .before .before .before .args .addresses .now) (length (c .before .before .before .before .before .before .args .host .now))
+    SectorsFit (c .before .before .before .before .before .before .args .u) (c .before .before .before .before .before .before .args .span) (c .before .before .before .before .before .before .args .lengths .now) (c .before .before .before .before .before .before .args .addresses .now) (length (c .before .before .before .before .before .before .args .host .now)) (length (c .before .before .before .before .before .before .args .image .now))
 fits c = granted (c .before .sectors-fit .result) _ (c .if1 .left) (c .before .sectors-fit .ensures .0)
 
 spans : (c : tie.Else1) → Spans (c .before .before .before .before .before .before .args .u) (c .before .before .before .before .before .before .args .span)
@@ -48,7 +48,7 @@ heeds-requires : tie.Need-heeds-requires
 heeds-requires c κs = search needs
 
 survey-requires : tie.Need-survey-requires
-survey-requires c κs = spans (c .before .before)
+survey-requires c κs = (spans (c .before .before), fits (c .before .before) .held)
 
 first-sectors-requires : tie.Need-first-sectors-requires
 first-sectors-requires c κs = search needs
@@ -61,7 +61,7 @@ carry-requires c κs =
     rw (c .before .before .first-sectors .ensures, c .before .before .before .survey .ensures) (
       reached-spans (a .image .now) (a .u) (a .span) heeds (spans fit),
       (
-        reached-held (a .image .now) (a .u) (a .span) heeds,
+        reached-held (a .image .now) (a .u) (a .span) heeds (spans fit) (fits fit .held),
         reached-pieces (a .image .now) (a .u) (a .span) heeds (length (a .host .now)) (a .lengths .now) (a .addresses .now) (fits fit .pieces),
       ),
     )

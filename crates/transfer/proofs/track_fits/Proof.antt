@@ -22,6 +22,14 @@ returns c =
     λ f.
     denied (there .result) _ (c .if1 .taken) (there .ensures) (rw (c .before .before .geometry .ensures) (f .some, f .inside))
 
+holds-drive-requires : tie.Need-holds-drive-requires
+holds-drive-requires c κs = search needs
+
+returns-2 : tie.Need-returns-2
+returns-2 c =
+    let held = c .before .holds-drive in
+    λ f. denied (held .result) _ (c .if2 .taken) (held .ensures) (f .held)
+
 bytes-a-sector-requires : tie.Need-bytes-a-sector-requires
 bytes-a-sector-requires c κs = search needs
 
@@ -31,15 +39,17 @@ cast-result c = search needs
 add-result : tie.Need-add-result
 add-result c = search needs
 
-returns-2 : tie.Need-returns-2
-returns-2 c =
-    let a = c .before .before .before .before .args in
-    let is = c .before .before .before .geometry .ensures in
-    let there = c .before .before .on-drive in
-    let on = rw is at (granted (there .result) _ (c .before .if1 .left) (there .ensures)) in
+returns-3 : tie.Need-returns-3
+returns-3 c =
+    let a = c .before .before .before .before .before .before .args in
+    let is = c .before .before .before .before .before .geometry .ensures in
+    let there = c .before .before .before .before .on-drive in
+    let on = rw is at (granted (there .result) _ (c .before .before .before .if1 .left) (there .ensures)) in
+    let held = c .before .before .holds-drive in
+    let long = granted (held .result) _ (c .before .if2 .left) (held .ensures) in
     let bytes : c .bytes-a-sector .result ≡ B (geometry (a .u)) = rw is at (c .bytes-a-sector .ensures) in
     says-leb (a .at + c .bytes-a-sector .result) (a .long) _
-    (λ fits. record { some = on .0; inside = on .1; memory = omega arith })
+    (λ fits. record { some = on .0; inside = on .1; memory = omega arith; held = long })
     (λ over f. omega (arith, f .memory))
 
 pub track-fits-spec : {M : Type 1} → statement M
@@ -49,7 +59,9 @@ track-fits-spec =
     geometry-requires
     on-drive-requires
     returns
+    holds-drive-requires
+    returns-2
     bytes-a-sector-requires
     cast-result
     add-result
-    returns-2)
+    returns-3)

@@ -140,7 +140,7 @@ pub fn put_element(world: &mut World, at: usize, byte_count: u16, address: u32) 
     put(&mut world.host, at + 6, &[0, 0]);
 }
 
-/// The answer of one block at address 0 with no link: 0 or 10 to 21.
+/// The answer of one block at address 0 with no link: 0 or 10 to 20.
 pub fn one(world: &mut World, block: &Block) -> u8 {
     put_block(world, 0, block);
     let outcome = model::run(world, 0, 1);

@@ -21,7 +21,7 @@ reach-requires : tie.Need-reach-requires
 reach-requires c κs =
     let a = c .before .before .before .args in
     let run = c .before .run-at in
-    (run .ensures .some, rw (c .geometry .ensures) (run-inside (a .u) (a .v) (a .number) (a .most) (run .result) (omega arith) (run .ensures)))
+    (run .ensures .some, rw (c .geometry .ensures) (run-inside (a .u) (a .v) (a .number) (a .most) (run .result) (omega arith) (run .ensures), c .before .before .before .pre .1 .1))
 
 returns : tie.Need-returns
 returns c =

@@ -1,8 +1,11 @@
--- A place on the drive has a mark; of the marks that follow, those in the image are scanned, and what is found says how far.
+-- A place on the drive has a mark, and the marks that follow are in the image; what is found there says how far.
 -- What it came to is the row's law.
+use Prim.Native.Nat.{_+_, _-_}
 use mathlib.Core.Path.{ap, sym, _∙_}
 use native.Mathlib.Omega.{arith}
+use lib.ListN.{length}
 use Rattle.geometry.proofs.Answers.{at-sector, no-sector}
+use Rattle.geometry.proofs.Laws.{marks-consecutive, sector-in-image}
 use Rattle.transfer.specs.Progress.{Progress}
 use Rattle.transfer.specs.Runs.{reached}
 use Rattle.transfer.proofs.Rows.{row-comes}
@@ -12,7 +15,6 @@ use Rattle.transfer.proofs.reach.reach.Tie as tie
 use Rattle.transfer.proofs.reach.reach.Reads as reads
 use Rattle.transfer.proofs.reach.reach.Lts as lts
 use Rattle.geometry.proofs.Geometry.sector.Reads as sector-reads
-use Rattle.transfer.proofs.reach.fitting.Reads as fitting-reads
 use Rattle.transfer.proofs.reach.readable.Reads as readable-reads
 
 sector-requires : tie.Need-sector-requires
@@ -29,33 +31,31 @@ returns c =
     let a = c .before .before .before .before .args in
     absurd (omega (arith, no-sector (a .g) (a .place) (sym (c .before .before .sector .ensures) ∙ c .enum-told .given .1)))
 
-fitting-requires : tie.Need-fitting-requires
-fitting-requires c κs = search needs
-
-cast-readable : tie.Need-cast-readable
-cast-readable c = search needs
-
 readable-requires : tie.Need-readable-requires
-readable-requires c κs = search needs
+readable-requires c κs =
+    let a = c .before .before .before .before .before .args in
+    let sector = c .before .mark .given in
+    let is = at-sector (a .g) (a .place) (sector .0 .0) (sector .0 .1 .0) (sym (c .before .before .before .sector .ensures) ∙ sector .1) .1 .1 in
+    let last = sector-in-image (a .g) (length (a .image .now)) (a .place + (a .n - 1)) (omega arith) (omega arith) .1 in
+    omega (arith, is, last, marks-consecutive (a .g) (a .place) (a .n - 1))
 
-cast-sectors : tie.Need-cast-sectors
-cast-sectors c = search needs
+cast-good : tie.Need-cast-good
+cast-good c = search needs
 
 came-requires : tie.Need-came-requires
 came-requires c κs = search needs
 
 returns-2 : tie.Need-returns-2
 returns-2 c =
-    let a = c .before .before .before .before .before .before .before .before .args in
-    let sector = c .before .before .before .before .mark .given in
-    let fit = c .before .before .fitting in
+    let a = c .before .before .before .before .before .before .before .args in
+    let sector = c .before .before .before .mark .given in
     let found = c .before .readable in
     c .came .ensures
     ∙ ap (λ (p : Progress). reached p)
     (sym
-    (row-comes (a .image .now) (a .g) (a .heeds) (a .place) (a .n) (omega arith) (sector .0 .1 .0)
-    (at-sector (a .g) (a .place) (sector .0 .0) (sector .0 .1 .0) (sym (c .before .before .before .before .before .before .sector .ensures) ∙ sector .1) .1 .1)
-    (fit .result) (found .result) (fit .ensures) (found .ensures)))
+    (row-comes (a .image .now) (a .g) (a .heeds) (a .place) (a .n) (sector .0 .1 .0)
+    (at-sector (a .g) (a .place) (sector .0 .0) (sector .0 .1 .0) (sym (c .before .before .before .before .before .sector .ensures) ∙ sector .1) .1 .1)
+    (found .result) (found .ensures)))
 
 pub reach-spec : {M : Type 1} → statement M
 reach-spec =
@@ -65,9 +65,7 @@ reach-spec =
     enum-known-mark
     enum-told
     returns
-    fitting-requires
-    cast-readable
     readable-requires
-    cast-sectors
+    cast-good
     came-requires
     returns-2)

@@ -31,7 +31,7 @@ sub-advance : tie.Need-sub-advance Inv-loop μ-loop
 sub-advance c = omega arith
 
 advance-requires : tie.Need-advance-requires Inv-loop μ-loop
-advance-requires c κs = (omega arith, omega arith)
+advance-requires c κs = (omega arith, (omega arith, c .before .before .before .before .before .before .pre .1))
 
 add-done : tie.Need-add-done Inv-loop μ-loop
 add-done c =
