@@ -23,8 +23,8 @@ pub record Progress : Type 0 where
 abbrev pub stopped : ℕ → Progress
 stopped j = record { sectors = j; answer = BlockAnswer.Failed Refusal.Unreadable }
 
--- From sector j on, with n sectors to go. "until done or stopped" (00, demand 2): what comes after a sector counts only where that sector
--- does not stop the transfer.
+-- From sector j on, with n sectors to go: "sectors in order until done or stopped at an unreadable sector" (00, demand 2). What comes after a
+-- sector counts only where that sector does not stop the transfer.
 unfoldable pub progress : (ℕ → Bool) → (j n : ℕ) → Progress
 progress stops j zero = record { sectors = j; answer = BlockAnswer.Ended }
 progress stops j (suc n) = cond (stops j) (stopped j) (progress stops (suc j) n)

@@ -26,14 +26,14 @@ pub record SectorsFit (u : UnitRecord) (s : Span) (lengths addresses : List ℕ)
   pub pieces : PiecesFit long (spanBytes u s) lengths addresses
   pub held : need (geometry u) ≤ image
 
--- A track that the drive has, the bytes of a sector in host memory, and such an image.
+-- As many places in a row as a track has, which the drive has, the bytes of a sector in host memory, and such an image.
 pub record TrackFits (u : UnitRecord) (spot : Spot) (at long image : ℕ) : Type 0 where
   pub some : 0 < S (geometry u)
   pub inside : spot .place + S (geometry u) ≤ driveSectors (geometry u)
   pub memory : at + B (geometry u) ≤ long
   pub held : need (geometry u) ≤ image
 
--- Nothing moved.
+-- Nothing moved. 19 stands here for every way not to fit: which check refuses a request is the judge's to say.
 abbrev pub idle : Moved
 idle = record { sectors = 0; answer = BlockAnswer.Failed Refusal.DataMisplaced }
 
