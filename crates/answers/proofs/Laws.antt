@@ -1,6 +1,6 @@
 -- The numbers stay distinct (01, What the board answers for): a number leads back to its answer.
 -- Each answer is found again by its number, so two answers with one number are one answer.
-use Prim.Native.Nat.{ℕ, _≤_}
+use Prim.Native.Nat.{ℕ}
 use mathlib.Core.Bool.{cond}
 use mathlib.Core.Path.{_≡_, refl, sym, ap, _∙_}
 use native.Mathlib.Omega.{arith}
@@ -9,7 +9,7 @@ use Rattle.answers.specs.declared.Refusal.{Refusal}
 use Rattle.answers.specs.declared.Refusal.the-variants.{CommandUnknown, NotInitialized, UibMisplaced, UibOutsideLimits, VolumeAbsent, CountZero, SectorOutside, ImageShort, ListBad, DataMisplaced, Unreadable}
 use Rattle.answers.specs.declared.RunAnswer.{RunAnswer}
 use Rattle.answers.specs.declared.RunAnswer.the-variants.{Done, EventsShort, AllowanceBad, FirstBad, BlockFailed, LinkBad, AllowanceSpent}
-use Rattle.answers.specs.Numbers.{refusalNumber, runNumber}
+use Rattle.answers.specs.Numbers.{OfABlock, refusalNumber, runNumber}
 
 refusal : ℕ → Refusal
 refusal n =
@@ -65,8 +65,8 @@ answer-back AllowanceSpent = refl
 pub answers-differ : (a b : RunAnswer) → runNumber a ≡ runNumber b → a ≡ b
 answers-differ a b same = sym (answer-back a) ∙ ap answer same ∙ answer-back b
 
--- A block's answer has one of the numbers 10 to 20.
-pub refusals-in-range : (a : Refusal) → (10 ≤ refusalNumber a) × (refusalNumber a ≤ 20)
+-- Every answer of a failed block has one of its numbers.
+pub refusals-in-range : (a : Refusal) → OfABlock (refusalNumber a)
 refusals-in-range CommandUnknown = omega arith
 refusals-in-range NotInitialized = omega arith
 refusals-in-range UibMisplaced = omega arith

@@ -1,5 +1,5 @@
 -- The number of each answer (01, Answer numbers), and the status of a block.
-use Prim.Native.Nat.{ℕ}
+use Prim.Native.Nat.{ℕ, _≤_}
 use Rattle.answers.specs.declared.BlockAnswer.{BlockAnswer}
 use Rattle.answers.specs.declared.BlockAnswer.the-variants.{Ended, Failed}
 use Rattle.answers.specs.declared.Refusal.{Refusal}
@@ -46,6 +46,10 @@ refusalNumber ListBad = 18
 refusalNumber DataMisplaced = 19
 -- "unreadable sector, DE clear"
 refusalNumber Unreadable = 20
+
+-- The numbers that a failed block can have. 21 was one of them, and is not used again (02, K13).
+abbrev pub OfABlock : ℕ → Type 0
+OfABlock n = (10 ≤ n) × (n ≤ 20)
 
 -- "the failed block's answer number, 10 and up (otherwise 0)" (01, What the board answers for)
 abbrev pub blockNumber : BlockAnswer → ℕ

@@ -2,7 +2,7 @@
 -- A volume that is present ends at start head plus heads and one that is absent at 0, and two intervals share no head where one ends before the other starts.
 use Prim.Native.Nat.{ℕ, _+_, _≤_, _<_, max}
 use mathlib.Core.Logic.{_⊎_, inl, inr, ⊎-elim, by-cases, if-pos, if-neg}
-use mathlib.Core.Path.{_≡_, sym, _∙_}
+use mathlib.Core.Path.{_≡_, _∙_}
 use native.Mathlib.Decide.{decLe, decLt}
 use native.Mathlib.Nat.{eq-zero-or-pos}
 use native.Mathlib.Omega.{arith}

@@ -1,6 +1,6 @@
 -- Whatever is shown by going through the tasks one by one: a task more is a line in each, here and in no other file.
 -- What they have in common stands beside them (Buffers, Known), and what follows for every task above (Table, Locality, LetThrough).
-use Prim.Native.Nat.{ℕ, _+_, _*_, _≤_, _<_}
+use Prim.Native.Nat.{ℕ, _+_, _<_}
 use mathlib.Core.List.{List, [], _∷_, _++_}
 use mathlib.Core.Path.{_≡_, refl}
 use native.Mathlib.Omega.{arith}

@@ -18,7 +18,7 @@ use Rattle.judge.specs.Given.{Asked}
 use Rattle.judge.specs.Table.{BeforeTransfer, has, inOrder, keepsOrder, hasNumber, rows}
 use Rattle.judge.specs.Verdict.{verdict}
 use Rattle.judge.proofs.First.{done, skip, stop}
-use Rattle.judge.proofs.Table.{in-the-papers-order}
+use Rattle.judge.proofs.Table.{both, in-the-papers-order}
 
 answer-of : (r s : Refusal) → Verdict.Refused r ≡ Verdict.Refused s → r ≡ s
 answer-of r s e = cc
@@ -58,11 +58,6 @@ of-order r (x ∷ xs) (y ∷ ys) keeps there =
 abbrev distinct : List Refusal → Bool
 distinct [] = true
 distinct (r ∷ rs) = not (has r rs) && distinct rs
-
-both : (a b : Bool) → T (a && b) → T a × T b
-both true true h = (tt, tt)
-both true false h = absurd h
-both false b h = absurd h
 
 and : (a b : Bool) → T a → T b → T (a && b)
 and true true p q = tt

@@ -29,7 +29,7 @@ use Rattle.judge.specs.declared.Moving.the-variants.{Sectors, Track}
 use Rattle.judge.specs.declared.Report.{Report}
 use Rattle.judge.specs.declared.Report.the-variants.{Nothing, Identity}
 use Rattle.judge.specs.declared.Verdict.{Verdict}
-use Rattle.judge.specs.Asks.{checks, found, ofBuffer, only, plan}
+use Rattle.judge.specs.Asks.{found, ofBuffer, only}
 use Rattle.judge.specs.Checks.{Check, None, first}
 use Rattle.judge.specs.Fits.{BufferGood, LeavingFits, PlanFits}
 use Rattle.judge.specs.Given.{Asked, Covers}

@@ -23,7 +23,7 @@ use Rattle.judge.specs.Verdict.{verdict}
 use Rattle.judge.proofs.EachTask.{asked-in-order}
 use Rattle.judge.proofs.Tasks.{unknown}
 
-both : (a b : Bool) → T (a && b) → T a × T b
+pub both : (a b : Bool) → T (a && b) → T a × T b
 both true true h = (tt, tt)
 both true false h = absurd h
 both false b h = absurd h

@@ -1,21 +1,16 @@
 -- A transfer's sectors stand on the drive, before the marks: it changes no mark and no byte after the marks.
 -- How many sectors come is read off its answer.
-use Prim.Native.Nat.{ℕ, zero, suc, _+_, _*_, _/_, _≤_, _<_}
-use mathlib.Core.Bool.{Bool, true, false, cond}
+use Prim.Native.Nat.{ℕ, _+_, _*_, _/_, _≤_, _<_}
+use mathlib.Core.Bool.{Bool, true, false}
 use mathlib.Core.List.{List}
-use mathlib.Core.Logic.{if-pos}
-use mathlib.Core.Path.{_≡_, refl, sym, _∙_}
+use mathlib.Core.Path.{_≡_}
 use native.Mathlib.Nat.{div-lt-iff-lt-mul, mod-lt, zero-add}
 use native.Mathlib.Omega.{arith}
-use lib.Dec.{eqb}
-use lib.ListN.{getD, length}
 use Rattle.answers.specs.declared.BlockAnswer.{BlockAnswer}
 use Rattle.answers.specs.declared.Refusal.{Refusal}
-use Rattle.geometry.specs.declared.Geometry.{Geometry}
 use Rattle.geometry.specs.declared.VolumeNumber.{VolumeNumber}
-use Rattle.geometry.specs.Drive.{B, S, driveSectors, marksAt, need, volumeSectors}
-use Rattle.geometry.specs.Sectors.{markByte}
-use Rattle.geometry.proofs.Laws.{bytes-inside, sector-in-image}
+use Rattle.geometry.specs.Drive.{B, S, driveSectors, marksAt, volumeSectors}
+use Rattle.geometry.proofs.Laws.{bytes-inside}
 use Rattle.unit.specs.declared.Spot.{Spot}
 use Rattle.unit.proofs.Laws.{spot-inside}
 use Rattle.unit.specs.Standing.{UnitRecord, geometry}

@@ -4,7 +4,7 @@ use Prim.Native.Nat.{ℕ, _+_, _*_, _/_, _≤_, _<_}
 use mathlib.Core.Bool.{Bool}
 use mathlib.Core.List.{List, []}
 use mathlib.Core.Logic.{by-cases, if-neg, if-pos}
-use mathlib.Core.Path.{_≡_, sym, ap, _∙_}
+use mathlib.Core.Path.{_≡_, ap}
 use native.Mathlib.Decide.{decLt}
 use native.Mathlib.Nat.{div-lt-iff-lt-mul, mod-lt, mul-le-mul-right, mul-zero, zero-add}
 use native.Mathlib.Omega.{arith}

@@ -15,16 +15,6 @@ use Rattle.transfer.proofs.Filling.{track-fit, track-room, track-stores
 use borrow.Author.Needs.{needs}
 use Rattle.transfer.proofs.format_track.Statement.{statement}
 use Rattle.transfer.proofs.format_track.Tie as tie
-use Rattle.transfer.proofs.format_track.Reads as reads
-use Rattle.transfer.proofs.format_track.Lts as lts
-use Rattle.geometry.proofs.Geometry.bytes_a_sector.Reads as bytes-a-sector-reads
-use Rattle.geometry.proofs.Geometry.sector.Reads as sector-reads
-use Rattle.geometry.proofs.Geometry.sectors_a_track.Reads as sectors-a-track-reads
-use Rattle.transfer.proofs.carry.fill.Reads as fill-reads
-use Rattle.transfer.proofs.idle.Reads as idle-reads
-use Rattle.transfer.proofs.reach.reach.Reads as reach-reads
-use Rattle.transfer.proofs.track_fits.Reads as track-fits-reads
-use Rattle.unit.proofs.Record.geometry.Reads as geometry-reads
 use Rattle.unit.specs.Standing.{geometry}
 
 track-fits-requires : tie.Need-track-fits-requires

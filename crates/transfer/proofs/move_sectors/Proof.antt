@@ -12,13 +12,6 @@ use Rattle.transfer.proofs.Wholes.{reached-held, reached-pieces, reache
 use borrow.Author.Needs.{needs}
 use Rattle.transfer.proofs.move_sectors.Statement.{statement}
 use Rattle.transfer.proofs.move_sectors.Tie as tie
-use Rattle.transfer.proofs.move_sectors.Reads as reads
-use Rattle.transfer.proofs.move_sectors.Lts as lts
-use Rattle.transfer.proofs.carry.carry.Reads as carry-reads
-use Rattle.transfer.proofs.heeds.Reads as heeds-reads
-use Rattle.transfer.proofs.idle.Reads as idle-reads
-use Rattle.transfer.proofs.reach.survey.Reads as survey-reads
-use Rattle.transfer.proofs.sectors_fit.Reads as sectors-fit-reads
 
 sectors-fit-requires : tie.Need-sectors-fit-requires
 sectors-fit-requires c κs = search needs

@@ -1,6 +1,5 @@
 -- A span that does not fit is refused, and so are pieces without addresses; the pieces decide what is left.
 -- What is known of the volume is handed on.
-use native.Mathlib.Omega.{arith}
 use Rattle.wire.proofs.Promises.{denied, granted, says-same}
 use borrow.Author.Needs.{needs}
 use Rattle.transfer.proofs.sectors_fit.Statement.{statement}

@@ -5,10 +5,6 @@ use Rattle.wire.proofs.Promises.{denied, granted}
 use borrow.Author.Needs.{needs}
 use Rattle.board.proofs.chain.run_one.Statement.{statement}
 use Rattle.board.proofs.chain.run_one.Tie as tie
-use Rattle.board.proofs.chain.run_one.Reads as reads
-use Rattle.board.proofs.chain.run_one.Lts as lts
-use Rattle.board.proofs.chain.step.Reads as step-reads
-use Rattle.board.proofs.chain.holds_block.Reads as holds-block-reads
 
 holds-block-requires : tie.Need-holds-block-requires
 holds-block-requires c κs = search needs

@@ -10,12 +10,6 @@ use Rattle.transfer.proofs.Tracks.{run-inside}
 use borrow.Author.Needs.{needs}
 use Rattle.transfer.proofs.carry.next_run.Statement.{statement}
 use Rattle.transfer.proofs.carry.next_run.Tie as tie
-use Rattle.transfer.proofs.carry.next_run.Reads as reads
-use Rattle.transfer.proofs.carry.next_run.Lts as lts
-use Rattle.geometry.proofs.Geometry.bytes_a_sector.Reads as bytes-a-sector-reads
-use Rattle.geometry.proofs.Geometry.sector.Reads as sector-reads
-use Rattle.transfer.proofs.reach.run_at.Reads as run-at-reads
-use Rattle.unit.proofs.Record.geometry.Reads as geometry-reads
 use Rattle.unit.specs.Standing.{geometry}
 
 add-run-at : tie.Need-add-run-at

@@ -5,11 +5,6 @@ use Rattle.transfer.proofs.Tracks.{run-comes, run-inside}
 use borrow.Author.Needs.{needs}
 use Rattle.transfer.proofs.reach.advance.Statement.{statement}
 use Rattle.transfer.proofs.reach.advance.Tie as tie
-use Rattle.transfer.proofs.reach.advance.Reads as reads
-use Rattle.transfer.proofs.reach.advance.Lts as lts
-use Rattle.transfer.proofs.reach.reach.Reads as reach-reads
-use Rattle.transfer.proofs.reach.run_at.Reads as run-at-reads
-use Rattle.unit.proofs.Record.geometry.Reads as geometry-reads
 
 run-at-requires : tie.Need-run-at-requires
 run-at-requires c κs = search needs

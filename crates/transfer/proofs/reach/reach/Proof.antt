@@ -12,10 +12,6 @@ use Rattle.transfer.proofs.Rows.{row-comes}
 use borrow.Author.Needs.{needs}
 use Rattle.transfer.proofs.reach.reach.Statement.{statement}
 use Rattle.transfer.proofs.reach.reach.Tie as tie
-use Rattle.transfer.proofs.reach.reach.Reads as reads
-use Rattle.transfer.proofs.reach.reach.Lts as lts
-use Rattle.geometry.proofs.Geometry.sector.Reads as sector-reads
-use Rattle.transfer.proofs.reach.readable.Reads as readable-reads
 
 sector-requires : tie.Need-sector-requires
 sector-requires c κs = search needs

@@ -6,9 +6,6 @@ use borrow.Author.Needs.{needs}
 use Rattle.transfer.proofs.Survey.{Surveying, advanced-most, survey-begins, survey-ends, survey-grows, survey-on, survey-stopped}
 use Rattle.transfer.proofs.reach.survey.Statement.{statement}
 use Rattle.transfer.proofs.reach.survey.Tie as tie
-use Rattle.transfer.proofs.reach.survey.Reads as reads
-use Rattle.transfer.proofs.reach.survey.Lts as lts
-use Rattle.transfer.proofs.reach.advance.Reads as advance-reads
 
 abbrev Inv-loop : tie.InvT-loop
 Inv-loop image u span heeds volume done₀ done = Surveying image u (span .volume) (span .first) (span .count) heeds done
