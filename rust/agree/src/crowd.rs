@@ -18,6 +18,8 @@ pub struct Crowd {
     pub seed: u64,
     pub worlds: u64,
     pub threads: usize,
+    /// A fault of the model in every world: what it is like to be without a rule.
+    pub seeded: Option<Fault>,
 }
 
 /// Whether a fault is caught in what has an index.
@@ -30,15 +32,13 @@ pub struct Disagreement {
 }
 
 /// One world on both sides: what differs.
-pub fn one_world(
-    opponent: Opponent,
-    seed: u64,
-    index: u64,
-    coverage: &mut Coverage,
-) -> Vec<String> {
-    let case = world(seed, index);
-    let library = opponent.run(&case);
-    let judged = catch_unwind(AssertUnwindSafe(|| model_side(&case)));
+pub fn one_world(crowd: &Crowd, index: u64, coverage: &mut Coverage) -> Vec<String> {
+    let case = world(crowd.seed, index);
+    let library = crowd.opponent.run(&case);
+    let judged = catch_unwind(AssertUnwindSafe(|| match crowd.seeded {
+        Some(fault) => with_fault(fault, || model_side(&case)),
+        None => model_side(&case),
+    }));
     let Ok((model, trace)) = judged else {
         return vec!["the model panics".to_string()];
     };
@@ -83,7 +83,7 @@ impl Crowd {
                 if index >= end.load(Ordering::Relaxed) {
                     return (coverage, None);
                 }
-                let lines = one_world(self.opponent, self.seed, index, &mut coverage);
+                let lines = one_world(self, index, &mut coverage);
                 if !lines.is_empty() {
                     end.fetch_min(index, Ordering::Relaxed);
                     return (coverage, Some(Disagreement { index, lines }));

@@ -29,6 +29,7 @@ use std::time::Instant;
 const USAGE: &str = "\
 agree [--worlds N] [--seed S] [--threads N] [--itself]   compare on generated worlds
 agree --world I [--seed S] [--itself]                    one of these worlds, and show it
+agree --worlds N --seeded WORDS                          the same with one of these faults in the model
 agree --faults [--worlds N] [--seed S] [--itself]        faults seeded in the model: is each caught?
 agree --exact [--itself]                                 the paper's worked examples and the limits
 agree --sessions N PROGRAM WORD..                        the session program on generated sessions
@@ -57,6 +58,7 @@ fn asked() -> Option<Asked> {
             seed: 3200,
             worlds: 200_000,
             threads,
+            seeded: None,
         },
         world: None,
         faults: false,
@@ -75,6 +77,7 @@ fn asked() -> Option<Asked> {
             "--world" => asked.world = Some(number()?),
             "--itself" => asked.crowd.opponent = Opponent::Itself,
             "--faults" => asked.faults = true,
+            "--seeded" => asked.crowd.seeded = Some(fault(&words.next()?)?),
             "--exact" => asked.exact = true,
             "--pairs" => asked.pairs = Some(number()?),
             "--pair" => asked.pair = Some(number()?),
@@ -86,6 +89,12 @@ fn asked() -> Option<Asked> {
         }
     }
     Some(asked)
+}
+
+/// The fault in the rules that says so.
+fn fault(says: &str) -> Option<Fault> {
+    let mut faults = Fault::IN_RULES.into_iter();
+    faults.find(|fault| fault.says() == says)
 }
 
 fn main() -> ExitCode {
@@ -146,7 +155,7 @@ fn sessions(crowd: &Crowd, count: u64, command: &[String]) -> bool {
 
 /// One world, shown whether or not the two agree.
 fn show(crowd: &Crowd, index: u64) -> bool {
-    let lines = one_world(crowd.opponent, crowd.seed, index, &mut Coverage::default());
+    let lines = one_world(crowd, index, &mut Coverage::default());
     print!("{}", dump::dump(&worlds::world(crowd.seed, index)));
     for line in &lines {
         println!("differs: {}", line);
