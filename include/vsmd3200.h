@@ -152,7 +152,8 @@ size_t vsmd_outcome_len(void);
 /* Runs the chain that begins with the block at an address of host memory.
  *
  *   host             host memory; its first byte has address 0. In: the blocks, and what they name. Out: the status word of each
- *                    block run, the identity in words 2 to 7 of a handshake, and the data that reads and scatters moved.
+ *                    block run, the identity in words 2 to 7 of a handshake, the last sector formatted in the lower byte of word 3
+ *                    and their number in word 4 of a format that ended with status 80, and the data that reads and scatters moved.
  *   image0, image1   the images of units 0 and 1. Out: the data that writes, gathers and formats moved. Their lengths may be 0.
  *   events           the event buffer. Out: an entry for each block run.
  *   record0, record1 the records of units 0 and 1. Out: stored anew where a block changed the record (an initialize, heads that

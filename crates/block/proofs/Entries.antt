@@ -56,6 +56,15 @@ pub two-written : (bytes : List ℕ) (at a b : ℕ) → set (set bytes (at + 2) 
 unfolding written
 two-written bytes at a b = simp (two, three)
 
+-- Three bytes stored one after the other.
+pub three-written :
+    (bytes : List ℕ) (at a b c : ℕ) → set (set (set bytes (at + 7) a) (at + 8) b) (at + 9) c ≡ written bytes (at + 7) (a ∷ b ∷ c ∷ [])
+unfolding written
+three-written bytes at a b c =
+    let eight : at + 8 ≡ suc (at + 7) = omega arith in
+    let nine : at + 9 ≡ suc (suc (at + 7)) = omega arith in
+    rw (eight, nine)
+
 -- A copy of a whole list is its numbers stored one after the other.
 pub copy-written :
     (ns bytes : List ℕ) (at : ℕ) → at + length ns ≤ length bytes → copied ns 0 bytes at (length ns) ≡ written bytes at ns

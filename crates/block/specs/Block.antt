@@ -1,6 +1,6 @@
 -- What one block does (01, One run), in three movements: it is judged, performed and finished. Its stores in order, and what becomes of its
 -- unit's record.
-use Prim.Native.Nat.{ℕ, _+_, _*_}
+use Prim.Native.Nat.{ℕ, _+_, _-_, _*_}
 use mathlib.Core.Bool.{false}
 use mathlib.Core.List.{List, [], _∷_, _++_}
 use lib.IntN.{ℤ, pos}
@@ -31,7 +31,7 @@ use Rattle.judge.specs.declared.Moving.{Moving}
 use Rattle.judge.specs.declared.Moving.the-variants.{Nothing, Sectors, Track}
 use Rattle.judge.specs.declared.Plan.{Plan}
 use Rattle.judge.specs.declared.Report.{Report}
-use Rattle.judge.specs.declared.Report.the-variants.{Nothing as Silent, Identity}
+use Rattle.judge.specs.declared.Report.the-variants.{Nothing as Silent, Identity, Formatted}
 use Rattle.judge.specs.declared.Verdict.{Verdict}
 use Rattle.judge.specs.declared.Verdict.the-variants.{Refused, Do}
 use Rattle.judge.specs.Given.{Asked}
@@ -76,7 +76,9 @@ bufferOf (Track spot at) = Piece at
 abbrev pub transferOf : List ℕ → UnitRecord → Moving → Transfer
 transferOf host u m = transferWith u m (dataByte host (bufferOf m))
 
--- The words that are reported: from which byte of the block on, and their bytes. 86 "writes words 2 to 7 with this board's own identity".
+-- The words that are reported: from which byte of the block on, and their bytes. 86 "writes words 2 to 7 with this board's own identity"; of
+-- 8C the "lower byte of word 3 is the last sector formatted, word 4 the number of sectors formatted" (02, K1). That is at most 255, so that the
+-- upper byte of word 4 is 00.
 pub record Words : Type 0 where
   pub from : ℕ
   pub bytes : List ℕ
@@ -84,6 +86,7 @@ pub record Words : Type 0 where
 abbrev pub wordsOf : Report → Words
 wordsOf Silent = record { from = 4; bytes = [] }
 wordsOf Identity = record { from = 4; bytes = identityBytes }
+wordsOf (Formatted n) = record { from = 7; bytes = (n - 1) ∷ 0x00 ∷ n ∷ [] }
 
 -- The record afterwards, of so many sectors moved. "After 81, 82, A1 or A2 the heads stand on the cylinder of the last sector tried"; "87
 -- replaces the unit record; the heads are at cylinder 0."

@@ -6,13 +6,14 @@ use lib.ListN.{length}
 use lib.Seq.{sets}
 use Rattle.judge.specs.declared.Moving.{Moving}
 use Rattle.judge.specs.declared.Moving.the-variants.{Nothing, Sectors, Track}
+use Rattle.judge.specs.declared.Plan.{Plan}
 use Rattle.transfer.specs.declared.Moved.{Moved}
 use Rattle.transfer.specs.Data.{Transfer, dataOn}
 use Rattle.transfer.specs.Stores.{Buffers, Store, after}
 use Rattle.transfer.specs.Whole.{SectorsFit, TrackFits, movedOn}
 use Rattle.block.specs.declared.Done.{Done}
 use Rattle.block.specs.declared.Performed.{Performed}
-use Rattle.block.specs.Block.{Effect, Performance, begun}
+use Rattle.block.specs.Block.{Effect, Performance, begun, performed, transferOf}
 use Rattle.block.specs.World.{Drive}
 use Rattle.unit.specs.Standing.{UnitRecord}
 
@@ -46,6 +47,11 @@ Ready u (Track spot at) lengths addresses long image = TrackFits u spot at long 
 pub record Made (t : Transfer) (at : ℕ) (host image host′ image′ : List ℕ) (m : Moved) : Type 0 where
   pub result : m ≡ movedOn image t
   pub stored : Stores (begun at ++ dataOn image t) host image host′ image′
+
+-- What a plan stores was stored in its order, and its transfer came to that.
+pub record Carries (host : List ℕ) (d : Drive) (at : ℕ) (plan : Plan) (host′ image′ : List ℕ) (m : Moved) : Type 0 where
+  pub result : m ≡ movedOn (d .image) (transferOf host (d .unit) (plan .moving))
+  pub stored : Stores (performed host d at plan .stores) host (d .image) host′ image′
 
 -- A block was performed.
 abbrev pub performedOf : Performance → Performed

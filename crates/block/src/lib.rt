@@ -20,16 +20,17 @@ use unit::Record;
 use unit::Span;
 ghost use mathlib.Core.List.{List, [], _∷_};
 ghost use mathlib.Core.Path.{_≡_};
-ghost use Prim.Native.Nat.{ℕ, _+_, _*_, _≤_, _<_, min};
+ghost use Prim.Native.Nat.{ℕ, _+_, _-_, _*_, _≤_, _<_, min};
 ghost use lib.ListN.{length};
 ghost use Rattle.iopb.specs.Identity.{identityBytes};
 ghost use Rattle.iopb.specs.Layout.{blockAt};
 ghost use Rattle.geometry.specs.Drive.{B};
 ghost use Rattle.judge.specs.declared.Moving.{Moving};
-ghost use Rattle.judge.specs.Fits.{JobGood, LeavingFits, MovingFits, PlanFits, SpanGood};
+ghost use Rattle.judge.specs.declared.Report.{Report};
+ghost use Rattle.judge.specs.Fits.{JobGood, LeavingFits, MovingFits, PlanFits, ReportFits, SpanGood};
 ghost use Rattle.request.specs.declared.Buffer.{Buffer};
 ghost use Rattle.block.specs.Block.{effectOn, finish, leftBy, performed, refused, transferOf, transferWith, travelled, wordsOf};
-ghost use Rattle.block.specs.Steps.{Did, Made, Performs, Ready, Room, Stores, driveWith, performedOf, three, written};
+ghost use Rattle.block.specs.Steps.{Carries, Did, Made, Performs, Ready, Room, Stores, driveWith, performedOf, three, written};
 ghost use Rattle.transfer.specs.Progress.{lastTried};
 ghost use Rattle.transfer.specs.Runs.{pieceByte};
 ghost use Rattle.transfer.specs.Stores.{after};
@@ -71,14 +72,25 @@ fn put_identity(host: &mut [u8], at: usize)
     wire::copy(&words, 0, host, at + 4, 12);
 }
 
+// The lower byte of word 3 and word 4 of the block at an address: the last of so many sectors, and how many they are.
+fn put_formatted(host: &mut [u8], at: usize, sectors: u16)
+    requires { ⌜ (at + 28 ≤ length (now host)) × ReportFits (Report.Formatted sectors) ⌝ }
+    ensures { λ _. ⌜ now (host .exit) ≡ written (now (host .entry)) (at + 7) ((sectors - 1) ∷ 0x00 ∷ sectors ∷ []) ⌝ }
+{
+    host[at + 7] = (sectors - 1) as u8;
+    host[at + 8] = 0x00;
+    host[at + 9] = sectors as u8;
+}
+
 // The words that a block reports.
 fn put_report(host: &mut [u8], at: usize, report: Report)
-    requires { ⌜ at + 28 ≤ length (now host) ⌝ }
+    requires { ⌜ (at + 28 ≤ length (now host)) × ReportFits report ⌝ }
     ensures { λ _. ⌜ now (host .exit) ≡ written (now (host .entry)) (at + wordsOf report .from) (wordsOf report .bytes) ⌝ }
 {
     match report {
         Report::Nothing => {}
         Report::Identity => put_identity(host, at),
+        Report::Formatted(sectors) => put_formatted(host, at, sectors),
     }
 }
 
@@ -272,16 +284,25 @@ fn gone(u: Record, leaving: Leaving, new: Record) -> i32
     }
 }
 
+// The stores of an accepted block in their order: the mark and what is moved, and then what is reported.
+fn carry_and_report(host: &mut [u8], image: &mut [u8], u: Record, at: usize, plan: Plan) -> Moved
+    requires { ⌜ (at + 28 ≤ length (now host)) × PlanFits u (length (now image)) (now host) plan ⌝ }
+    ensures { λ m. ⌜ Carries (now (host .entry)) (driveWith u (now (image .entry))) at plan (now (host .exit)) (now (image .exit)) m ⌝ }
+{
+    let moving = plan.moving;
+    let report = plan.report;
+    let m = carry(host, image, u, at, moving);
+    put_report(host, at, report);
+    m
+}
+
 // What an accepted block does: it knows no events, and not how many blocks came before.
 fn perform(host: &mut [u8], image: &mut [u8], u: Record, at: usize, plan: Plan) -> Performed
     requires { ⌜ (at + 28 ≤ length (now host)) × PlanFits u (length (now image)) (now host) plan ⌝ }
     ensures { λ p. ⌜ Performs (performed (now (host .entry)) (driveWith u (now (image .entry))) at plan) (now (host .entry)) (now (image .entry)) (now (host .exit)) (now (image .exit)) p ⌝ }
 {
-    let moving = plan.moving;
     let leaving = plan.leaving;
-    let report = plan.report;
-    let m = carry(host, image, u, at, moving);
-    put_report(host, at, report);
+    let m = carry_and_report(host, image, u, at, plan);
     let unit = left(u, leaving, m.sectors);
     let answer = m.answer;
     Performed {

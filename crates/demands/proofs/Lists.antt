@@ -1,9 +1,9 @@
--- What a block writes of host memory, and the data that it takes from there, by the paper's list: each line for its commands.
+-- What a block writes of host memory, and the data that it takes from there, by the papers' list: each line for its commands.
 -- A plan that was let through is its task's own, and a refused block moves and reports nothing.
 use Prim.Native.Nat.{ℕ, _+_, _*_, _<_}
 use mathlib.Core.Bool.{Bool, true, false}
 use mathlib.Core.Logic.{_⊎_, inl, inr}
-use mathlib.Core.Path.{_≡_, refl, sym, ap, _∙_}
+use mathlib.Core.Path.{_≡_, refl, sym, ap, subst, _∙_}
 use native.Mathlib.Nat.{zero-mul}
 use native.Mathlib.Omega.{arith}
 use lib.ListN.{length}
@@ -15,14 +15,15 @@ use Rattle.request.specs.declared.Task.the-variants.{Move as Moves, Handshake, 
 use Rattle.request.specs.declared.Track.{Track as Tracks}
 use Rattle.judge.specs.declared.Moving.{Moving}
 use Rattle.judge.specs.declared.Moving.the-variants.{Nothing, Sectors, Track}
+use Rattle.judge.specs.declared.Plan.{Plan}
 use Rattle.judge.specs.declared.Report.{Report}
-use Rattle.judge.specs.declared.Report.the-variants.{Nothing as Silent, Identity}
+use Rattle.judge.specs.declared.Report.the-variants.{Nothing as Silent, Identity, Formatted}
 use Rattle.judge.specs.declared.Verdict.{Verdict}
 use Rattle.judge.specs.declared.Verdict.the-variants.{Refused, Do}
 use Rattle.judge.specs.Given.{Asked}
 use Rattle.judge.specs.Verdict.{verdict}
-use Rattle.judge.proofs.Known.{MoverKnown}
-use Rattle.judge.proofs.LetThrough.{mover-let-through, report-let-through}
+use Rattle.judge.proofs.Known.{MoverKnown, ReportKnown}
+use Rattle.judge.proofs.LetThrough.{format-reports, handshake-reports, mover-let-through, report-let-through}
 use Rattle.transfer.specs.Data.{progressOn}
 use Rattle.transfer.specs.Progress.{progress}
 use Rattle.unit.specs.Standing.{geometry}
@@ -35,22 +36,36 @@ use Rattle.demands.specs.Footprint.HostWritten.{moved, report, status-wo
 abbrev MovesData : Asked → Bool → Type 0
 MovesData a to-host = (m : Move) × ((a .task ≡ Moves m) × (m .«to_host» ≡ to-host))
 
+-- A format that is let through.
+abbrev pub Formats : Asked → Type 0
+Formats a = ((k : Tracks) × (a .task ≡ Format k)) × ((p : Plan) × (verdict a ≡ Do p))
+
 -- Byte x is among the words that a report stores in the block at an address.
 abbrev Reported : ℕ → ℕ → Report → Type 0
 Reported at x r = Among (at + wordsOf r .from) (length (wordsOf r .bytes)) x
 
 module _ (a : Asked) where
-  -- Words are reported for an 86, and they are words 2 to 7.
-  reported-for : (at x : ℕ) → Reported at x (reportOf (verdict a)) → (a .task ≡ Handshake) × Among (at + 4) 12 x
+  -- Words are reported for an 86, where they are words 2 to 7, and for an 8C that is let through, where they are the lower byte of word 3 and
+  -- word 4.
+  abbrev pub ReportedFor : ℕ → ℕ → Type 0
+  ReportedFor at x = ((a .task ≡ Handshake) × Among (at + 4) 12 x) ⊎ (Formats a × Among (at + 7) 3 x)
+
+  reported-for : (at x : ℕ) → Reported at x (reportOf (verdict a)) → ReportedFor at x
   reported-for at x = by-verdict (verdict a) refl
     where
-      by-report : (r : Report) → (r ≡ Identity → a .task ≡ Handshake) → Reported at x r → (a .task ≡ Handshake) × Among (at + 4) 12 x
-      by-report Silent known among = absurd (omega (arith, among))
-      by-report Identity known among = (known refl, among)
+      by-report : (p : Plan) → verdict a ≡ Do p → (r : Report) → ReportKnown a r → Reported at x r → ReportedFor at x
+      by-report p is Silent known among = absurd (omega (arith, among))
+      by-report p is Identity known among = inl (known, among)
+      by-report p is (Formatted n) known among = inr ((known .0, (p, is)), among)
 
-      by-verdict : (v : Verdict) → verdict a ≡ v → Reported at x (reportOf v) → (a .task ≡ Handshake) × Among (at + 4) 12 x
+      by-verdict : (v : Verdict) → verdict a ≡ v → Reported at x (reportOf v) → ReportedFor at x
       by-verdict (Refused r) is among = absurd (omega (arith, among))
-      by-verdict (Do p) is among = by-report (p .report) (report-let-through a p is) among
+      by-verdict (Do p) is among = by-report p is (p .report) (report-let-through a p is) among
+
+  for-reported : (at x : ℕ) → ReportedFor at x → Reported at x (reportOf (verdict a))
+  for-reported at x (inl (is, among)) = rw (handshake-reports a is) among
+  for-reported at x (inr (((k, is), (p, do-so)), among)) =
+      subst (Reported at x) (sym (ap reportOf do-so ∙ format-reports a k p is do-so)) among
 
   known : MoverKnown (a .task) (movingOf (verdict a))
   known = by-verdict (verdict a) refl
@@ -87,10 +102,17 @@ module _ (a : Asked) where
       by-moving (Sectors j) (m, (asks, way)) goes k less = inl (m, (asks, sym way ∙ goes))
       by-moving (Track spot at) format goes k less = inr format
 
-  -- "word 1 of each fetched block, words 2 to 7 for 86, the data bytes that 81 and A1 moved"
-  pub written-for :
-      (at : ℕ) (d : Drive) (x : ℕ) → HostWritten at a d x →
-      Among (at + 2) 2 x ⊎ (((a .task ≡ Handshake) × Among (at + 4) 12 x) ⊎ (MovesData a true × HostData a d true x))
+  -- "word 1 of each fetched block, words 2 to 7 for 86, the data bytes that 81 and A1 moved", and what 8C reports: these bytes are written,
+  -- and no others.
+  abbrev pub Listed : ℕ → Drive → ℕ → Type 0
+  Listed at d x = Among (at + 2) 2 x ⊎ (ReportedFor at x ⊎ (MovesData a true × HostData a d true x))
+
+  pub written-for : (at : ℕ) (d : Drive) (x : ℕ) → HostWritten at a d x → Listed at d x
   written-for at d x (status-word among) = inl among
   written-for at d x (report among) = inr (inl (reported-for at x among))
   written-for at d x (moved byte) = inr (inr (to-host-for (byte .goes), byte))
+
+  pub for-written : (at : ℕ) (d : Drive) (x : ℕ) → Listed at d x → HostWritten at a d x
+  for-written at d x (inl among) = status-word among
+  for-written at d x (inr (inl told)) = report (for-reported at x told)
+  for-written at d x (inr (inr (moves, byte))) = moved byte

@@ -17,17 +17,17 @@ use Rattle.judge.specs.declared.Verdict.{Verdict}
 use Rattle.judge.specs.declared.Verdict.the-variants.{Refused, Do}
 use Rattle.judge.proofs.LetThrough.{quiet-let-through}
 use Rattle.transfer.specs.Data.{Transfer, dataOn, diskByte, progressOn}
-use Rattle.transfer.specs.Stores.{Buffers, Store, after, bytesFrom, hostByte}
+use Rattle.transfer.specs.Stores.{Buffers, Store, after, bytesFrom}
 use Rattle.transfer.proofs.Earlier.{host-has-byte}
-use Rattle.transfer.proofs.Stays.{host-bytes-stored, lengths-stay, unstored-stays}
+use Rattle.transfer.proofs.Stays.{host-bytes-stored, lengths-stay}
 use Rattle.transfer.proofs.Stores.{after-append}
-use Rattle.block.specs.Block.{Effect, begun, finish, judged, reported, transferOf, wordsOf}
+use Rattle.block.specs.Block.{begun, finish, judged, reported, transferOf, wordsOf}
 use Rattle.block.specs.World.{buffersOf}
 use Rattle.demands.specs.Footprint.{HostData, WritesHost, askedOf, comes, movingOf, namedDrive, names, reportOf, transferBy, verdictOf, wordsBy}
 use Rattle.demands.specs.Footprint.HostWritten.{moved, report, status-word}
-use Rattle.demands.specs.Visits.{Visit, blockOf, effectOf, worldLeft}
+use Rattle.demands.specs.Visits.{Visit, effectOf, worldLeft}
 use Rattle.demands.proofs.Keeps.{block-keeps-host, buffers-left}
-use Rattle.demands.proofs.Written.{effect-is, finish-host, host-written-exactly, performance, sectors-come}
+use Rattle.demands.proofs.Written.{closing-keeps-host, host-written-exactly, performance, performed-then-closed, sectors-come}
 
 -- A block that moves sectors to host memory was accepted, and reports nothing.
 module _ (v : Visit) (reads : transferBy (askedOf v) .to-host ≡ true) where
@@ -94,15 +94,12 @@ module _ (v : Visit) (reads : transferBy (askedOf v) .to-host ≡ true) where
         (b : Buffers) → b .image ≡ namedDrive v .image → length (b .host) ≡ length (v .world .host) →
         getD (after (effectOf v .stores) b .host) (t .host-byte k) 0 ≡ getD (namedDrive v .image) (diskByte (t .geometry) (t .place) k) 0
     data-there b same long =
-        let close = finish (blockOf v) (v .at) (v .index) (performance v .answer) (performance v .travel) in
         let data-stores = dataOn (namedDrive v .image) t in
         let marked-image : marked b .image ≡ namedDrive v .image = ap (λ (x : Buffers). x .image) (host-bytes-stored (0x81 ∷ 0x00 ∷ []) (v .at + 2) b) ∙ same in
         let amount : comes (askedOf v) (namedDrive v) .sectors ≡ progressOn (marked b .image) t .sectors =
         ap (λ (i : List ℕ). progressOn i t .sectors) (sym marked-image) in
-        ap (λ (e : Effect). getD (after (e .stores) b .host) (t .host-byte k) 0) (effect-is v)
-        ∙ ap (λ (x : Buffers). getD (x .host) (t .host-byte k) 0) (after-append (performance v .stores) close b)
-        ∙ unstored-stays close (after (performance v .stores) b) (hostByte (t .host-byte k))
-        (λ there. outside (finish-host (blockOf v) (v .at) (v .index) (performance v .answer) (performance v .travel) (t .host-byte k) there))
+        ap (λ (x : Buffers). getD (x .host) (t .host-byte k) 0) (performed-then-closed v b)
+        ∙ closing-keeps-host v (t .host-byte k) (after (performance v .stores) b) outside
         ∙ ap (λ (ss : List Store). getD (after ss b .host) (t .host-byte k) 0) stores-are
         ∙ ap (λ (x : Buffers). getD (x .host) (t .host-byte k) 0) (after-append (begun (v .at)) data-stores b)
         ∙ ap (λ (i : List ℕ). getD (after (dataOn i t) (marked b) .host) (t .host-byte k) 0) (sym marked-image)

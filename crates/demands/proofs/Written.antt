@@ -8,7 +8,7 @@ use mathlib.Core.Path.{_≡_, refl, sym, ap, subst, _∙_}
 use native.Mathlib.Nat.{zero-mul}
 use native.Mathlib.Omega.{arith}
 use lib.IntN.{ℤ}
-use lib.ListN.{length}
+use lib.ListN.{getD, length}
 use Rattle.wire.specs.Memory.{Among}
 use Rattle.wire.proofs.Promises.{never}
 use Rattle.answers.specs.declared.BlockAnswer.{BlockAnswer}
@@ -20,8 +20,9 @@ use Rattle.judge.specs.declared.Verdict.{Verdict}
 use Rattle.judge.specs.declared.Verdict.the-variants.{Refused, Do}
 use Rattle.transfer.specs.Data.{Transfer, dataOn, diskByte, moveAt, progressOn}
 use Rattle.transfer.specs.Progress.{progress}
-use Rattle.transfer.specs.Stores.{Cell, Store, Stored, bytesFrom, eventByte, hostByte, imageByte, upTo}
-use Rattle.transfer.proofs.Stays.{append-stored, bytes-stored, stored-of-append, stored-of-bytes, stored-of-upTo, upTo-stored}
+use Rattle.transfer.specs.Stores.{Buffers, Cell, Store, Stored, after, bytesFrom, eventByte, hostByte, imageByte, upTo}
+use Rattle.transfer.proofs.Stays.{append-stored, bytes-stored, image-stays, stored-of-append, stored-of-bytes, stored-of-upTo, unstored-stays, upTo-stored}
+use Rattle.transfer.proofs.Stores.{after-append}
 use Rattle.block.specs.Block.{Effect, Performance, Words, begun, effectAt, effectOn, finish, finished, judged, reported, transferOf, wordsOf}
 use Rattle.block.specs.Events.{entry}
 use Rattle.block.specs.World.{Drive}
@@ -137,7 +138,7 @@ module _ (image : List ℕ) (t : Transfer) where
 
 module _ (b : Block) (at i : ℕ) (answer : BlockAnswer) (travel : ℤ) where
   -- A finish writes word 1 and the entry, and no image.
-  pub finish-host : (x : ℕ) → Stored (finish b at i answer travel) (hostByte x) → Among (at + 2) 2 x
+  finish-host : (x : ℕ) → Stored (finish b at i answer travel) (hostByte x) → Among (at + 2) 2 x
   unfolding kind
   finish-host x there =
       ⊎-elim (λ word. of-host-row (at + 2) (statusOf answer ∷ errorByte answer ∷ []) x word)
@@ -254,13 +255,27 @@ module _ (v : Visit) where
   abbrev pub performance : Performance
   performance = judged (v .world .host) (namedDrive v) (v .at) (verdictOf v)
 
-  abbrev closing : List Store
+  abbrev pub closing : List Store
   closing = finish (blockOf v) (v .at) (v .index) (performance .answer) (performance .travel)
 
   -- A block is performed as it is judged, and then finished.
   pub effect-is : effectOf v ≡ finished (blockOf v) (v .at) (v .index) performance
   unfolding effectAt effectOn
   effect-is = refl
+
+  -- So what it leaves of any buffers are those that performing leaves, once it is finished.
+  pub performed-then-closed : (b : Buffers) → after (effectOf v .stores) b ≡ after closing (after (performance .stores) b)
+  performed-then-closed b = ap (λ (e : Effect). after (e .stores) b) effect-is ∙ after-append (performance .stores) closing b
+
+  -- The finish stores word 1 in host memory, and nothing in an image.
+  pub closing-keeps-host : (x : ℕ) (b : Buffers) → (Among (v .at + 2) 2 x → ⊥) → getD (after closing b .host) x 0 ≡ getD (b .host) x 0
+  closing-keeps-host x b outside =
+      unstored-stays closing b (hostByte x)
+      (λ there. outside (finish-host (blockOf v) (v .at) (v .index) (performance .answer) (performance .travel) x there))
+
+  pub closing-keeps-image : (b : Buffers) → after closing b .image ≡ b .image
+  closing-keeps-image b =
+      image-stays closing b (finish-image (blockOf v) (v .at) (v .index) (performance .answer) (performance .travel))
 
   pub sectors-come : comes (askedOf v) (namedDrive v) .sectors ≡ effectOf v .sectors
   sectors-come =

@@ -68,7 +68,7 @@ pub record DiskData (a : Asked) (d : Drive) (to-host : Bool) (x : ℕ) : Type 0 
 pub data HostWritten (at : ℕ) (a : Asked) (d : Drive) (x : ℕ) : Type 0 where
   -- "word 1 of each fetched block"
   status-word : Among (at + 2) 2 x → HostWritten at a d x
-  -- "words 2 to 7 for 86": the words that it reports
+  -- "words 2 to 7 for 86", and for an accepted 8C the lower byte of word 3, and word 4 (02, K1): the words that it reports
   report : Among (at + wordsBy a .from) (length (wordsBy a .bytes)) x → HostWritten at a d x
   -- "the data bytes that 81 and A1 moved"
   moved : HostData a d true x → HostWritten at a d x

@@ -100,6 +100,7 @@ module _ (u : UnitRecord) (image : ℕ) (host : List ℕ) where
         fits =
             record {
               moving = record { span = span; long = omega arith; buffer = good };
+              report = tt;
               leaving = (so (counts? u) initialized, span);
             };
         mover = (m, (refl, refl));
@@ -123,7 +124,7 @@ module _ (u : UnitRecord) (image : ℕ) (host : List ℕ) where
               among = among;
             };
       }
-  accepted Handshake first none = record { fits = record { moving = tt; leaving = tt }; mover = tt; report = refl; quiet = tt; list = tt }
+  accepted Handshake first none = record { fits = record { moving = tt; report = tt; leaving = tt }; mover = tt; report = refl; quiet = tt; list = tt }
   accepted (Initialize Misplaced) first (placed, rest) = absurd (placed tt)
   accepted (Initialize (Uib g)) first (placed, (within, rest)) = heads-only u image host _ (Leaving.Fresh g) (so (within? g) within)
   accepted Restore first (initialized, rest) =
@@ -146,10 +147,11 @@ module _ (u : UnitRecord) (image : ℕ) (host : List ℕ) where
                     long = omega arith;
                     buffer = so (inMemory? host (k .buffer) (B (geometry u))) held;
                   };
+              report = counts .within .sizes .sectors;
               leaving = (counts, on .cylinder);
             };
         mover = (k, refl);
-        report = tt;
+        report = ((k, refl), refl);
         quiet = tt;
         list = tt;
       }

@@ -11,7 +11,7 @@ use Rattle.answers.specs.declared.Refusal.{Refusal}
 use Rattle.geometry.specs.declared.Number.{Number}
 use Rattle.geometry.specs.declared.Number.the-variants.{Is, Outside}
 use Rattle.geometry.specs.declared.VolumeNumber.{VolumeNumber}
-use Rattle.geometry.specs.Drive.{C, volumeSectors}
+use Rattle.geometry.specs.Drive.{C, S, volumeSectors}
 use Rattle.request.specs.declared.Buffer.{Buffer}
 use Rattle.request.specs.declared.Buffer.the-variants.{Piece, List as Elements}
 use Rattle.request.specs.declared.Move.{Move}
@@ -27,7 +27,7 @@ use Rattle.judge.specs.declared.Leaving.{Leaving}
 use Rattle.judge.specs.declared.Moving.{Moving}
 use Rattle.judge.specs.declared.Moving.the-variants.{Sectors, Track}
 use Rattle.judge.specs.declared.Report.{Report}
-use Rattle.judge.specs.declared.Report.the-variants.{Nothing, Identity}
+use Rattle.judge.specs.declared.Report.the-variants.{Nothing, Identity, Formatted}
 use Rattle.judge.specs.declared.Verdict.{Verdict}
 use Rattle.judge.specs.Asks.{found, ofBuffer, only}
 use Rattle.judge.specs.Checks.{Check, None, first}
@@ -58,10 +58,11 @@ pub so : {P : Type 0} → Dec P → ((P → ⊥) → ⊥) → P
 so d out = by-cases d (λ p. p) (λ no-p. absurd (out no-p))
 
 -- Beside that it fits: whose it is, what it reports, and the list that it has been judged by.
-abbrev pub ReportKnown : Task → Report → Type 0
-ReportKnown t Nothing = Unit {0}
--- only a handshake reports
-ReportKnown t Identity = t ≡ Handshake
+abbrev pub ReportKnown : Asked → Report → Type 0
+ReportKnown a Nothing = Unit {0}
+-- only a handshake reports what the board is, and only a format how many sectors it was: those of a track
+ReportKnown a Identity = a .task ≡ Handshake
+ReportKnown a (Formatted n) = ((k : Tracks) × (a .task ≡ Format k)) × (n ≡ S (geometry (a .unit)))
 
 -- sectors are moved for a read or a write, its way, and a track for a format
 abbrev pub MoverKnown : Task → Moving → Type 0
@@ -83,7 +84,7 @@ Quiet (Track spot at) r = Unit {0}
 pub record Accepted (a : Asked) (p : Plan) : Type 0 where
   pub fits : PlanFits (a .unit) (a .image) (a .host) p
   pub mover : MoverKnown (a .task) (p .moving)
-  pub report : ReportKnown (a .task) (p .report)
+  pub report : ReportKnown a (p .report)
   pub quiet : Quiet (p .moving) (p .report)
   pub list : ListKnown a (p .moving)
 
@@ -106,4 +107,4 @@ module _ (u : UnitRecord) (image : ℕ) (host : List ℕ) where
   seek-inside v Outside c = absurd c
 
   pub heads-only : (t : Task) (l : Leaving) → LeavingFits u l → Accepted (asking t) (only l)
-  heads-only t l fits = record { fits = record { moving = tt; leaving = fits }; mover = tt; report = tt; quiet = tt; list = tt }
+  heads-only t l fits = record { fits = record { moving = tt; report = tt; leaving = fits }; mover = tt; report = tt; quiet = tt; list = tt }

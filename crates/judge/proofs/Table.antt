@@ -12,7 +12,7 @@ use Rattle.iopb.specs.Ask.{taskAt, taskOf, tasks}
 use Rattle.request.specs.declared.Task.{Task}
 use Rattle.unit.specs.Standing.{UnitRecord}
 use Rattle.judge.specs.declared.Report.{Report}
-use Rattle.judge.specs.declared.Report.the-variants.{Nothing as Silent, Identity}
+use Rattle.judge.specs.declared.Report.the-variants.{Nothing as Silent, Identity, Formatted}
 use Rattle.judge.specs.declared.Standing.{Standing}
 use Rattle.judge.specs.declared.Verdict.{Verdict}
 use Rattle.judge.specs.Asks.{checks, planOf}
@@ -62,10 +62,16 @@ unfolding taskOf
 every-other-is-10 b s host none =
     ap (λ (t : Task). verdict (asked t s host)) (no-task (b .command) (tasks host b) none) ∙ unknown s host
 
--- Only command 86 reports: of the tasks that there are, it is the one whose plan does.
-abbrev reports : Report → Bool
-reports Silent = false
-reports Identity = true
+-- Only the plan of 86 has the identity to report, and only that of 8C a number of sectors; every other command's reports nothing.
+abbrev identifies : Report → Bool
+identifies Silent = false
+identifies Identity = true
+identifies (Formatted n) = false
+
+abbrev counts : Report → Bool
+counts Silent = false
+counts Identity = false
+counts (Formatted n) = true
 
 -- Of a table's tasks, those with a property stand at one code alone.
 abbrev only : (Task → Bool) → ℕ → List (ℕ × Task) → Bool
@@ -84,8 +90,23 @@ only-at P code c ((x, t) ∷ ts) all none there =
     by-test rest true is false has-not all there = absurd (subst T has-not there)
     by-test rest false is p what all there = rest (both (not p || eqb x code) (only P code ts) all .1) there
 
-pub only-86-reports :
-    (u : UnitRecord) (host : List ℕ) (b : Block) → planOf u (taskOf host b) .report ≡ Identity → b .command ≡ 0x86
-unfolding taskOf
-only-86-reports u host b is =
-    only-at (λ t. reports (planOf u t .report)) 0x86 (b .command) (tasks host b) tt refl (subst (λ (r : Report). T (reports r)) (sym is) tt)
+module _ (u : UnitRecord) (host : List ℕ) (b : Block) where
+  reported-at :
+      (P : Report → Bool) (code : ℕ) → T (only (λ t. P (planOf u t .report)) code (tasks host b)) → P Silent ≡ false →
+      T (P (planOf u (taskOf host b) .report)) → b .command ≡ code
+  unfolding taskOf
+  reported-at P code all none there = only-at (λ t. P (planOf u t .report)) code (b .command) (tasks host b) all none there
+
+  pub only-86-identifies : planOf u (taskOf host b) .report ≡ Identity → b .command ≡ 0x86
+  only-86-identifies is = reported-at identifies 0x86 tt refl (subst (λ (r : Report). T (identifies r)) (sym is) tt)
+
+  pub only-8C-counts : (n : ℕ) → planOf u (taskOf host b) .report ≡ Formatted n → b .command ≡ 0x8c
+  only-8C-counts n is = reported-at counts 0x8c tt refl (subst (λ (r : Report). T (counts r)) (sym is) tt)
+
+  pub others-report-nothing : (b .command ≡ 0x86 → ⊥) → (b .command ≡ 0x8c → ⊥) → planOf u (taskOf host b) .report ≡ Silent
+  others-report-nothing no-handshake no-format = by-report (planOf u (taskOf host b) .report) refl
+    where
+      by-report : (r : Report) → planOf u (taskOf host b) .report ≡ r → r ≡ Silent
+      by-report Silent is = refl
+      by-report Identity is = absurd (no-handshake (only-86-identifies is))
+      by-report (Formatted n) is = absurd (no-format (only-8C-counts n is))

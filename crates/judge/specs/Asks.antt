@@ -11,7 +11,7 @@ use Rattle.answers.specs.declared.Refusal.the-variants.{CommandUnknown, NotInit
 use Rattle.geometry.specs.declared.Number.{Number}
 use Rattle.geometry.specs.declared.Number.the-variants.{Is, Outside}
 use Rattle.geometry.specs.declared.VolumeNumber.{VolumeNumber}
-use Rattle.geometry.specs.Drive.{B, need, volume}
+use Rattle.geometry.specs.Drive.{B, S, need, volume}
 use Rattle.geometry.specs.Limits.{Present}
 use Rattle.geometry.specs.Sectors.{address, onDrive?}
 use Rattle.geometry.proofs.Decided.{present?}
@@ -37,7 +37,7 @@ use Rattle.judge.specs.declared.Moving.{Moving}
 use Rattle.judge.specs.declared.Moving.the-variants.{Sectors, Track as Tracked}
 use Rattle.judge.specs.declared.Plan.{Plan}
 use Rattle.judge.specs.declared.Report.{Report}
-use Rattle.judge.specs.declared.Report.the-variants.{Identity}
+use Rattle.judge.specs.declared.Report.the-variants.{Identity, Formatted}
 use Rattle.judge.specs.Checks.{Check, check}
 use Rattle.judge.specs.Decided.{badPlace?, badShape?, covers?, test?}
 use Rattle.judge.specs.Given.{Asked, BadPlace, BadShape, Covers, HasTrack, beginsAt}
@@ -185,5 +185,6 @@ planOf u (Initialize s) = only (renewed s)
 -- "89 goes to cylinder 0", "8A goes to the address given"
 planOf u Restore = only (HeadsAt 0)
 planOf u (Seek t) = only (HeadsAt (spotOf u (t .volume) (found (beginsAt u t)) .cylinder))
--- 8C: "The heads end on the named cylinder."
-planOf u (Format k) = plan (Tracked (trackOf u (k .cylinder) (k .head)) (k .buffer)) Report.Nothing (HeadsAt (k .cylinder))
+-- 8C reports how many sectors the track has (02, K1). "The heads end on the named cylinder."
+planOf u (Format k) =
+    plan (Tracked (trackOf u (k .cylinder) (k .head)) (k .buffer)) (Formatted (S (geometry u))) (HeadsAt (k .cylinder))

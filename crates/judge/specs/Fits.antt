@@ -1,5 +1,5 @@
--- What is known of a plan that was let through: what is moved fits the drive, the image and host memory, and where the heads go is on the
--- drive. Between the judge and who carries a plan out.
+-- What is known of a plan that was let through: what is moved fits the drive, the image and host memory, what is reported fits its bytes, and
+-- where the heads go is on the drive. Between the judge and who carries a plan out.
 use Prim.Native.Nat.{ℕ, _+_, _*_, _≤_, _<_}
 use mathlib.Core.List.{List}
 use Rattle.geometry.specs.Drive.{B, C, S, driveSectors, need, volumeSectors}
@@ -17,6 +17,8 @@ use Rattle.judge.specs.declared.Leaving.the-variants.{AsItWas, HeadsAt, 
 use Rattle.judge.specs.declared.Moving.{Moving}
 use Rattle.judge.specs.declared.Moving.the-variants.{Nothing, Sectors, Track}
 use Rattle.judge.specs.declared.Plan.{Plan}
+use Rattle.judge.specs.declared.Report.{Report}
+use Rattle.judge.specs.declared.Report.the-variants.{Nothing as Silent, Identity, Formatted}
 
 -- A buffer for so many bytes that checks 18 and 19 let through.
 abbrev pub BufferGood : List ℕ → Buffer → ℕ → Type 0
@@ -51,6 +53,13 @@ LeavingFits u (HeadsAt c) = CountsAsInitialized u × (c < C (geometry u))
 LeavingFits u (HeadsAtLastTried s) = CountsAsInitialized u × SpanGood u s
 LeavingFits u (Fresh g) = Within g
 
+-- The numbers that a format reports fit a byte: "sectors a track S 1 to 255".
+abbrev pub ReportFits : Report → Type 0
+ReportFits Silent = Unit {0}
+ReportFits Identity = Unit {0}
+ReportFits (Formatted n) = (1 ≤ n) × (n ≤ 255)
+
 pub record PlanFits (u : UnitRecord) (image : ℕ) (host : List ℕ) (p : Plan) : Type 0 where
   pub moving : MovingFits u image host (p .moving)
+  pub report : ReportFits (p .report)
   pub leaving : LeavingFits u (p .leaving)

@@ -23,12 +23,14 @@ use wire::holds;
 ghost use mathlib.Core.List.{List};
 ghost use mathlib.Core.Path.{_≡_};
 ghost use Prim.Native.Nat.{ℕ, _<_};
-ghost use Rattle.geometry.specs.Drive.{B, need, volume, volumeSectors};
+ghost use Rattle.geometry.specs.Drive.{B, S, need, volume, volumeSectors};
 ghost use Rattle.geometry.specs.Limits.{Present};
 ghost use Rattle.judge.specs.Given.{asked, numberOf};
-ghost use Rattle.judge.specs.Asks.{carrying, jobOf, only};
+ghost use Rattle.judge.specs.Asks.{carrying, jobOf, only, plan};
 ghost use Rattle.judge.specs.Verdict.{Begins, byItsOwn, fromAddress, fromBuffer, fromData, fromImage, fromSectors, verdict};
 ghost use Rattle.judge.specs.declared.Leaving.{Leaving};
+ghost use Rattle.judge.specs.declared.Moving.{Moving};
+ghost use Rattle.judge.specs.declared.Report.{Report};
 ghost use Rattle.judge.specs.declared.Standing.{Standing};
 ghost use Rattle.judge.specs.declared.Verdict.{Verdict};
 ghost use Rattle.request.specs.declared.Task.{Task};
@@ -57,10 +59,11 @@ pub enum Moving {
     Track(Spot, u32),
 }
 
-// What is reported in the block: nothing, or what the board is.
+// What is reported in the block: nothing, what the board is, or that so many sectors of a track were formatted.
 pub enum Report {
     Nothing,
     Identity,
+    Formatted(u16),
 }
 
 // What becomes of the unit's record: it stays as it was, its heads go to a cylinder or to that of the last sector tried, or it is a new one.
@@ -246,9 +249,16 @@ fn judge_data(k: Track, spot: Spot, standing: Standing, host: &[u8]) -> Verdict
     if !holds(host, k.buffer, sector_bytes(u)) {
         return Verdict::Refused(Refusal::DataMisplaced);
     }
+    formatted(k, spot, u)
+}
+
+// The plan of 8C: it reports the sectors of the track, which are as many as every track has.
+fn formatted(k: Track, spot: Spot, u: Record) -> Verdict
+    ensures { λ v. ⌜ v ≡ Verdict.Do (plan (Moving.Track spot (k .buffer)) (Report.Formatted (S (geometry u))) (Leaving.HeadsAt (k .cylinder))) ⌝ }
+{
     Verdict::Do(Plan {
         moving: Moving::Track(spot, k.buffer),
-        report: Report::Nothing,
+        report: Report::Formatted(u.geometry().sectors_a_track()),
         leaving: Leaving::HeadsAt(k.cylinder),
     })
 }

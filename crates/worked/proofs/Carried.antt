@@ -3,7 +3,7 @@
 use Prim.Native.Nat.{ℕ, _+_, _*_, _%_, _≤_, _<_}
 use mathlib.Core.Bool.{Bool, true, false, cond, not}
 use mathlib.Core.List.{List, [], _∷_}
-use mathlib.Core.Logic.{_⊎_, inl, inr}
+use mathlib.Core.Logic.{_⊎_, inl, inr, ⊎-elim}
 use mathlib.Core.Path.{_≡_, refl, sym, ap, subst, _∙_}
 use native.Mathlib.Omega.{arith}
 use lib.ListN.{length}
@@ -112,6 +112,40 @@ module _ (t : Which) (s : Both) (at : ℕ) (passes : Passes at 1 (worldFor t s))
       Among (v .at + wordsBy (askedOf v) .from) (length (wordsBy (askedOf v) .bytes)) x → ⊥
   silent verd is says x among = no-words v x (ap reportOf is ∙ says) among
 
+-- Only an initialize has a UIB that is read, and only a transfer a list.
+pub no-uib : (a : Asked) (at bytes x : ℕ) → ((s : Shape) → a .task ≡ Task.Initialize s → ⊥) → InUib a at bytes x → ⊥
+no-uib a at bytes x other uib = other (uib .shape) (uib .asks)
+
+pub no-list-of-a-piece : (a : Asked) (m : Move) (at x : ℕ) → a .task ≡ Task.Move m → m .buffer ≡ Buffer.Piece at → InList a x → ⊥
+no-list-of-a-piece a m at x asks piece list = impossible (cc (list .asks, list .buffer))
+
+pub no-list : (a : Asked) (x : ℕ) → ((m : Move) → a .task ≡ Task.Move m → ⊥) → InList a x → ⊥
+no-list a x other list = other (list .move) (list .asks)
+
+-- A block that moves nothing and reports nothing, and is neither an initialize nor a transfer, reads its 28 bytes and writes its word 1.
+pub idle :
+    (t : Which) (s : Both) (at : ℕ) (passes : Passes at 1 (worldFor t s)) (verd : Verdict) → verdictOf (v t s at passes) ≡ verd →
+    movingOf verd ≡ Moving.Nothing → reportOf verd ≡ Report.Nothing →
+    ((s′ : Shape) → askedOf (v t s at passes) .task ≡ Task.Initialize s′ → ⊥) → ((m : Move) → askedOf (v t s at passes) .task ≡ Task.Move m → ⊥) →
+    Alone t at s (names (v t s at passes)) ((at, 28) ∷ []) ((at + 2, 2) ∷ [])
+idle t s at passes verd is moves says no-initialize no-move =
+    alone t s at passes [] []
+    (λ x j. ⊎-elim (λ uib. no-uib _ _ _ x no-initialize uib) (λ list. no-list _ x no-move list) j)
+    (still t s at passes verd is moves false) (silent t s at passes verd is says)
+    (still t s at passes verd is moves true)
+
+-- An initialize whose UIB is read reads that too.
+pub initialized :
+    (t : Which) (s : Both) (at : ℕ) (passes : Passes at 1 (worldFor t s)) (verd : Verdict) → verdictOf (v t s at passes) ≡ verd →
+    movingOf verd ≡ Moving.Nothing → reportOf verd ≡ Report.Nothing → (uib : ℕ) → blockOf (v t s at passes) .address ≡ uib →
+    ((m : Move) → askedOf (v t s at passes) .task ≡ Task.Move m → ⊥) →
+    Alone t at s (names (v t s at passes)) ((at, 28) ∷ (uib, 18) ∷ []) ((at + 2, 2) ∷ [])
+initialized t s at passes verd is moves says uib here no-move =
+    alone t s at passes ((uib, 18) ∷ []) []
+    (λ x j. ⊎-elim (λ read. inl (rw here at (read .among))) (λ list. absurd (no-list _ x no-move list)) j)
+    (λ x d. absurd (still t s at passes verd is moves false x d)) (silent t s at passes verd is says)
+    (still t s at passes verd is moves true)
+
 -- A block that is accepted and moves nothing ends 80 and moves no sectors.
 pub comes-still :
     (v : Visit) (p : Plan) → verdictOf v ≡ Verdict.Do p → p .moving ≡ Moving.Nothing → (effectOf v .sectors ≡ 0) × (effectOf v .answer ≡ Ended)
@@ -122,16 +156,6 @@ comes-still v p is moves = (
 )
 
 -- ---- a transfer of the pairs
-
--- Only an initialize has a UIB that is read, and only a transfer a list.
-pub no-uib : (a : Asked) (at bytes x : ℕ) → ((s : Shape) → a .task ≡ Task.Initialize s → ⊥) → InUib a at bytes x → ⊥
-no-uib a at bytes x other uib = other (uib .shape) (uib .asks)
-
-pub no-list-of-a-piece : (a : Asked) (m : Move) (at x : ℕ) → a .task ≡ Task.Move m → m .buffer ≡ Buffer.Piece at → InList a x → ⊥
-no-list-of-a-piece a m at x asks piece list = impossible (cc (list .asks, list .buffer))
-
-pub no-list : (a : Asked) (x : ℕ) → ((m : Move) → a .task ≡ Task.Move m → ⊥) → InList a x → ⊥
-no-list a x other list = other (list .move) (list .asks)
 
 abbrev pub carries : Bool → ℕ → ℕ → Verdict
 carries to-host count buffer = Verdict.Do (carrying (jobOf (moveOf to-host 0 count buffer) 0))

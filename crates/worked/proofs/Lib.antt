@@ -1,5 +1,6 @@
 pub mod Carried
 pub mod Drive
+pub mod Formats
 pub mod Memory
 pub mod OneBlock
 pub mod Starred

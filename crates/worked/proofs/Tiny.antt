@@ -21,15 +21,16 @@ use Rattle.judge.specs.declared.Moving.{Moving}
 use Rattle.judge.specs.declared.Standing.{Standing}
 use Rattle.judge.specs.declared.Verdict.{Verdict}
 use Rattle.judge.specs.Given.{asked}
-use Rattle.judge.specs.Asks.{carrying, jobOf}
+use Rattle.judge.specs.Asks.{carrying, jobOf, planOf}
 use Rattle.judge.specs.Verdict.{verdict}
 use Rattle.judge.proofs.First.{never}
-use Rattle.judge.proofs.Tasks.{move-on, own, piece-done, span-covers, span-on}
+use Rattle.judge.proofs.Tasks.{data-done, format-on, move-on, own, piece-done, span-covers, span-on}
 use Rattle.request.specs.declared.Buffer.{Buffer}
 use Rattle.request.specs.declared.Move.{Move}
 use Rattle.request.specs.declared.Start.{Start}
 use Rattle.request.specs.declared.Target.{Target}
 use Rattle.request.specs.declared.Task.{Task}
+use Rattle.request.specs.declared.Track.{Track}
 use Rattle.transfer.specs.Data.{progressOn}
 use Rattle.transfer.specs.Progress.{Progress, progress, stopsAt}
 use Rattle.unit.specs.Landing.{spotOf}
@@ -109,6 +110,20 @@ module _ (host : List ℕ) (c : ℕ) (heads : c < 2) where
       move-on s host m (counts c heads) present (λ none. omega arith) ∙
       span-on s host m (span-covers s host m n refl some (omega (arith, sectors-2))) (omega (arith, need-130)) ∙
       piece-done s host m at refl n refl held
+
+-- A format of the first track, with its data at 256.
+abbrev pub track : Track
+track = record { cylinder = 0; head = 0; buffer = 256 }
+
+pub format-passes :
+    (host : List ℕ) → InMemory host 256 64 →
+    verdict (asked (Task.Format track) (standing 0 130) host) ≡ Verdict.Do (planOf (unit 0) (Task.Format track))
+format-passes host held =
+    let s = standing 0 130 in
+    own s host _ never ∙
+    format-on s host track (counts 0 (omega arith))
+    (record { cylinder = omega arith; head = omega (arith, heads-1); sector = omega arith })
+    (omega (arith, need-130)) ∙ data-done s host track held
 
 -- ---- what stops a transfer
 

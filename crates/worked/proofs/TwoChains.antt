@@ -1,9 +1,9 @@
 -- The pairs of demand 3: what each chain of a pair comes to, reads and writes is told by the verdict on its one block.
 -- Which bytes are shared is then arithmetic on their addresses.
-use Prim.Native.Nat.{ℕ, _+_, _≤_, _<_}
+use Prim.Native.Nat.{ℕ, _+_, _-_, _≤_, _<_}
 use mathlib.Core.Bool.{true, false}
 use mathlib.Core.List.{[], _∷_, _++_}
-use mathlib.Core.Logic.{inl, ⊎-elim}
+use mathlib.Core.Logic.{_⊎_, _↔_, inl, inr, ⊎-elim}
 use mathlib.Core.Path.{_≡_, refl, sym, ap, subst, _∙_}
 use native.Mathlib.Omega.{arith}
 use lib.ListN.{getD, length}
@@ -12,38 +12,41 @@ use Rattle.wire.specs.Words.{word}
 use Rattle.answers.specs.declared.BlockAnswer.the-variants.{Ended, Failed}
 use Rattle.answers.specs.declared.Refusal.{Refusal}
 use Rattle.answers.specs.declared.RunAnswer.{RunAnswer}
+use Rattle.answers.specs.Numbers.{refusalNumber}
 use Rattle.iopb.specs.Ask.{taskOf}
 use Rattle.iopb.specs.Layout.{blockAt, uibAt}
 use Rattle.iopb.proofs.Answers.{shapeAt-inside}
 use Rattle.geometry.specs.Limits.{Present, Within}
 use Rattle.judge.specs.declared.Leaving.{Leaving}
 use Rattle.judge.specs.declared.Moving.{Moving}
+use Rattle.judge.specs.declared.Plan.{Plan}
 use Rattle.judge.specs.declared.Report.{Report}
 use Rattle.judge.specs.declared.Verdict.{Verdict}
-use Rattle.judge.specs.Asks.{only, plan}
+use Rattle.judge.specs.Asks.{only, plan, planOf}
 use Rattle.judge.specs.Checks.{None}
 use Rattle.judge.proofs.EachTask.{passes-first}
 use Rattle.judge.proofs.First.{never}
 use Rattle.judge.proofs.Locality.{placed-uib-read}
 use Rattle.wire.proofs.Promises.{never as impossible}
-use Rattle.judge.proofs.Tasks.{handshake, move-11, own, restore-done, restore-refused, shape-given, shape-outside}
+use Rattle.judge.proofs.Tasks.{format-11, handshake, move-11, own, restore-done, restore-refused, shape-given, shape-outside}
 use Rattle.unit.specs.Standing.{CountsAsInitialized, fresh}
 use Rattle.transfer.specs.Data.{dataOn}
-use Rattle.transfer.specs.Progress.{progress}
+use Rattle.transfer.specs.Progress.{progress, stopsAt}
 use Rattle.transfer.specs.Stores.{after, bytesFrom, upTo}
 use Rattle.transfer.specs.Stores as Stores
 use Rattle.block.specs.World.{World, buffersOf, changed}
-use Rattle.block.specs.Block.{begun, finish, worldAfter, wordsOf}
+use Rattle.block.specs.Block.{begun, finish, transferOf, worldAfter, wordsOf}
 use Rattle.iopb.specs.Identity.{identityBytes}
 use lib.IntN.{pos}
 use Rattle.geometry.specs.Sectors.Inside.{firstByte-is}
 use Rattle.demands.specs.Footprint.{RunWrites, WritesHost, askedOf, namedDrive, names, reportOf, transferBy, verdictOf}
 use Rattle.demands.specs.Footprint.HostWritten.{moved as given, report, status-word}
 use Rattle.demands.proofs.BlockLaws.{refusal-moves-nothing}
-use Rattle.demands.specs.Visits.{Passes, Visit, worldLeft}
+use Rattle.demands.specs.Visits.{Passes, Visit, blockOf, worldLeft}
+use Rattle.demands.proofs.Reports.{FormatTold}
 use Rattle.demands.proofs.VersionTwo.{disk-byte-is-there}
 use Rattle.demands.proofs.Written.{effect-is}
-use Rattle.independence.specs.Chains.{Both, Cell, First, HostReads, HostWrites, Second, Which, both, drive, eventBuffer, hostByte, leaving, runOf, told, worldFor}
+use Rattle.independence.specs.Chains.{Both, Cell, First, HostReads, HostWrites, Second, Told, Which, both, drive, eventBuffer, hostByte, leaving, runOf, told, worldFor}
 use Rattle.independence.specs.Demand3.{EitherWay, Independent, NoUnitInCommon, NoByteReadByOther, NoByteWrittenByBoth}
 use Rattle.independence.specs.Local.{LeadsAlike}
 use Rattle.independence.specs.Reads.{ReadsHost}
@@ -51,11 +54,13 @@ use Rattle.independence.specs.Reads.HostRead.{its-uib, moved as taken}
 use Rattle.independence.proofs.Both.{no-chain-is-both}
 use Rattle.independence.proofs.Demand3.{run-local}
 use Rattle.independence.proofs.Steps.{unnoticed}
+use Rattle.request.specs.declared.Task.{Task}
 use Rattle.request.specs.declared.UnitNumber.the-variants.{Zero, One}
-use Rattle.worked.specs.TwoChains.{adjacent, come, driveWith, newDrive, ofFirst, ofSecond, one, readByOther, refusedData, sharedUnit, stoppedRead, tiny, two, writtenTwice, Met, Fails}
-use Rattle.worked.proofs.Carried.{Alone, Carried, alone, came, comes-still, data-byte, differ, host-byte-is, met, no-list, no-list-of-a-piece, no-uib, no-unit, no-way, none-read, none-twice, passes-at, read-carried, read-stopped-carried, silent, still, v, write-carried}
-use Rattle.worked.proofs.OneBlock.{by-block, done, failed, leaves}
-use Rattle.worked.proofs.Tiny.{counts, moveOf, place-is, unit}
+use Rattle.worked.specs.TwoChains.{adjacent, besideFormat, come, driveWith, formatRead, newDrive, ofFirst, ofSecond, one, readByOther, refusedData, refusedFormat, sharedUnit, stoppedRead, tiny, two, writtenTwice, Met, Fails}
+use Rattle.worked.proofs.Carried.{Alone, Carried, alone, came, comes-still, data-byte, differ, host-byte-is, idle, initialized, met, no-list, no-list-of-a-piece, no-uib, no-unit, no-way, none-read, none-twice, passes-at, read-carried, read-stopped-carried, silent, still, v, write-carried}
+use Rattle.worked.proofs.Formats.{format-alone, format-comes, format-judged-so, format-wrote}
+use Rattle.worked.proofs.OneBlock.{In, by-block, done, failed, leaves}
+use Rattle.worked.proofs.Tiny.{counts, moveOf, place-is, track, unit}
 
 abbrev first-of : Both → Visit
 first-of s = record { at = 0; index = 0; world = worldFor First s }
@@ -69,6 +74,35 @@ both-pass :
     Passes 0 1 (worldFor First s) × Passes 28 1 (worldFor Second s)
 both-pass s events1 events2 long =
     (passes-at First s 0 events1 refl (omega arith), passes-at Second s 28 events2 refl long)
+
+-- What a chain comes to that moves nothing: one that is done, and one that is refused.
+second-done :
+    (s : Both) → Passes 28 1 (worldFor Second s) → blockOf (second-of s) .options .link ≡ false → (p : Plan) →
+    verdictOf (second-of s) ≡ Verdict.Do p → p .moving ≡ Moving.Nothing → ofSecond s ≡ come RunAnswer.Done 0 0
+second-done s passes unlinked p is moves =
+    let e = comes-still (second-of s) p is moves in
+    ap told (done 28 _ passes unlinked 0 (e .1) (e .0))
+
+second-refused :
+    (s : Both) → Passes 28 1 (worldFor Second s) → (r : Refusal) → verdictOf (second-of s) ≡ Verdict.Refused r →
+    ofSecond s ≡ come RunAnswer.BlockFailed (refusalNumber r) 0
+second-refused s passes r is =
+    let e = refusal-moves-nothing (second-of s) r is in
+    ap told (failed 28 _ passes r 0 (e .1) (e .0))
+
+first-refused :
+    (s : Both) → Passes 0 1 (worldFor First s) → (r : Refusal) → verdictOf (first-of s) ≡ Verdict.Refused r →
+    ofFirst s ≡ come RunAnswer.BlockFailed (refusalNumber r) 0
+first-refused s passes r is =
+    let e = refusal-moves-nothing (first-of s) r is in
+    ap told (failed 0 _ passes r 0 (e .1) (e .0))
+
+-- The orders differ where the second fails otherwise after the first than it does alone.
+fails-otherwise :
+    (s then : Both) (after-it alone-it : Told) → runOf First one .left s ≡ then → ofSecond then ≡ after-it → ofSecond s ≡ alone-it →
+    (after-it .failed ≡ alone-it .failed → ⊥) → EitherWay one two s → ⊥
+fails-otherwise s then after-it alone-it left comes comes-alone differs e =
+    differs (ap (λ t. t .failed) (sym comes ∙ ap ofSecond (sym left) ∙ e .second ∙ comes-alone))
 
 -- ---- adjacent buffers
 
@@ -121,11 +155,10 @@ refused-met = met refused-first (refused-read .footprint) differ (omega arith) (
 
 data-not-read :
     (ofFirst refusedData ≡ come RunAnswer.BlockFailed 11 0) × (Among 28 64 30 × HostWrites two (worldFor Second refusedData) 30)
-data-not-read =
-    let e = refusal-moves-nothing (first-of refusedData) Refusal.NotInitialized refused-write in (
-      ap told (failed 0 _ (refused-pass .0) Refusal.NotInitialized 0 (e .1) (e .0)),
-      (omega arith, by-block 28 _ (refused-pass .1) (λ v. WritesHost v 30) (status-word (omega arith))),
-    )
+data-not-read = (
+  first-refused refusedData (refused-pass .0) _ refused-write,
+  (omega arith, by-block 28 _ (refused-pass .1) (λ v. WritesHost v 30) (status-word (omega arith))),
+)
 
 -- ---- the rest of a stopped read
 
@@ -154,6 +187,80 @@ rest-not-written = (
   ),
 )
 
+-- ---- beside what a format reports
+
+beside-pass : Passes 0 1 (worldFor First besideFormat) × Passes 28 1 (worldFor Second besideFormat)
+beside-pass = both-pass besideFormat refl refl (omega arith)
+
+beside-first : Alone First 0 besideFormat Zero ((0, 28) ∷ (256, 64) ∷ []) ((2, 2) ∷ (7, 3) ∷ [])
+unfolding word taskOf
+beside-first = format-alone besideFormat (beside-pass .0) 7 0 refl refl (omega arith)
+
+beside-told : FormatTold (first-of besideFormat)
+unfolding word taskOf
+beside-told = format-comes besideFormat (beside-pass .0) 7 0 refl refl (omega arith)
+
+beside-second : Carried Second besideFormat 28 false 10 1 1 Ended
+unfolding word taskOf
+beside-second = write-carried Second besideFormat 28 (beside-pass .1) 9 0 refl 10 refl (omega arith)
+
+beside-met : Independent one two besideFormat
+beside-met = met beside-first (beside-second .footprint) differ (omega arith) (omega arith) (omega arith)
+
+word-1-or-words : (x : ℕ) → In ((2, 2) ∷ (7, 3) ∷ []) x → Among 2 2 x ⊎ Among 7 3 x
+word-1-or-words x (inl here) = inl here
+word-1-or-words x (inr (inl here)) = inr here
+word-1-or-words x (inr (inr none)) = absurd none
+
+three-bytes-written :
+    (ofFirst besideFormat ≡ come RunAnswer.Done 0 1) ×
+    (((x : ℕ) → HostWrites one (worldFor First besideFormat) x ↔ (Among 2 2 x ⊎ Among 7 3 x)) ×
+    HostReads two (worldFor Second besideFormat) 10)
+unfolding word taskOf
+three-bytes-written = (
+  ap told (done 0 _ (beside-pass .0) refl 1 (beside-told .ended) (beside-told .counted)),
+  (
+    λ x. (
+      λ w. word-1-or-words x (beside-first .writes-there x w),
+      λ lies.
+          ⊎-elim (λ word-1. by-block 0 _ (beside-pass .0) (λ v. WritesHost v x) (status-word word-1))
+          (format-wrote besideFormat (beside-pass .0) 7 0 refl refl (omega arith) x) lies,
+    ),
+    by-block 28 _ (beside-pass .1) (λ v. ReadsHost v 10)
+        (taken (data-byte Second besideFormat 28 (beside-pass .1) 9 0 refl false 10 1 1 Ended beside-second 0 (omega arith))),
+  ),
+)
+
+-- ---- what a refused format would have reported
+
+refused-format-pass : Passes 0 1 (worldFor First refusedFormat) × Passes 28 1 (worldFor Second refusedFormat)
+refused-format-pass = both-pass refusedFormat refl refl (omega arith)
+
+refused-format : verdictOf (first-of refusedFormat) ≡ Verdict.Refused Refusal.NotInitialized
+unfolding word taskOf
+refused-format = own _ _ _ never ∙ format-11 (record { «record» = newDrive .unit; image = 0 }) (refusedFormat .host) track not-ready
+
+refused-format-first : Alone First 0 refusedFormat Zero ((0, 28) ∷ []) ((2, 2) ∷ [])
+unfolding word taskOf
+refused-format-first = idle First refusedFormat 0 (refused-format-pass .0) _ refused-format refl refl (λ s is. impossible cc) (λ m is. impossible cc)
+
+refused-format-second : Carried Second refusedFormat 28 false 6 1 1 Ended
+unfolding word taskOf
+refused-format-second = write-carried Second refusedFormat 28 (refused-format-pass .1) 9 0 refl 6 refl (omega arith)
+
+refused-format-met : Independent one two refusedFormat
+refused-format-met = met refused-format-first (refused-format-second .footprint) differ (omega arith) (omega arith) (omega arith)
+
+words-not-written :
+    (ofFirst refusedFormat ≡ come RunAnswer.BlockFailed 11 0) × ((x : ℕ) → Among 7 3 x → HostReads two (worldFor Second refusedFormat) x)
+words-not-written = (
+  first-refused refusedFormat (refused-format-pass .0) _ refused-format,
+  λ x among.
+      let here : 6 + (x - 6) ≡ x = omega arith in
+      by-block 28 _ (refused-format-pass .1) (λ v. ReadsHost v x)
+      (taken (rw here at (data-byte Second refusedFormat 28 (refused-format-pass .1) 9 0 refl false 6 1 1 Ended refused-format-second (x - 6) (omega arith)))),
+)
+
 pub met-pairs : Met
 met-pairs =
     record {
@@ -163,6 +270,10 @@ met-pairs =
       data-not-read = data-not-read;
       stopped-read = stopped-met;
       rest-not-written = rest-not-written;
+      beside-format = beside-met;
+      three-bytes-written = three-bytes-written;
+      refused-format = refused-format-met;
+      words-not-written = words-not-written;
     }
 
 -- ---- a byte that both write
@@ -257,19 +368,11 @@ shared-restore = own _ _ _ never ∙ restore-refused (record { «record» = newD
 
 shared-first : Alone First 0 sharedUnit Zero ((0, 28) ∷ (32, 18) ∷ []) ((2, 2) ∷ [])
 unfolding word taskOf
-shared-first =
-    alone First sharedUnit 0 (shared-pass .0) ((32, 18) ∷ []) []
-    (λ x j. ⊎-elim (λ uib. inl (uib .among)) (λ list. absurd (no-list _ x (λ m is. impossible cc) list)) j)
-    (λ x d. absurd (still First sharedUnit 0 (shared-pass .0) _ shared-initialize refl false x d))
-    (silent First sharedUnit 0 (shared-pass .0) _ shared-initialize refl) (still First sharedUnit 0 (shared-pass .0) _ shared-initialize refl true)
+shared-first = initialized First sharedUnit 0 (shared-pass .0) _ shared-initialize refl refl 32 refl (λ m is. impossible cc)
 
 shared-second : Alone Second 28 sharedUnit Zero ((28, 28) ∷ []) ((30, 2) ∷ [])
 unfolding word taskOf
-shared-second =
-    alone Second sharedUnit 28 (shared-pass .1) [] []
-    (λ x j. ⊎-elim (λ uib. absurd (no-uib _ _ _ x (λ s is. impossible cc) uib)) (λ list. absurd (no-list _ x (λ m is. impossible cc) list)) j)
-    (still Second sharedUnit 28 (shared-pass .1) _ shared-restore refl false) (silent Second sharedUnit 28 (shared-pass .1) _ shared-restore refl)
-    (still Second sharedUnit 28 (shared-pass .1) _ shared-restore refl true)
+shared-second = idle Second sharedUnit 28 (shared-pass .1) _ shared-restore refl refl (λ s is. impossible cc) (λ m is. impossible cc)
 
 -- What the initialize leaves, and the restore after it.
 abbrev initialized-world : World
@@ -296,19 +399,12 @@ then-restore = own _ _ _ never ∙ restore-done (record { «record» = unit 0; i
 
 then-comes : ofSecond then-shared ≡ come RunAnswer.Done 0 0
 unfolding after bytesFrom
-then-comes =
-    let e = comes-still (second-of then-shared) _ then-restore refl in
-    ap told (done 28 _ then-passes refl 0 (e .1) (e .0))
-
-alone-comes : ofSecond sharedUnit ≡ come RunAnswer.BlockFailed 11 0
-alone-comes =
-    let e = refusal-moves-nothing (second-of sharedUnit) Refusal.NotInitialized shared-restore in
-    ap told (failed 28 _ (shared-pass .1) Refusal.NotInitialized 0 (e .1) (e .0))
+then-comes = second-done then-shared then-passes refl _ then-restore refl
 
 shared-differs : EitherWay one two sharedUnit → ⊥
-shared-differs e =
-    let same = sym then-comes ∙ ap ofSecond (sym initialize-leaves) ∙ e .second ∙ alone-comes in
-    omega (arith, ap (λ t. t .failed) same)
+shared-differs =
+    fails-otherwise sharedUnit then-shared _ _ initialize-leaves then-comes (second-refused sharedUnit (shared-pass .1) _ shared-restore)
+    (λ same. omega arith)
 
 shared-unit :
     (NoUnitInCommon one two sharedUnit → ⊥) ×
@@ -347,11 +443,7 @@ read-first =
 
 read-second : Alone Second 28 readByOther One ((28, 28) ∷ (4, 18) ∷ []) ((30, 2) ∷ [])
 unfolding word taskOf
-read-second =
-    alone Second readByOther 28 (read-pass .1) ((4, 18) ∷ []) []
-    (λ x j. ⊎-elim (λ uib. inl (uib .among)) (λ list. absurd (no-list _ x (λ m is. impossible cc) list)) j)
-    (λ x d. absurd (still Second readByOther 28 (read-pass .1) _ read-initialize refl false x d))
-    (silent Second readByOther 28 (read-pass .1) _ read-initialize refl) (still Second readByOther 28 (read-pass .1) _ read-initialize refl true)
+read-second = initialized Second readByOther 28 (read-pass .1) _ read-initialize refl refl 4 refl (λ m is. impossible cc)
 
 abbrev reported-world : World
 reported-world =
@@ -379,20 +471,10 @@ then-outside =
     (own _ _ _ never ∙ shape-outside (record { «record» = newDrive .unit; image = 0 }) (then-read .host) (uibAt (then-read .host) 4)
     (λ within. let one-head : 0 < 0 = within .volumes .one-head in omega arith))
 
-then-read-comes : ofSecond then-read ≡ come RunAnswer.BlockFailed 13 0
-then-read-comes =
-    let e = refusal-moves-nothing (second-of then-read) Refusal.UibOutsideLimits then-outside in
-    ap told (failed 28 _ then-read-passes Refusal.UibOutsideLimits 0 (e .1) (e .0))
-
-read-alone-comes : ofSecond readByOther ≡ come RunAnswer.Done 0 0
-read-alone-comes =
-    let e = comes-still (second-of readByOther) _ read-initialize refl in
-    ap told (done 28 _ (read-pass .1) refl 0 (e .1) (e .0))
-
 read-differs : EitherWay one two readByOther → ⊥
-read-differs e =
-    let same = sym then-read-comes ∙ ap ofSecond (sym report-leaves) ∙ e .second ∙ read-alone-comes in
-    omega (arith, ap (λ t. t .failed) same)
+read-differs =
+    fails-otherwise readByOther then-read _ _ report-leaves (second-refused then-read then-read-passes _ then-outside)
+    (second-done readByOther (read-pass .1) refl _ read-initialize refl) (λ same. omega arith)
 
 read-by-other :
     (NoByteReadByOther one two readByOther → ⊥) ×
@@ -408,11 +490,86 @@ read-by-other = (
   (no-unit read-first read-second differ, (none-twice read-first read-second (omega arith), read-differs)),
 )
 
+-- ---- what a format reports, read by the other
+
+format-pass : Passes 0 1 (worldFor First formatRead) × Passes 28 1 (worldFor Second formatRead)
+format-pass = both-pass formatRead refl refl (omega arith)
+
+format-first : Alone First 0 formatRead Zero ((0, 28) ∷ (256, 64) ∷ []) ((2, 2) ∷ (7, 3) ∷ [])
+unfolding word taskOf
+format-first = format-alone formatRead (format-pass .0) 7 0 refl refl (omega arith)
+
+format-judged : verdictOf (first-of formatRead) ≡ Verdict.Do (planOf (unit 0) (Task.Format track))
+unfolding word taskOf
+format-judged = format-judged-so formatRead (format-pass .0) 7 0 refl refl (omega arith)
+
+-- Alone the UIB says that volume 0 has no heads.
+format-outside : verdictOf (second-of formatRead) ≡ Verdict.Refused Refusal.UibOutsideLimits
+unfolding word taskOf Present
+format-outside =
+    rw (shapeAt-inside (formatRead .host) 8 (omega arith))
+    (own _ _ _ never ∙ shape-outside (record { «record» = newDrive .unit; image = 0 }) (formatRead .host) (uibAt (formatRead .host) 8)
+    (λ within. let one-head : 0 < 0 = within .volumes .one-head in omega arith))
+
+format-second : Alone Second 28 formatRead One ((28, 28) ∷ (8, 18) ∷ []) ((30, 2) ∷ [])
+unfolding word taskOf
+format-second = initialized Second formatRead 28 (format-pass .1) _ format-outside refl refl 8 refl (λ m is. impossible cc)
+
+-- What the format leaves, and the initialize after it: the volume has as many heads as sectors were formatted, which is 1.
+abbrev formatted-world : World
+formatted-world =
+    let w = worldFor First formatRead in
+    let data-stores = dataOn (driveWith 7 0 .image) (transferOf (w .host) (unit 0) (planOf (unit 0) (Task.Format track) .moving)) in
+    changed w Zero (after (begun 0 ++ data-stores ++ bytesFrom Stores.hostByte 7 (0 ∷ 0 ∷ 1 ∷ []) ++ finish (blockAt (w .host) 0) 0 0 Ended (pos 0)) (buffersOf w Zero)) (unit 0)
+
+format-leaves : runOf First one .left formatRead ≡ leaving First formatRead formatted-world
+unfolding worldAfter bytesFrom dataOn progress upTo stopsAt
+format-leaves =
+    ap (leaving First formatRead)
+    (leaves 0 (worldFor First formatRead) (format-pass .0) refl ∙ rw (effect-is (first-of formatRead), format-judged))
+
+abbrev then-format : Both
+then-format = leaving First formatRead formatted-world
+
+then-format-passes : Passes 28 1 (worldFor Second then-format)
+unfolding after bytesFrom dataOn progress upTo stopsAt
+then-format-passes = passes-at Second then-format 28 refl refl (omega arith)
+
+then-within : verdictOf (second-of then-format) ≡ Verdict.Do (only (Leaving.Fresh tiny))
+unfolding word taskOf after bytesFrom dataOn progress upTo stopsAt
+then-within =
+    rw (shapeAt-inside (then-format .host) 8 (omega arith))
+    (own _ _ _ never ∙ shape-given (record { «record» = newDrive .unit; image = 0 }) (then-format .host) tiny within-tiny)
+
+then-format-comes : ofSecond then-format ≡ come RunAnswer.Done 0 0
+unfolding after bytesFrom dataOn progress upTo stopsAt
+then-format-comes = second-done then-format then-format-passes refl _ then-within refl
+
+format-differs : EitherWay one two formatRead → ⊥
+format-differs =
+    fails-otherwise formatRead then-format _ _ format-leaves then-format-comes (second-refused formatRead (format-pass .1) _ format-outside)
+    (λ same. omega arith)
+
+format-read :
+    (NoByteReadByOther one two formatRead → ⊥) ×
+    (NoUnitInCommon one two formatRead × (NoByteWrittenByBoth one two formatRead × (EitherWay one two formatRead → ⊥)))
+unfolding word taskOf None
+format-read = (
+  λ none.
+      none 9 .0 (format-wrote formatRead (format-pass .0) 7 0 refl refl (omega arith) 9 (omega arith))
+      (by-block 28 _ (format-pass .1) (λ v. ReadsHost v 9)
+      (its-uib
+      (placed-uib-read _ _ _ _ _ refl (passes-first (askedOf (second-of formatRead)) never) (λ bad. rw (shapeAt-inside (formatRead .host) 8 (omega arith)) at bad)
+      (omega arith)))),
+  (no-unit format-first format-second differ, (none-twice format-first format-second (omega arith), format-differs)),
+)
+
 pub failing-pairs : Fails
 failing-pairs =
     record {
       shared-unit = shared-unit;
       read-by-other = read-by-other;
+      format-read = format-read;
       written-twice =
           (λ none. none 56 wrote-first wrote-second, (units-apart, (reads-apart, twice-differs)));
     }

@@ -3,6 +3,7 @@
 use Prim.Native.Nat.{ℕ}
 use mathlib.Core.Bool.{false}
 use mathlib.Core.List.{List, [], _∷_, _++_}
+use mathlib.Core.Logic.{_⊎_, _↔_}
 use mathlib.Core.Path.{_≡_}
 use lib.ListN.{replicate}
 use Rattle.wire.specs.Memory.{Among}
@@ -38,11 +39,18 @@ abbrev pub overUib : (command options : ℕ) → List ℕ
 overUib command options =
     command ∷ options ∷ 0 ∷ 0 ∷ 0 ∷ 1 ∷ 0 ∷ 0 ∷ 1 ∷ 0 ∷ 0 ∷ 64 ∷ 0 ∷ 0 ∷ 0 ∷ 0 ∷ 0 ∷ 2 ∷ replicate 10 0
 
--- Two blocks at 0 and 28, and 128 bytes from 56 on.
+-- A format of the first track with data from byte 256 on, and with a sector number that says nothing. Its words from 4 on are a UIB: start head 0,
+-- no second volume, 1 sector, 64 bytes, 2 cylinders. The number of heads stands in the lower byte of word 4: it is 0 until the format says there
+-- that 1 sector was formatted, and then the UIB says `tiny`.
+abbrev pub formatOverUib : List ℕ
+formatOverUib =
+    0x8c ∷ 0 ∷ 0 ∷ 0 ∷ 0 ∷ 0 ∷ 0 ∷ 9 ∷ 0 ∷ 0 ∷ 0 ∷ 0 ∷ 1 ∷ 0 ∷ 0 ∷ 64 ∷ 0 ∷ 0 ∷ 0 ∷ 0 ∷ 0 ∷ 2 ∷ replicate 6 0
+
+-- Two blocks at 0 and 28, and 264 bytes from 56 on.
 abbrev pub starting : List ℕ → List ℕ → Drive → Drive → Both
 starting one two drive0 drive1 =
     record {
-      host = one ++ two ++ replicate 128 0;
+      host = one ++ two ++ replicate 264 0;
       drive0 = drive0;
       drive1 = drive1;
       events1 = replicate 512 0;
@@ -81,6 +89,14 @@ refusedData = starting (block 0x82 0x10 0 1 28) (block 0x81 0x90 0 1 56) newDriv
 abbrev pub stoppedRead : Both
 stoppedRead = starting (block 0x81 0x10 0 2 56) (block 0x82 0x90 0 1 120) (driveWith 7 1) (driveWith 9 0)
 
+-- A format of unit 0, and a write to unit 1 of the bytes from 10 on, directly after what the format reports.
+abbrev pub besideFormat : Both
+besideFormat = starting formatOverUib (block 0x82 0x90 0 1 10) (driveWith 7 0) (driveWith 9 0)
+
+-- The same format of a unit that is not initialized, which is refused and reports nothing, and a write of the bytes from 6 on.
+abbrev pub refusedFormat : Both
+refusedFormat = starting formatOverUib (block 0x82 0x90 0 1 6) newDrive (driveWith 9 0)
+
 pub record Met : Type 0 where
   pub adjacent-buffers : Independent one two adjacent
   pub both-move : (ofFirst adjacent ≡ come RunAnswer.Done 0 1) × (ofSecond adjacent ≡ come RunAnswer.Done 0 1)
@@ -90,6 +106,16 @@ pub record Met : Type 0 where
   pub stopped-read : Independent one two stoppedRead
   -- byte 120, which the second reads, lies in the buffer that it asked for
   pub rest-not-written : (ofFirst stoppedRead ≡ come RunAnswer.BlockFailed 20 1) × (Among 56 128 120 × HostReads two (worldFor Second stoppedRead) 120)
+  pub beside-format : Independent one two besideFormat
+  -- beside word 1 the format writes bytes 7 to 9 and no other: not byte 6, its head, nor byte 10, which the second reads
+  pub three-bytes-written :
+      (ofFirst besideFormat ≡ come RunAnswer.Done 0 1) ×
+      (((x : ℕ) → HostWrites one (worldFor First besideFormat) x ↔ (Among 2 2 x ⊎ Among 7 3 x)) ×
+      HostReads two (worldFor Second besideFormat) 10)
+  pub refused-format : Independent one two refusedFormat
+  -- bytes 7 to 9, which an accepted format writes, are among those that the second reads
+  pub words-not-written :
+      (ofFirst refusedFormat ≡ come RunAnswer.BlockFailed 11 0) × ((x : ℕ) → Among 7 3 x → HostReads two (worldFor Second refusedFormat) x)
 
 -- ---- one part of it fails, and the orders differ
 
@@ -100,6 +126,10 @@ sharedUnit = starting (block 0x87 0x00 0 0 32) (overUib 0x89 0x00) newDrive (dri
 -- A handshake of unit 0, whose words are the UIB of the second's initialize.
 abbrev pub readByOther : Both
 readByOther = starting (overUib 0x86 0x00) (block 0x87 0x80 0 0 4) (driveWith 7 0) newDrive
+
+-- A format of unit 0, and an initialize of unit 1 whose UIB is the format's words from 4 on: it has as many heads as sectors were formatted.
+abbrev pub formatRead : Both
+formatRead = starting formatOverUib (block 0x87 0x80 0 0 8) (driveWith 7 0) newDrive
 
 -- Reads from both units to bytes 56 to 119.
 abbrev pub writtenTwice : Both
@@ -112,6 +142,9 @@ pub record Fails : Type 0 where
   pub read-by-other :
       (NoByteReadByOther one two readByOther → ⊥) ×
       (NoUnitInCommon one two readByOther × (NoByteWrittenByBoth one two readByOther × (EitherWay one two readByOther → ⊥)))
+  pub format-read :
+      (NoByteReadByOther one two formatRead → ⊥) ×
+      (NoUnitInCommon one two formatRead × (NoByteWrittenByBoth one two formatRead × (EitherWay one two formatRead → ⊥)))
   pub written-twice :
       (NoByteWrittenByBoth one two writtenTwice → ⊥) ×
       (NoUnitInCommon one two writtenTwice × (NoByteReadByOther one two writtenTwice × (EitherWay one two writtenTwice → ⊥)))

@@ -14,8 +14,8 @@ const DE: u8 = 0x04;
 const IE: u8 = 0x02;
 
 /// The error byte of each block answer from 10 on, as docs/ERROR-BYTES.md has them.
-const ERRORS: [u8; 12] = [
-    0x14, 0x40, 0x62, 0x51, 0x21, 0xff, 0x16, 0xff, 0xff, 0x62, 0x13, 0x20,
+const ERRORS: [u8; 11] = [
+    0x14, 0x40, 0x62, 0x51, 0x21, 0xff, 0x16, 0xff, 0xff, 0x62, 0x13,
 ];
 
 const SMALL_UIB: [u8; 18] = [
@@ -501,6 +501,7 @@ fn format(sheet: &mut Sheet) {
     put(&mut want.images[0], 44 * 64, &[0xee; 4 * 64]);
     want.records[0][15] = 3;
     want.ended(1, 0, 0x80, 0x00, 3);
+    put(&mut want.host, 7, &[3, 0x00, 4]);
     sheet.expect(
         "8C writes every sector of the named track and counts S",
         &case,
@@ -508,6 +509,56 @@ fn format(sheet: &mut Sheet) {
     );
     case.host[6] = 3;
     sheet.refused("8C: head H is outside the drive", &case, 16);
+    case.host[6] = 2;
+    case.host[13] += 1;
+    sheet.refused("8C that is refused reports nothing", &case, 19);
+    format_over_its_own_block(sheet);
+    format_under_the_next_block(sheet);
+}
+
+/// The data are taken after 81 00 is stored and before the words that are reported.
+fn format_over_its_own_block(sheet: &mut Sheet) {
+    let case = with_block(
+        64,
+        &Block {
+            sector: 200,
+            sector_count: 0x1234,
+            ..block(0x8c, 0)
+        },
+    );
+    let mut want = unchanged(&case, 0, 0, 1, 4);
+    let mut data = case.host.clone();
+    put(&mut data, 2, &[0x81, 0x00]);
+    for sector in 0..4 {
+        put(&mut want.images[0], 64 * sector, &data);
+    }
+    want.ended(1, 0, 0x80, 0x00, 0);
+    put(&mut want.host, 7, &[3, 0x00, 4]);
+    sheet.expect("8C whose buffer covers its own words 1 to 4", &case, &want);
+}
+
+/// The next block begins 10 bytes before the 8C, so that the last sector formatted is its normal vector:
+/// it is read as the 8C leaves it.
+fn format_under_the_next_block(sheet: &mut Sheet) {
+    let mut case = with_block(
+        200,
+        &Block {
+            linked_block_address: 18,
+            ..block(0x8c, LK)
+        },
+    );
+    case.host.copy_within(0..28, 28);
+    put(&mut case.host, 28 + 7, &[0x55, 0x55, 0x55]);
+    put(&mut case.host, 28 + 10, &100u32.to_be_bytes());
+    put(&mut case.host, 18, &[0x89, IE]);
+    case.first = 28;
+    let mut want = unchanged(&case, 0, 0, 2, 4);
+    put(&mut want.images[0], 0, &[0xee; 4 * 64]);
+    want.ended(1, 28, 0x80, 0x00, 0);
+    put(&mut want.host, 28 + 7, &[3, 0x00, 4]);
+    want.ended(2, 18, 0x80, 0x00, 0);
+    put(&mut want.events, 10, &[0x00, 3]);
+    sheet.expect("8C that reports into the next block", &case, &want);
 }
 
 /// The list of source document 001: 16 and 512 bytes in turn over three sectors of 528.

@@ -40,6 +40,10 @@ pub enum Fault {
     NormalVectorAlways,
     LevelWithoutInterrupt,
     InspectedOnePlaceMore,
+    FormatReportsNothing,
+    FormatReportsFirst,
+    FormatLastIsCount,
+    RefusedFormatReports,
     BlockNotRead,
     UibNotRead,
     RefusedUibNotRead,
@@ -58,11 +62,14 @@ pub enum Fault {
     UnmovedRestWritten,
     UnreadListRead,
     MisplacedUibRead,
+    FormatWordsNotWritten,
+    RefusedFormatWordsWritten,
+    WordAfterFormatWords,
 }
 
 impl Fault {
     /// In the rules: a run or an inspection comes out wrong.
-    pub const IN_RULES: [Fault; 33] = [
+    pub const IN_RULES: [Fault; 37] = [
         Fault::EventsOneByteLess,
         Fault::AllowanceOneMore,
         Fault::FiveBeforeSix,
@@ -96,10 +103,14 @@ impl Fault {
         Fault::NormalVectorAlways,
         Fault::LevelWithoutInterrupt,
         Fault::InspectedOnePlaceMore,
+        Fault::FormatReportsNothing,
+        Fault::FormatReportsFirst,
+        Fault::FormatLastIsCount,
+        Fault::RefusedFormatReports,
     ];
 
     /// In footprints, which have too little or too much; every run is right.
-    pub const IN_FOOTPRINTS: [Fault; 18] = [
+    pub const IN_FOOTPRINTS: [Fault; 21] = [
         Fault::BlockNotRead,
         Fault::UibNotRead,
         Fault::RefusedUibNotRead,
@@ -118,6 +129,9 @@ impl Fault {
         Fault::UnmovedRestWritten,
         Fault::UnreadListRead,
         Fault::MisplacedUibRead,
+        Fault::FormatWordsNotWritten,
+        Fault::RefusedFormatWordsWritten,
+        Fault::WordAfterFormatWords,
     ];
 
     /// The fault in words.
@@ -156,6 +170,10 @@ impl Fault {
             Fault::NormalVectorAlways => "normal vector at status 82",
             Fault::LevelWithoutInterrupt => "level without IE",
             Fault::InspectedOnePlaceMore => "inspection of one place more than there are",
+            Fault::FormatReportsNothing => "8C reports nothing",
+            Fault::FormatReportsFirst => "8C's words stored before its data are taken",
+            Fault::FormatLastIsCount => "S for the last sector formatted",
+            Fault::RefusedFormatReports => "words of a refused 8C stored",
             Fault::BlockNotRead => "footprint without the 28 bytes of a block",
             Fault::UibNotRead => "footprint without a UIB",
             Fault::RefusedUibNotRead => "footprint without a UIB refused by 13",
@@ -174,6 +192,9 @@ impl Fault {
             Fault::UnmovedRestWritten => "footprint with the unmoved rest of a stopped read",
             Fault::UnreadListRead => "footprint with a list that 18 leaves unread",
             Fault::MisplacedUibRead => "footprint with a UIB refused by 12",
+            Fault::FormatWordsNotWritten => "footprint without the words of 8C",
+            Fault::RefusedFormatWordsWritten => "footprint with the words of a refused 8C",
+            Fault::WordAfterFormatWords => "footprint with the word after those of 8C",
         }
     }
 }

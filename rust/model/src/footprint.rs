@@ -96,6 +96,7 @@ enum Line {
     DataTaken,
     Word1,
     Identity,
+    Formatted,
     DataMoved,
 }
 
@@ -128,6 +129,11 @@ impl Fetched {
         !let_through(self.answer)
     }
 
+    /// Whether an 8C reports what it formatted; the fault takes a refused one for one that does.
+    fn formatted(&self) -> bool {
+        self.answer == 0 || seeded(Fault::RefusedFormatWordsWritten)
+    }
+
     /// "the 28 of each fetched block; a UIB that passed check 12; a list of 1 to 64 elements that
     /// lies at an even address and in memory, once checks 10 to 17 are passed; the data of 82, A2
     /// and 8C"
@@ -151,12 +157,23 @@ impl Fetched {
         read
     }
 
-    /// "word 1 of each fetched block, words 2 to 7 for 86, the data bytes that 81 and A1 moved"
+    /// "word 1 of each fetched block, words 2 to 7 for 86, the data bytes that 81 and A1 moved"; and
+    /// for an 8C that ended 80 the lower byte of word 3, and word 4 (paper 02, K1)
     fn written(&self) -> Touched {
         let at = self.at as u64;
         let mut written = vec![(Line::Word1, at + 2..at + 4)];
         if self.block.command == 0x86 {
             written.push((Line::Identity, at + 4..at + 16));
+        }
+        if self.block.command == 0x8c && self.formatted() {
+            let word_5 = at + 10;
+            let end = if seeded(Fault::WordAfterFormatWords) {
+                // one word too many
+                word_5 + 2
+            } else {
+                word_5
+            };
+            written.push((Line::Formatted, at + 7..end));
         }
         if matches!(self.block.command, 0x81 | 0xa1) {
             let moved = if seeded(Fault::UnmovedRestWritten) {
@@ -204,6 +221,7 @@ impl Fetched {
             Line::DataTaken => seeded(Fault::DataNotRead),
             Line::Word1 => seeded(Fault::Word1NotWritten),
             Line::Identity => seeded(Fault::IdentityNotWritten),
+            Line::Formatted => seeded(Fault::FormatWordsNotWritten),
             Line::DataMoved => {
                 seeded(Fault::DataNotWritten)
                     || self.answer == 20 && seeded(Fault::StoppedDataNotWritten)

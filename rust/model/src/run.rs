@@ -183,13 +183,17 @@ impl Chain<'_> {
         let judged = judge(self.world, block);
         let before = visit_before(self.world, &self.past, at, block, &judged);
         let (done, visit) = match &judged {
-            Err(answer) => (
-                Done {
+            Err(answer) => {
+                if seeded(Fault::RefusedFormatReports) && block.command == 0x8c {
+                    // told of sectors that nobody formatted
+                    self.report_format(at, block);
+                }
+                let done = Done {
                     answer: *answer,
                     ..NOTHING_MOVED
-                },
-                before,
-            ),
+                };
+                (done, before)
+            }
             Ok(accepted) => {
                 // "status 81 and error 00 are stored in the block; then the transfer happens"
                 if !seeded(Fault::NoStatusBeforeData) {
@@ -215,7 +219,7 @@ impl Chain<'_> {
             0x87 => self.initialize(block, accepted),
             0x89 => self.move_heads(block, 0),
             0x8a => self.seek(block, accepted),
-            0x8c => self.format(block, accepted),
+            0x8c => self.format(at, block, accepted),
             0x81 | 0xa1 => self.read(block, accepted),
             _ => self.write(block, accepted),
         }
@@ -274,10 +278,15 @@ impl Chain<'_> {
         }
     }
 
-    /// "8C takes B bytes and writes them to every sector of the named track."
-    fn format(&mut self, block: &Block, accepted: &Accepted) -> Done {
+    /// "8C takes B bytes and writes them to every sector of the named track." Once it has, the block
+    /// says how many those were.
+    fn format(&mut self, at: u32, block: &Block, accepted: &Accepted) -> Done {
         let unit = block.unit() as usize;
         let geometry = self.world.records[unit].geometry;
+        if seeded(Fault::FormatReportsFirst) {
+            // the words may lie under the data
+            self.report_format(at, block);
+        }
         let mut sectors = 0;
         for sector in 0..geometry.sectors_a_track as u64 {
             let address = Address {
@@ -291,12 +300,32 @@ impl Chain<'_> {
             self.sector_from_host(unit, &geometry, place, &accepted.pieces, 0);
             sectors += 1;
         }
+        if !seeded(Fault::FormatReportsFirst) && !seeded(Fault::FormatReportsNothing) {
+            self.report_format(at, block);
+        }
         if seeded(Fault::FormatCountsOne) {
             // one buffer, one sector
             sectors = 1;
         }
         let heads = self.move_heads(block, block.cylinder as u64);
         Done { sectors, ..heads }
+    }
+
+    /// Paper 02, K1: "lower byte of word 3 is the last sector formatted, word 4 the number of sectors
+    /// formatted".
+    fn report_format(&mut self, at: u32, block: &Block) {
+        let unit = block.unit() as usize;
+        let sectors = self.world.records[unit].geometry.sectors_a_track;
+        let last = if seeded(Fault::FormatLastIsCount) {
+            // sectors are counted from 0
+            sectors
+        } else {
+            sectors.wrapping_sub(1)
+        };
+        let word_3 = at as u64 + 6;
+        self.store(word_3 + 1, (last % 256) as u8);
+        self.store(word_3 + 2, (sectors / 256) as u8);
+        self.store(word_3 + 3, (sectors % 256) as u8);
     }
 
     /// "81 and A1 copy sectors to host memory, through the elements joined in list order."

@@ -69,7 +69,11 @@ fn each_command() {
     touches(&with(300, &write), 0, &[OWN_READ, (100, 228)], &[WORD_1]);
     // 8C takes one sector's bytes, whatever the count says.
     let format = physical(0x8c, 0, (3, 2, 0), 7, 100);
-    touches(&with(300, &format), 0, &[OWN_READ, (100, 164)], &[WORD_1]);
+    let formatted = [WORD_1, (7, 10)];
+    touches(&with(300, &format), 0, &[OWN_READ, (100, 164)], &formatted);
+    // One that is refused reports nothing.
+    let outside = physical(0x8c, 0, (3, 3, 0), 7, 100);
+    touches(&with(300, &outside), 16, &[OWN_READ], &[WORD_1]);
     let mut w = with(300, &initialize(100));
     put(&mut w.host, 100, &SMALL_UIB);
     touches(&w, 0, &[OWN_READ, (100, 118)], &[WORD_1]);

@@ -332,6 +332,8 @@ fn format_a_track_of_the_whole_drive() {
         }
         assert_eq!(w.images[0], expected);
         assert_eq!((w.records[0].cylinder, travel(&w, 1)), (1, -8));
+        // The last sector formatted and their number; the head stays.
+        assert_eq!(w.host[6..10], [2, 3, 0, 4]);
     }
     assert_eq!(
         one(&mut world(200), &physical(0x8c, 0, (9, 2, 0), 0, 100)),
@@ -378,6 +380,7 @@ fn format_with_its_own_word_1() {
     for place in 0..4 {
         assert_eq!(w.images[0][place * 64..place * 64 + 64], expected);
     }
+    assert_eq!(w.host[7..10], [3, 0, 4]);
 }
 
 #[test]

@@ -1,4 +1,5 @@
--- Nothing reported stores nothing; the identity is stored by its own function.
+-- Nothing reported stores nothing.
+-- The identity, and what a format reports, are each stored by a function of its own.
 use Rattle.block.specs.Steps.{written}
 use borrow.Author.Needs.{needs}
 use Rattle.block.proofs.put_report.Statement.{statement}
@@ -13,6 +14,14 @@ enum-told-2 c = search needs
 put-identity-requires : tie.Need-put-identity-requires
 put-identity-requires c κs = search needs
 
+enum-known-report : tie.Need-enum-known-report
+enum-known-report c = search needs
+
+put-formatted-requires : tie.Need-put-formatted-requires
+put-formatted-requires c κs =
+    let start = c .before .before .before .before .before in
+    (start .pre .0, rw (c .before .before .report .given .1) at (start .pre .1))
+
 returns : tie.Need-returns
 unfolding written
 returns c = rw (c .enum-told .given .1)
@@ -23,6 +32,23 @@ same-length c = search needs
 returns-2 : tie.Need-returns-2
 returns-2 c = rw (c .before .before .before .before .enum-told2 .given .1) (c .before .before .put-identity .ensures)
 
+same-length-2 : tie.Need-same-length-2
+same-length-2 c = search needs
+
+returns-3 : tie.Need-returns-3
+returns-3 c = rw (c .before .before .before .before .before .report .given .1) (c .before .before .put-formatted .ensures)
+
 pub put-report-spec : {M : Type 1} → statement M
 put-report-spec =
-    tie.close (tie.spec enum-told enum-told-2 put-identity-requires returns same-length returns-2)
+    tie.close
+    (tie.spec
+    enum-told
+    enum-told-2
+    put-identity-requires
+    enum-known-report
+    put-formatted-requires
+    returns
+    same-length
+    returns-2
+    same-length-2
+    returns-3)
