@@ -1,0 +1,171 @@
+-- What serves a track of a table, as the crates above may know it.
+-- The pairs are gone through from the first on, and one that serves a track ends the search.
+use Prim.Native.Nat.{ℕ, zero, suc, _+_, _-_, _*_, _≤_, _<_, min}
+use mathlib.Core.List.{List}
+use mathlib.Core.Logic.{by-cases, if-neg, if-pos}
+use mathlib.Core.Path.{_≡_, refl, sym, ap, subst, _∙_}
+use native.Mathlib.Decide.{decLt}
+use native.Mathlib.Nat.{min-eq-left}
+use native.Mathlib.Numerals.{add-one}
+use native.Mathlib.Omega.{arith}
+use lib.ListN.{getD}
+use Rattle.geometry.specs.declared.Geometry.{Geometry}
+use Rattle.wire.proofs.Promises.{never}
+use Rattle.geometry.specs.Drive.{C, driveHeads}
+use Rattle.spares.specs.declared.Track.{Track}
+use Rattle.spares.specs.declared.Served.{Served}
+use Rattle.spares.specs.declared.Served.the-variants.{Itself, By}
+use Rattle.spares.specs.Table.{Good, Serves, badOf, landed, landsOn, served, servedFrom, serves?, spareOf}
+use Rattle.spares.specs.Tracks.{TrackOn, trackNumber, trackOf}
+
+module _ (g : Geometry) (ts : List ℕ) (t : ℕ) where
+  pub serves-first : (i n : ℕ) → Serves g ts i t → servedFrom g ts i (suc n) t ≡ By (trackOf (spareOf ts i))
+  unfolding servedFrom
+  serves-first i n it = if-pos (serves? g ts i t) it _ _
+
+  pub serves-later : (i n : ℕ) → (Serves g ts i t → ⊥) → servedFrom g ts i (suc n) t ≡ servedFrom g ts (suc i) n t
+  unfolding servedFrom
+  serves-later i n not-it = if-neg (serves? g ts i t) not-it _ _
+
+  pub serves-none : (i : ℕ) → servedFrom g ts i 0 t ≡ Itself
+  unfolding servedFrom
+  serves-none i = refl
+
+  -- The same of the pairs from the i-th on that n leaves, as a search goes through them.
+  pub serves-here : (i n : ℕ) → i < n → Serves g ts i t → servedFrom g ts i (n - i) t ≡ By (trackOf (spareOf ts i))
+  serves-here i n less it =
+      let more : n - i ≡ suc (n - (i + 1)) = omega arith in
+      rw more (serves-first i (n - (i + 1)) it)
+
+  pub serves-on : (i n : ℕ) → i < n → (Serves g ts i t → ⊥) → servedFrom g ts i (n - i) t ≡ servedFrom g ts (i + 1) (n - (i + 1)) t
+  serves-on i n less not-it =
+      let more : n - i ≡ suc (n - (i + 1)) = omega arith in
+      rw (more, add-one) (serves-later i (n - suc i) not-it)
+
+-- ---- what a search finds
+
+-- No pair from the i-th on serves the track, of n; or the j-th does, and none before it.
+data Found (g : Geometry) (ts : List ℕ) (t i n : ℕ) : Served → Type 0 where
+  none : ((j : ℕ) → i ≤ j → j < i + n → Serves g ts j t → ⊥) → Found g ts t i n Itself
+  first :
+      (j : ℕ) → i ≤ j → j < i + n → Serves g ts j t → ((l : ℕ) → i ≤ l → l < j → Serves g ts l t → ⊥) →
+      Found g ts t i n (By (trackOf (spareOf ts j)))
+
+module _ (g : Geometry) (ts : List ℕ) (t : ℕ) where
+  -- Where the i-th does not, those after it tell.
+  later : (i j : ℕ) → (Serves g ts i t → ⊥) → (suc i ≤ j → Serves g ts j t → ⊥) → i ≤ j → Serves g ts j t → ⊥
+  later i j not-it after-it from it =
+      by-cases (decLt i j) (λ less. after-it less it)
+      (λ not-less.
+      let same : j ≡ i = omega arith in
+      not-it (subst (λ (x : ℕ). Serves g ts x t) same it))
+
+  widened : (i n : ℕ) {s : Served} → (Serves g ts i t → ⊥) → Found g ts t (suc i) n s → Found g ts t i (suc n) s
+  widened i n not-it (none nobody) = none (λ j from below it. later i j not-it (λ from-later. nobody j from-later (omega arith)) from it)
+  widened i n not-it (first j from below it before) =
+      first j (omega arith) (omega arith) it (λ l from-i less. later i l not-it (λ from-later. before l from-later less) from-i)
+
+  search : (i n : ℕ) → Found g ts t i n (servedFrom g ts i n t)
+  unfolding servedFrom
+  search i zero = none (λ j from below it. omega arith)
+  search i (suc n) =
+      by-cases (serves? g ts i t)
+      (λ it. subst (Found g ts t i (suc n)) (sym (serves-first g ts t i n it)) (first i (omega arith) (omega arith) it (λ l from below it. omega arith)))
+      (λ not-it. subst (Found g ts t i (suc n)) (sym (serves-later g ts t i n not-it)) (widened i n not-it (search (suc i) n)))
+
+-- ---- of a good table
+
+module _ (g : Geometry) (n : ℕ) (ts : List ℕ) (good : Good g n ts) where
+  all-count : min n 32 ≡ n
+  all-count = min-eq-left (good .room)
+
+  -- What serves a track, found among the pairs that there are.
+  finds : (t : ℕ) → Found g ts t 0 n (served g n ts t)
+  finds t = subst (λ (m : ℕ). Found g ts t 0 n (servedFrom g ts 0 m t)) (sym all-count) (search g ts t 0 n)
+
+  -- No track twice: two places that hold the same are one.
+  pub one-place : (i j : ℕ) → i < 2 * n → j < 2 * n → getD ts i 0 ≡ getD ts j 0 → i ≡ j
+  one-place i j i-in j-in same =
+      by-cases (decLt i j) (λ less. absurd (good .once i j less j-in same))
+      (λ not-less. by-cases (decLt j i) (λ less. absurd (good .once j i less i-in (sym same))) (λ neither. omega arith))
+
+  -- Pair i serves its bad track.
+  pub pair-serves : (i : ℕ) → i < n → Serves g ts i (badOf ts i)
+  pair-serves i less = record { bad = refl; on = good .on (2 * i + 1) (omega arith) }
+
+  pub served-by-its-spare : (i : ℕ) → i < n → served g n ts (badOf ts i) ≡ By (trackOf (spareOf ts i))
+  served-by-its-spare i less = by-find (finds (badOf ts i))
+    where
+      by-find : {s : Served} → Found g ts (badOf ts i) 0 n s → s ≡ By (trackOf (spareOf ts i))
+      by-find (none nobody) = absurd (nobody i (omega arith) (omega arith) (pair-serves i less))
+      by-find (first j from below it before) =
+          let twice = one-place (2 * j) (2 * i) (omega arith) (omega arith) (it .bad) in
+          let same : j ≡ i = omega arith in
+          ap (λ (x : ℕ). By (trackOf (spareOf ts x))) same
+
+  -- "a spare is never itself mapped"
+  pub spare-serves-itself : (i : ℕ) → i < n → served g n ts (spareOf ts i) ≡ Itself
+  spare-serves-itself i less = by-find (finds (spareOf ts i))
+    where
+      by-find : {s : Served} → Found g ts (spareOf ts i) 0 n s → s ≡ Itself
+      by-find (none nobody) = refl
+      by-find (first j from below it before) =
+          let twice = one-place (2 * j) (2 * i + 1) (omega arith) (omega arith) (it .bad) in
+          absurd (omega arith)
+
+-- ---- where a track lands
+
+-- A spare that serves is on the drive, whatever the table.
+pub server-on-drive : (g : Geometry) (n : ℕ) (ts : List ℕ) (t : ℕ) (k : Track) → served g n ts t ≡ By k → (k .cylinder < C g) × (k .head < driveHeads g)
+server-on-drive g n ts t k is = by-find (search g ts t 0 (min n 32)) is
+  where
+    by-find : {s : Served} → Found g ts t 0 (min n 32) s → s ≡ By k → (k .cylinder < C g) × (k .head < driveHeads g)
+    by-find (none nobody) same = absurd (never cc)
+    by-find (first j from below it before) same =
+        let its : trackOf (spareOf ts j) ≡ k = cc in
+        subst (λ (k : Track). (k .cylinder < C g) × (k .head < driveHeads g)) its (it .on .cylinder, it .on .head)
+
+-- The number of the track that a number stands for is that number again, where the drive has it.
+pub number-again : (g : Geometry) (t : ℕ) → TrackOn g t → trackNumber (trackOf t .cylinder) (trackOf t .head) ≡ t
+number-again g t on = omega (arith, on .last)
+
+module _ (g : Geometry) (n : ℕ) (ts : List ℕ) (good : Good g n ts) where
+  -- Either no pair has the track as bad, and it lands on itself; or one has, and it lands on the spare of that.
+  data Lands (t : ℕ) : ℕ → Type 0 where
+    on-itself : ((i : ℕ) → i < n → badOf ts i ≡ t → ⊥) → Lands t t
+    on-spare : (i : ℕ) → i < n → badOf ts i ≡ t → Lands t (spareOf ts i)
+
+  lands : (t : ℕ) → Lands t (landsOn g n ts t)
+  lands t = by-find (finds g n ts good t)
+    where
+      by-find : {s : Served} → Found g ts t 0 n s → Lands t (landed t s)
+      by-find (none nobody) =
+          on-itself
+          (λ i less is. nobody i (omega arith) (omega arith) (subst (Serves g ts i) is (pair-serves g n ts good i less)))
+      by-find (first j from below it before) =
+          subst (Lands t) (sym (number-again g (spareOf ts j) (it .on))) (on-spare j (omega arith) (it .bad))
+
+  -- No bad track is ever landed on.
+  pub never-on-a-bad-track : (t i : ℕ) → i < n → landsOn g n ts t ≡ badOf ts i → ⊥
+  never-on-a-bad-track t i less is = by-landing (lands t) is
+    where
+      by-landing : {x : ℕ} → Lands t x → x ≡ badOf ts i → ⊥
+      by-landing (on-itself nobody) same = nobody i less (sym same)
+      by-landing (on-spare j j-in bad) same =
+          let twice = one-place g n ts good (2 * j + 1) (2 * i) (omega arith) (omega arith) same in
+          omega arith
+
+  -- Two tracks that land on one, and of which neither serves as a spare, are one track: no two are ever folded together.
+  pub never-folded :
+      (t u : ℕ) → ((i : ℕ) → i < n → spareOf ts i ≡ t → ⊥) → ((i : ℕ) → i < n → spareOf ts i ≡ u → ⊥) →
+      landsOn g n ts t ≡ landsOn g n ts u → t ≡ u
+  never-folded t u no-t no-u same = by-landing (lands t) (lands u) same
+    where
+      by-landing : {x y : ℕ} → Lands t x → Lands u y → x ≡ y → t ≡ u
+      by-landing (on-itself a) (on-itself b) one = one
+      by-landing (on-itself a) (on-spare j j-in bad) one = absurd (no-t j j-in (sym one))
+      by-landing (on-spare i i-in bad) (on-itself b) one = absurd (no-u i i-in one)
+      by-landing (on-spare i i-in bad-i) (on-spare j j-in bad-j) one =
+          let twice = one-place g n ts good (2 * i + 1) (2 * j + 1) (omega arith) (omega arith) one in
+          let pair : i ≡ j = omega arith in
+          sym bad-i ∙ ap (badOf ts) pair ∙ bad-j

@@ -1,0 +1,38 @@
+-- Each promise of this crate leaves one outcome, read off the contracts as the source states them.
+-- Each is an equation with a definition, or an answer about a statement, which is true in one case and false in the other.
+use mathlib.Core.Path.{_∙_, sym}
+use denote.Ref.{now}
+use Rattle.wire.specs.Promise.{OneOutcome, OneResult}
+use Rattle.wire.proofs.Promises.{says-once}
+use Rattle.spares.proofs.add.Reads as add
+use Rattle.spares.proofs.is_good.Reads as is-good
+use Rattle.spares.proofs.is_in.Reads as is-in
+use Rattle.spares.proofs.is_on_drive.Reads as is-on-drive
+use Rattle.spares.proofs.number.Reads as number
+use Rattle.spares.proofs.numbered.Reads as numbered
+use Rattle.spares.proofs.serving.Reads as serving
+use Rattle.spares.proofs.wide_number.Reads as wide-number
+
+add-once : OneOutcome add.Post (λ κ x e. now (e .0))
+add-once κ a x y e f p q = p ∙ sym q
+
+is-good-once : OneResult is-good.Post
+is-good-once κ a x y e f p q = says-once x y _ p q
+
+is-in-once : OneResult is-in.Post
+is-in-once κ a x y e f p q = says-once x y _ p q
+
+is-on-drive-once : OneResult is-on-drive.Post
+is-on-drive-once κ a x y e f p q = says-once x y _ p q
+
+number-once : OneResult number.Post
+number-once κ a x y e f p q = p ∙ sym q
+
+numbered-once : OneResult numbered.Post
+numbered-once κ a x y e f p q = p ∙ sym q
+
+serving-once : OneResult serving.Post
+serving-once κ a x y e f p q = p ∙ sym q
+
+wide-number-once : OneResult wide-number.Post
+wide-number-once κ a x y e f p q = p ∙ sym q

@@ -1,0 +1,64 @@
+-- A table of bad tracks with their spares (02, K5): how many pairs of it count is told beside it. Pair i has its bad track at 2 i and the
+-- spare at 2 i + 1. There is room for 32 pairs.
+use Prim.Native.Nat.{ℕ, zero, suc, _+_, _*_, _≤_, _<_, min}
+use mathlib.Core.List.{List}
+use mathlib.Core.Logic.{ite, Dec·and}
+use mathlib.Core.Path.{_≡_}
+use native.Mathlib.Decide.{decLt, map-dec, ℕ-discrete}
+use lib.ListN.{getD, set}
+use Rattle.geometry.specs.declared.Geometry.{Geometry}
+use Rattle.spares.specs.declared.Served.{Served}
+use Rattle.spares.specs.declared.Served.the-variants.{Itself, By}
+use Rattle.spares.specs.Tracks.{TrackOn, trackNumber, trackOf, trackOn?}
+
+abbrev pub badOf : List ℕ → ℕ → ℕ
+badOf ts i = getD ts (2 * i) 0
+
+abbrev pub spareOf : List ℕ → ℕ → ℕ
+spareOf ts i = getD ts (2 * i + 1) 0
+
+-- A table of n pairs is good, but not one with "over 32 pairs, a track outside the drive, or one track twice in the table".
+pub record Good (g : Geometry) (n : ℕ) (ts : List ℕ) : Type 0 where
+  pub room : n ≤ 32
+  pub on : (i : ℕ) → i < 2 * n → TrackOn g (getD ts i 0)
+  pub once : (i j : ℕ) → i < j → j < 2 * n → getD ts i 0 ≡ getD ts j 0 → ⊥
+
+-- A track is one of the first m of a table.
+pub record OneOf (m : ℕ) (ts : List ℕ) (t : ℕ) : Type 0 where
+  pub at : ℕ
+  pub less : at < m
+  pub here : getD ts at 0 ≡ t
+
+-- It is in the table, as bad or as spare: 22 asks that "either is in the table already".
+abbrev pub InTable : ℕ → List ℕ → ℕ → Type 0
+InTable n ts t = OneOf (2 * min n 32) ts t
+
+-- Pair i serves a track: it has it as bad, and a spare that the drive has.
+pub record Serves (g : Geometry) (ts : List ℕ) (i t : ℕ) : Type 0 where
+  pub bad : badOf ts i ≡ t
+  pub on : TrackOn g (spareOf ts i)
+
+pub serves? : (g : Geometry) (ts : List ℕ) (i t : ℕ) → Dec (Serves g ts i t)
+serves? g ts i t =
+    map-dec (λ d. record { bad = d .0; on = d .1 }) (λ s. (s .bad, s .on)) (Dec·and (ℕ-discrete (badOf ts i) t) (trackOn? g (spareOf ts i)))
+
+-- What serves a track, of n pairs from the i-th on: "Every later command that lands on a bad track works on its spare". Of several pairs the
+-- first does; where none does, it is the track itself.
+unfoldable pub servedFrom : Geometry → List ℕ → (i n t : ℕ) → Served
+servedFrom g ts i zero t = Itself
+servedFrom g ts i (suc n) t = ite (serves? g ts i t) (By (trackOf (spareOf ts i))) (servedFrom g ts (suc i) n t)
+
+abbrev pub served : Geometry → ℕ → List ℕ → ℕ → Served
+served g n ts t = servedFrom g ts 0 (min n 32) t
+
+-- The number of the track that a track lands on.
+abbrev pub landed : ℕ → Served → ℕ
+landed t Itself = t
+landed t (By k) = trackNumber (k .cylinder) (k .head)
+
+abbrev pub landsOn : Geometry → ℕ → List ℕ → ℕ → ℕ
+landsOn g n ts t = landed t (served g n ts t)
+
+-- The table with a pair more after its n, where it has room.
+abbrev pub withPair : ℕ → List ℕ → ℕ → ℕ → List ℕ
+withPair n ts bad spare = ite (decLt n 32) (set (set ts (2 * n) bad) (2 * n + 1) spare) ts
