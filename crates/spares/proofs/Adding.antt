@@ -14,7 +14,7 @@ use Rattle.geometry.specs.declared.Geometry.{Geometry}
 use Rattle.spares.specs.declared.Served.{Served}
 use Rattle.spares.specs.declared.Served.the-variants.{By}
 use Rattle.spares.specs.Table.{Good, InTable, Serves, badOf, served, servedFrom, serves?, spareOf, withPair}
-use Rattle.spares.specs.Tracks.{TrackOn, trackOf}
+use Rattle.spares.specs.Tracks.{TrackOn, standsFor}
 use Rattle.spares.proofs.Laws.{served-by-its-spare, serves-first, serves-later, serves-none}
 
 module _ (g : Geometry) (t : ℕ) where
@@ -40,7 +40,7 @@ module _ (g : Geometry) (t : ℕ) where
       let bads = same (2 * i) (omega arith) in
       by-cases (serves? g ts i t)
       (λ it.
-      serves-first g ts t i n it ∙ ap (λ (x : ℕ). By (trackOf x)) spares ∙
+      serves-first g ts t i n it ∙ ap (λ (x : ℕ). By (standsFor x)) spares ∙
       sym (serves-first g us t i n (record { bad = sym bads ∙ it .bad; on = subst (TrackOn g) spares (it .on) })))
       (λ not-it.
       serves-later g ts t i n not-it ∙ serve-alike ts us (suc i) n (λ j less. same j (omega arith)) ∙
@@ -114,10 +114,10 @@ module _ (n : ℕ) (ts : List ℕ) (b s : ℕ) (room : n < 32) (long : length ts
           apart i j less (spare there is) (spare here js) same = omega arith
 
       -- The pair serves its bad track, and every other track is served as before.
-      pub serves-its-bad : served g (n + 1) (withPair n ts b s) b ≡ By (trackOf s)
+      pub serves-its-bad : served g (n + 1) (withPair n ts b s) b ≡ By (standsFor s)
       serves-its-bad =
           ap (served g (n + 1) (withPair n ts b s)) (sym its-bad) ∙
-          served-by-its-spare g (n + 1) (withPair n ts b s) stays-good n (omega arith) ∙ ap (λ (x : ℕ). By (trackOf x)) its-spare
+          served-by-its-spare g (n + 1) (withPair n ts b s) stays-good n (omega arith) ∙ ap (λ (x : ℕ). By (standsFor x)) its-spare
 
     pub others-as-before : (t : ℕ) → (t ≡ b → ⊥) → served g (n + 1) (withPair n ts b s) t ≡ served g n ts t
     others-as-before t other =

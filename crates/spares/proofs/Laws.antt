@@ -1,8 +1,8 @@
 -- What serves a track of a table, as the crates above may know it.
 -- The pairs are gone through from the first on, and one that serves a track ends the search.
-use Prim.Native.Nat.{ℕ, zero, suc, _+_, _-_, _*_, _≤_, _<_, min}
+use Prim.Native.Nat.{ℕ, zero, suc, _+_, _-_, _*_, _/_, _%_, _≤_, _<_, min}
 use mathlib.Core.List.{List}
-use mathlib.Core.Logic.{by-cases, if-neg, if-pos}
+use mathlib.Core.Logic.{_↔_, by-cases, if-neg, if-pos}
 use mathlib.Core.Path.{_≡_, refl, sym, ap, subst, _∙_}
 use native.Mathlib.Decide.{decLt}
 use native.Mathlib.Nat.{min-eq-left}
@@ -16,10 +16,10 @@ use Rattle.spares.specs.declared.Track.{Track}
 use Rattle.spares.specs.declared.Served.{Served}
 use Rattle.spares.specs.declared.Served.the-variants.{Itself, By}
 use Rattle.spares.specs.Table.{Good, Serves, badOf, landed, landsOn, served, servedFrom, serves?, spareOf}
-use Rattle.spares.specs.Tracks.{TrackOn, trackNumber, trackOf}
+use Rattle.spares.specs.Tracks.{TrackOn, trackNumber, standsFor}
 
 module _ (g : Geometry) (ts : List ℕ) (t : ℕ) where
-  pub serves-first : (i n : ℕ) → Serves g ts i t → servedFrom g ts i (suc n) t ≡ By (trackOf (spareOf ts i))
+  pub serves-first : (i n : ℕ) → Serves g ts i t → servedFrom g ts i (suc n) t ≡ By (standsFor (spareOf ts i))
   unfolding servedFrom
   serves-first i n it = if-pos (serves? g ts i t) it _ _
 
@@ -32,7 +32,7 @@ module _ (g : Geometry) (ts : List ℕ) (t : ℕ) where
   serves-none i = refl
 
   -- The same of the pairs from the i-th on that n leaves, as a search goes through them.
-  pub serves-here : (i n : ℕ) → i < n → Serves g ts i t → servedFrom g ts i (n - i) t ≡ By (trackOf (spareOf ts i))
+  pub serves-here : (i n : ℕ) → i < n → Serves g ts i t → servedFrom g ts i (n - i) t ≡ By (standsFor (spareOf ts i))
   serves-here i n less it =
       let more : n - i ≡ suc (n - (i + 1)) = omega arith in
       rw more (serves-first i (n - (i + 1)) it)
@@ -45,11 +45,11 @@ module _ (g : Geometry) (ts : List ℕ) (t : ℕ) where
 -- ---- what a search finds
 
 -- No pair from the i-th on serves the track, of n; or the j-th does, and none before it.
-data Found (g : Geometry) (ts : List ℕ) (t i n : ℕ) : Served → Type 0 where
-  none : ((j : ℕ) → i ≤ j → j < i + n → Serves g ts j t → ⊥) → Found g ts t i n Itself
+data Search (g : Geometry) (ts : List ℕ) (t i n : ℕ) : Served → Type 0 where
+  none : ((j : ℕ) → i ≤ j → j < i + n → Serves g ts j t → ⊥) → Search g ts t i n Itself
   first :
       (j : ℕ) → i ≤ j → j < i + n → Serves g ts j t → ((l : ℕ) → i ≤ l → l < j → Serves g ts l t → ⊥) →
-      Found g ts t i n (By (trackOf (spareOf ts j)))
+      Search g ts t i n (By (standsFor (spareOf ts j)))
 
 module _ (g : Geometry) (ts : List ℕ) (t : ℕ) where
   -- Where the i-th does not, those after it tell.
@@ -60,18 +60,18 @@ module _ (g : Geometry) (ts : List ℕ) (t : ℕ) where
       let same : j ≡ i = omega arith in
       not-it (subst (λ (x : ℕ). Serves g ts x t) same it))
 
-  widened : (i n : ℕ) {s : Served} → (Serves g ts i t → ⊥) → Found g ts t (suc i) n s → Found g ts t i (suc n) s
+  widened : (i n : ℕ) {s : Served} → (Serves g ts i t → ⊥) → Search g ts t (suc i) n s → Search g ts t i (suc n) s
   widened i n not-it (none nobody) = none (λ j from below it. later i j not-it (λ from-later. nobody j from-later (omega arith)) from it)
   widened i n not-it (first j from below it before) =
       first j (omega arith) (omega arith) it (λ l from-i less. later i l not-it (λ from-later. before l from-later less) from-i)
 
-  search : (i n : ℕ) → Found g ts t i n (servedFrom g ts i n t)
+  search : (i n : ℕ) → Search g ts t i n (servedFrom g ts i n t)
   unfolding servedFrom
   search i zero = none (λ j from below it. omega arith)
   search i (suc n) =
       by-cases (serves? g ts i t)
-      (λ it. subst (Found g ts t i (suc n)) (sym (serves-first g ts t i n it)) (first i (omega arith) (omega arith) it (λ l from below it. omega arith)))
-      (λ not-it. subst (Found g ts t i (suc n)) (sym (serves-later g ts t i n not-it)) (widened i n not-it (search (suc i) n)))
+      (λ it. subst (Search g ts t i (suc n)) (sym (serves-first g ts t i n it)) (first i (omega arith) (omega arith) it (λ l from below it. omega arith)))
+      (λ not-it. subst (Search g ts t i (suc n)) (sym (serves-later g ts t i n not-it)) (widened i n not-it (search (suc i) n)))
 
 -- ---- of a good table
 
@@ -80,8 +80,8 @@ module _ (g : Geometry) (n : ℕ) (ts : List ℕ) (good : Good g n ts) where
   all-count = min-eq-left (good .room)
 
   -- What serves a track, found among the pairs that there are.
-  finds : (t : ℕ) → Found g ts t 0 n (served g n ts t)
-  finds t = subst (λ (m : ℕ). Found g ts t 0 n (servedFrom g ts 0 m t)) (sym all-count) (search g ts t 0 n)
+  finds : (t : ℕ) → Search g ts t 0 n (served g n ts t)
+  finds t = subst (λ (m : ℕ). Search g ts t 0 n (servedFrom g ts 0 m t)) (sym all-count) (search g ts t 0 n)
 
   -- No track twice: two places that hold the same are one.
   pub one-place : (i j : ℕ) → i < 2 * n → j < 2 * n → getD ts i 0 ≡ getD ts j 0 → i ≡ j
@@ -93,21 +93,21 @@ module _ (g : Geometry) (n : ℕ) (ts : List ℕ) (good : Good g n ts) where
   pub pair-serves : (i : ℕ) → i < n → Serves g ts i (badOf ts i)
   pair-serves i less = record { bad = refl; on = good .on (2 * i + 1) (omega arith) }
 
-  pub served-by-its-spare : (i : ℕ) → i < n → served g n ts (badOf ts i) ≡ By (trackOf (spareOf ts i))
+  pub served-by-its-spare : (i : ℕ) → i < n → served g n ts (badOf ts i) ≡ By (standsFor (spareOf ts i))
   served-by-its-spare i less = by-find (finds (badOf ts i))
     where
-      by-find : {s : Served} → Found g ts (badOf ts i) 0 n s → s ≡ By (trackOf (spareOf ts i))
+      by-find : {s : Served} → Search g ts (badOf ts i) 0 n s → s ≡ By (standsFor (spareOf ts i))
       by-find (none nobody) = absurd (nobody i (omega arith) (omega arith) (pair-serves i less))
       by-find (first j from below it before) =
           let twice = one-place (2 * j) (2 * i) (omega arith) (omega arith) (it .bad) in
           let same : j ≡ i = omega arith in
-          ap (λ (x : ℕ). By (trackOf (spareOf ts x))) same
+          ap (λ (x : ℕ). By (standsFor (spareOf ts x))) same
 
-  -- "a spare is never itself mapped"
+  -- A spare is never itself mapped.
   pub spare-serves-itself : (i : ℕ) → i < n → served g n ts (spareOf ts i) ≡ Itself
   spare-serves-itself i less = by-find (finds (spareOf ts i))
     where
-      by-find : {s : Served} → Found g ts (spareOf ts i) 0 n s → s ≡ Itself
+      by-find : {s : Served} → Search g ts (spareOf ts i) 0 n s → s ≡ Itself
       by-find (none nobody) = refl
       by-find (first j from below it before) =
           let twice = one-place (2 * j) (2 * i + 1) (omega arith) (omega arith) (it .bad) in
@@ -115,18 +115,49 @@ module _ (g : Geometry) (n : ℕ) (ts : List ℕ) (good : Good g n ts) where
 
 -- ---- where a track lands
 
+-- A track that no pair has as bad serves itself, whatever else the table holds.
+pub serves-itself : (g : Geometry) (n : ℕ) (ts : List ℕ) (t : ℕ) → ((i : ℕ) → i < min n 32 → badOf ts i ≡ t → ⊥) → served g n ts t ≡ Itself
+serves-itself g n ts t nobody = by-find (search g ts t 0 (min n 32))
+  where
+    by-find : {s : Served} → Search g ts t 0 (min n 32) s → s ≡ Itself
+    by-find (none other) = refl
+    by-find (first j from below it before) = absurd (nobody j (omega arith) (it .bad))
+
 -- A spare that serves is on the drive, whatever the table.
 pub server-on-drive : (g : Geometry) (n : ℕ) (ts : List ℕ) (t : ℕ) (k : Track) → served g n ts t ≡ By k → (k .cylinder < C g) × (k .head < driveHeads g)
 server-on-drive g n ts t k is = by-find (search g ts t 0 (min n 32)) is
   where
-    by-find : {s : Served} → Found g ts t 0 (min n 32) s → s ≡ By k → (k .cylinder < C g) × (k .head < driveHeads g)
+    by-find : {s : Served} → Search g ts t 0 (min n 32) s → s ≡ By k → (k .cylinder < C g) × (k .head < driveHeads g)
     by-find (none nobody) same = absurd (never cc)
     by-find (first j from below it before) same =
-        let its : trackOf (spareOf ts j) ≡ k = cc in
+        let its : standsFor (spareOf ts j) ≡ k = cc in
         subst (λ (k : Track). (k .cylinder < C g) × (k .head < driveHeads g)) its (it .on .cylinder, it .on .head)
 
+-- A number stands for the track that it is the number of.
+pub stands-for-it : (c h : ℕ) → h < 256 → standsFor (trackNumber c h) ≡ record { cylinder = c; head = h }
+stands-for-it c h less =
+    let up : trackNumber c h / 65536 ≡ c = omega arith in
+    let down : trackNumber c h / 256 % 256 ≡ h = omega arith in
+    rw (up, down)
+
+-- The drive has the track with that number exactly where it has the cylinder and the head.
+pub on-drive-by-parts : (g : Geometry) (c h : ℕ) → h < 256 → TrackOn g (trackNumber c h) ↔ ((c < C g) × (h < driveHeads g))
+on-drive-by-parts g c h less =
+    let up : trackNumber c h / 65536 ≡ c = omega arith in
+    let down : trackNumber c h / 256 % 256 ≡ h = omega arith in (
+      λ on. (omega (arith, on .cylinder), omega (arith, on .head)),
+      λ parts. record { cylinder = omega arith; head = omega arith; last = omega arith },
+    )
+
+-- A table without pairs is good, and every track serves itself.
+pub empty-is-good : (g : Geometry) (ts : List ℕ) → Good g 0 ts
+empty-is-good g ts = record { room = omega arith; on = λ i less. absurd (omega arith); once = λ i j less j-in. absurd (omega arith) }
+
+pub empty-serves-itself : (g : Geometry) (ts : List ℕ) (t : ℕ) → served g 0 ts t ≡ Itself
+empty-serves-itself g ts t = serves-itself g 0 ts t (λ i less. omega arith)
+
 -- The number of the track that a number stands for is that number again, where the drive has it.
-pub number-again : (g : Geometry) (t : ℕ) → TrackOn g t → trackNumber (trackOf t .cylinder) (trackOf t .head) ≡ t
+pub number-again : (g : Geometry) (t : ℕ) → TrackOn g t → trackNumber (standsFor t .cylinder) (standsFor t .head) ≡ t
 number-again g t on = omega (arith, on .last)
 
 module _ (g : Geometry) (n : ℕ) (ts : List ℕ) (good : Good g n ts) where
@@ -138,7 +169,7 @@ module _ (g : Geometry) (n : ℕ) (ts : List ℕ) (good : Good g n ts) where
   lands : (t : ℕ) → Lands t (landsOn g n ts t)
   lands t = by-find (finds g n ts good t)
     where
-      by-find : {s : Served} → Found g ts t 0 n s → Lands t (landed t s)
+      by-find : {s : Served} → Search g ts t 0 n s → Lands t (landed t s)
       by-find (none nobody) =
           on-itself
           (λ i less is. nobody i (omega arith) (omega arith) (subst (Serves g ts i) is (pair-serves g n ts good i less)))
@@ -155,7 +186,8 @@ module _ (g : Geometry) (n : ℕ) (ts : List ℕ) (good : Good g n ts) where
           let twice = one-place g n ts good (2 * j + 1) (2 * i) (omega arith) (omega arith) same in
           omega arith
 
-  -- Two tracks that land on one, and of which neither serves as a spare, are one track: no two are ever folded together.
+  -- Two tracks that land on one, and of which neither serves as a spare, are one track: mapping folds no two of them together. A bad track and its
+  -- spare do meet.
   pub never-folded :
       (t u : ℕ) → ((i : ℕ) → i < n → spareOf ts i ≡ t → ⊥) → ((i : ℕ) → i < n → spareOf ts i ≡ u → ⊥) →
       landsOn g n ts t ≡ landsOn g n ts u → t ≡ u

@@ -9,9 +9,8 @@ use Rattle.spares.proofs.is_good.Reads as is-good
 use Rattle.spares.proofs.is_in.Reads as is-in
 use Rattle.spares.proofs.is_on_drive.Reads as is-on-drive
 use Rattle.spares.proofs.number.Reads as number
-use Rattle.spares.proofs.numbered.Reads as numbered
 use Rattle.spares.proofs.serving.Reads as serving
-use Rattle.spares.proofs.wide_number.Reads as wide-number
+use Rattle.spares.proofs.stands_for.Reads as stands-for
 
 add-once : OneOutcome add.Post (λ κ x e. now (e .0))
 add-once κ a x y e f p q = p ∙ sym q
@@ -28,11 +27,8 @@ is-on-drive-once κ a x y e f p q = says-once x y _ p q
 number-once : OneResult number.Post
 number-once κ a x y e f p q = p ∙ sym q
 
-numbered-once : OneResult numbered.Post
-numbered-once κ a x y e f p q = p ∙ sym q
-
 serving-once : OneResult serving.Post
 serving-once κ a x y e f p q = p ∙ sym q
 
-wide-number-once : OneResult wide-number.Post
-wide-number-once κ a x y e f p q = p ∙ sym q
+stands-for-once : OneResult stands-for.Post
+stands-for-once κ a x y e f p q = p ∙ sym q

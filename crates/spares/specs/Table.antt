@@ -9,7 +9,7 @@ use lib.ListN.{getD, set}
 use Rattle.geometry.specs.declared.Geometry.{Geometry}
 use Rattle.spares.specs.declared.Served.{Served}
 use Rattle.spares.specs.declared.Served.the-variants.{Itself, By}
-use Rattle.spares.specs.Tracks.{TrackOn, trackNumber, trackOf, trackOn?}
+use Rattle.spares.specs.Tracks.{TrackOn, trackNumber, standsFor, trackOn?}
 
 abbrev pub badOf : List ℕ → ℕ → ℕ
 badOf ts i = getD ts (2 * i) 0
@@ -17,7 +17,8 @@ badOf ts i = getD ts (2 * i) 0
 abbrev pub spareOf : List ℕ → ℕ → ℕ
 spareOf ts i = getD ts (2 * i + 1) 0
 
--- A table of n pairs is good, but not one with "over 32 pairs, a track outside the drive, or one track twice in the table".
+-- A table of n pairs is good: at most 32 pairs, every track of them on the drive, and none there twice. One that is not, with "over 32 pairs, a
+-- track outside the drive, or one track twice in the table", makes its record count as not initialized.
 pub record Good (g : Geometry) (n : ℕ) (ts : List ℕ) : Type 0 where
   pub room : n ≤ 32
   pub on : (i : ℕ) → i < 2 * n → TrackOn g (getD ts i 0)
@@ -29,7 +30,7 @@ pub record OneOf (m : ℕ) (ts : List ℕ) (t : ℕ) : Type 0 where
   pub less : at < m
   pub here : getD ts at 0 ≡ t
 
--- It is in the table, as bad or as spare: 22 asks that "either is in the table already".
+-- It is in the table, as bad or as spare: 22 is given where "either is in the table already".
 abbrev pub InTable : ℕ → List ℕ → ℕ → Type 0
 InTable n ts t = OneOf (2 * min n 32) ts t
 
@@ -42,14 +43,18 @@ pub serves? : (g : Geometry) (ts : List ℕ) (i t : ℕ) → Dec (Serves g ts i 
 serves? g ts i t =
     map-dec (λ d. record { bad = d .0; on = d .1 }) (λ s. (s .bad, s .on)) (Dec·and (ℕ-discrete (badOf ts i) t) (trackOn? g (spareOf ts i)))
 
--- What serves a track, of n pairs from the i-th on: "Every later command that lands on a bad track works on its spare". Of several pairs the
--- first does; where none does, it is the track itself.
+-- What serves a track, of n pairs from the i-th on: "Every later command that lands on a bad track works on its spare". It is the first pair that
+-- serves it; where none does, the track itself.
 unfoldable pub servedFrom : Geometry → List ℕ → (i n t : ℕ) → Served
 servedFrom g ts i zero t = Itself
-servedFrom g ts i (suc n) t = ite (serves? g ts i t) (By (trackOf (spareOf ts i))) (servedFrom g ts (suc i) n t)
+servedFrom g ts i (suc n) t = ite (serves? g ts i t) (By (standsFor (spareOf ts i))) (servedFrom g ts (suc i) n t)
 
 abbrev pub served : Geometry → ℕ → List ℕ → ℕ → Served
 served g n ts t = servedFrom g ts 0 (min n 32) t
+
+-- The same of a cylinder and a head. From head 256 on no number stands for a track, and no table has it.
+abbrev pub servedAt : Geometry → ℕ → List ℕ → ℕ → ℕ → Served
+servedAt g n ts c h = ite (decLt h 256) (served g n ts (trackNumber c h)) Itself
 
 -- The number of the track that a track lands on.
 abbrev pub landed : ℕ → Served → ℕ

@@ -7,12 +7,12 @@ use Rattle.geometry.specs.declared.Geometry.{Geometry}
 use Rattle.geometry.specs.Drive.{C, driveHeads}
 use Rattle.spares.specs.declared.Track.{Track}
 
--- The cylinder stands in the upper 16 bits, the head in the 8 bits below, and the last 8 bits are 0.
+-- The cylinder stands in the upper 16 bits, a head below 256 in the 8 bits after them, and the last 8 bits are 0.
 abbrev pub trackNumber : ℕ → ℕ → ℕ
 trackNumber c h = c * 65536 + h * 256
 
-abbrev pub trackOf : ℕ → Track
-trackOf t = record { cylinder = t / 65536; head = t / 256 % 256 }
+abbrev pub standsFor : ℕ → Track
+standsFor t = record { cylinder = t / 65536; head = t / 256 % 256 }
 
 -- The number of a track that the drive has; with last bits that are not 0 it is that of none.
 pub record TrackOn (g : Geometry) (t : ℕ) : Type 0 where

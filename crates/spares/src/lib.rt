@@ -5,8 +5,8 @@ use geometry::Geometry;
 ghost use mathlib.Core.Path.{_≡_};
 ghost use Prim.Native.Nat.{ℕ, _*_, _≤_, _<_, min};
 ghost use lib.ListN.{getD};
-ghost use Rattle.spares.specs.Table.{Good, InTable, OneOf, Serves, served, withPair};
-ghost use Rattle.spares.specs.Tracks.{TrackOn, trackNumber, trackOf};
+ghost use Rattle.spares.specs.Table.{Good, InTable, OneOf, Serves, served, servedAt, withPair};
+ghost use Rattle.spares.specs.Tracks.{TrackOn, trackNumber, standsFor};
 ghost use Rattle.wire.specs.Promise.{Says};
 
 // A track of the whole drive.
@@ -28,16 +28,9 @@ pub fn number(cylinder: u16, head: u8) -> u32
     (cylinder as u32) * 65536 + (head as u32) * 256
 }
 
-// The same of a head as wide as an address's, for which 32 bits are too few.
-pub fn wide_number(cylinder: u16, head: u16) -> u64
-    ensures { λ r. ⌜ r ≡ trackNumber cylinder head ⌝ }
-{
-    (cylinder as u64) * 65536 + (head as u64) * 256
-}
-
 // The track that a number stands for.
-pub fn numbered(t: u32) -> Track
-    ensures { λ r. ⌜ r ≡ trackOf t ⌝ }
+pub fn stands_for(t: u32) -> Track
+    ensures { λ r. ⌜ r ≡ standsFor t ⌝ }
 {
     Track {
         cylinder: (t / 65536) as u16,
@@ -49,7 +42,7 @@ pub fn numbered(t: u32) -> Track
 pub fn is_on_drive(g: Geometry, t: u32) -> bool
     ensures { λ r. ⌜ Says r (TrackOn g t) ⌝ }
 {
-    let k = numbered(t);
+    let k = stands_for(t);
     if g.cylinders() <= k.cylinder {
         return false;
     }
@@ -132,34 +125,38 @@ pub fn is_in(table: &[u32; 64], pairs: u16, t: u32) -> bool
     is_one_of(table, 2 * in_room(pairs), t)
 }
 
-fn wide(t: u32) -> u64
-    ensures { λ r. ⌜ r ≡ t ⌝ }
-{
-    t as u64
-}
-
 // Whether pair i of a table serves a track.
-fn serves(table: &[u32; 64], i: usize, g: Geometry, t: u64) -> bool
+fn serves(table: &[u32; 64], i: usize, g: Geometry, t: u32) -> bool
     requires { ⌜ i < 32 ⌝ }
     ensures { λ r. ⌜ Says r (Serves g (now (table .entry)) i t) ⌝ }
 {
-    if wide(table[2 * i]) != t {
+    if table[2 * i] != t {
         return false;
     }
     is_on_drive(g, table[2 * i + 1])
 }
 
-// What serves a track.
-pub fn serving(table: &[u32; 64], pairs: u16, g: Geometry, t: u64) -> Served
+// What serves the track with a number.
+fn server(table: &[u32; 64], pairs: u16, g: Geometry, t: u32) -> Served
     ensures { λ r. ⌜ r ≡ served g pairs (now (table .entry)) t ⌝ }
 {
     let n = in_room(pairs);
     let mut i = 0;
     while i < n {
         if serves(table, i, g, t) {
-            return Served::By(numbered(table[2 * i + 1]));
+            return Served::By(stands_for(table[2 * i + 1]));
         }
         i += 1;
+    }
+    Served::Itself
+}
+
+// What serves a track. A head that no number has is in no table.
+pub fn serving(table: &[u32; 64], pairs: u16, g: Geometry, cylinder: u16, head: u16) -> Served
+    ensures { λ r. ⌜ r ≡ servedAt g pairs (now (table .entry)) cylinder head ⌝ }
+{
+    if head < 256 {
+        return server(table, pairs, g, number(cylinder, head as u8));
     }
     Served::Itself
 }

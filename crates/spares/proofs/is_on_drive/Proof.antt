@@ -7,15 +7,15 @@ use borrow.Author.Needs.{needs}
 use Rattle.spares.proofs.is_on_drive.Statement.{statement}
 use Rattle.spares.proofs.is_on_drive.Tie as tie
 
-numbered-requires : tie.Need-numbered-requires
-numbered-requires c κs = search needs
+stands-for-requires : tie.Need-stands-for-requires
+stands-for-requires c κs = search needs
 
 cylinders-requires : tie.Need-cylinders-requires
 cylinders-requires c κs = search needs
 
 returns : tie.Need-returns
 returns c =
-    let k = c .before .before .before .numbered .ensures in
+    let k = c .before .before .before .stands-for .ensures in
     λ on. omega (arith, on .cylinder, ap (λ k. k .cylinder) k, c .before .before .cylinders .ensures)
 
 heads-requires : tie.Need-heads-requires
@@ -23,12 +23,12 @@ heads-requires c κs = search needs
 
 returns-2 : tie.Need-returns-2
 returns-2 c =
-    let k = c .before .before .before .before .before .before .numbered .ensures in
+    let k = c .before .before .before .before .before .before .stands-for .ensures in
     λ on. omega (arith, on .head, ap (λ k. k .head) k, c .before .before .heads .ensures)
 
 returns-3 : tie.Need-returns-3
 returns-3 c =
-    let k = c .before .before .before .before .before .before .numbered .ensures in
+    let k = c .before .before .before .before .before .before .stands-for .ensures in
     let t = c .before .before .before .before .before .before .before .args .t in
     says-eqb (t % 256) 0 _
     (λ last.
@@ -42,4 +42,4 @@ returns-3 c =
 pub is-on-drive-spec : {M : Type 1} → statement M
 is-on-drive-spec =
     tie.close
-    (tie.spec numbered-requires cylinders-requires returns heads-requires returns-2 returns-3)
+    (tie.spec stands-for-requires cylinders-requires returns heads-requires returns-2 returns-3)

@@ -1,21 +1,17 @@
 -- A pair with another bad track serves another, and one with this one goes by its spare.
-use mathlib.Core.Path.{sym, _∙_}
 use Rattle.wire.proofs.Promises.{says-same}
 use borrow.Author.Needs.{needs}
 use Rattle.spares.proofs.serves.Statement.{statement}
 use Rattle.spares.proofs.serves.Tie as tie
 
-mul-wide : tie.Need-mul-wide
-mul-wide c = search needs
+mul-if1 : tie.Need-mul-if1
+mul-if1 c = search needs
 
-mul-wide-2 : tie.Need-mul-wide-2
-mul-wide-2 c = search needs
+mul-if1-2 : tie.Need-mul-if1-2
+mul-if1-2 c = search needs
 
-element-copy-out-wide : tie.Need-element-copy-out-wide
-element-copy-out-wide c = search needs
-
-wide-requires : tie.Need-wide-requires
-wide-requires c κs = search needs
+element-copy-out-if1 : tie.Need-element-copy-out-if1
+element-copy-out-if1 c = search needs
 
 returns : tie.Need-returns
 returns c = search needs
@@ -37,17 +33,16 @@ is-on-drive-requires c κs = search needs
 
 returns-2 : tie.Need-returns-2
 returns-2 c =
-    says-same (c .is-on-drive .result) _ _ (λ on. record { bad = sym (c .before .before .before .wide .ensures) ∙ c .before .before .if1 .left; on = on })
+    says-same (c .is-on-drive .result) _ _ (λ on. record { bad = c .before .before .if1 .left; on = on })
     (λ it. it .on) (c .is-on-drive .ensures)
 
 pub serves-spec : {M : Type 1} → statement M
 serves-spec =
     tie.close
     (tie.spec
-    mul-wide
-    mul-wide-2
-    element-copy-out-wide
-    wide-requires
+    mul-if1
+    mul-if1-2
+    element-copy-out-if1
     returns
     mul-is-on-drive
     add-is-on-drive

@@ -1,97 +1,30 @@
--- No pair before the i-th serves the track, so that what serves it is what does of the pairs from there on.
-use Prim.Native.Nat.{ℕ, suc, _-_, _≤_}
-use mathlib.Core.Path.{_≡_, refl, sym, ap, _∙_}
-use native.Mathlib.Nat.{sub-zero}
-use native.Mathlib.Numerals.{add-one}
+-- A head below 256 has a number, and what serves that is looked for; any other is in no table.
+use mathlib.Core.Logic.{if-neg, if-pos}
+use mathlib.Core.Path.{sym, ap, _∙_}
+use native.Mathlib.Decide.{decLt}
 use native.Mathlib.Omega.{arith}
+use Rattle.spares.specs.Table.{served}
 use borrow.Author.Needs.{needs}
-use Rattle.wire.proofs.Promises.{says-no, says-yes}
-use Rattle.spares.specs.Table.{servedFrom}
-use Rattle.spares.proofs.Laws.{serves-here, serves-none, serves-on}
 use Rattle.spares.proofs.serving.Statement.{statement}
 use Rattle.spares.proofs.serving.Tie as tie
 
-abbrev Inv-loop : tie.InvT-loop
-Inv-loop table pairs g t n i₀ i = (i ≤ n) × (servedFrom g table 0 n t ≡ servedFrom g table i (n - i) t)
+cast-number : tie.Need-cast-number
+cast-number c = search needs
 
-abbrev μ-loop : tie.MeasureT-loop
-μ-loop table pairs g t n i₀ i = n - i
+number-requires : tie.Need-number-requires
+number-requires c κs = search needs
 
-in-room-requires : tie.Need-in-room-requires Inv-loop μ-loop
-in-room-requires c κs = search needs
+server-requires : tie.Need-server-requires
+server-requires c κs = search needs
 
-loop-holds : tie.Need-loop-holds Inv-loop μ-loop
-loop-holds c = (omega arith, rw sub-zero)
-
-serves-requires : tie.Need-serves-requires Inv-loop μ-loop
-serves-requires c κs = omega (arith, c .before .before .in-room .ensures)
-
-mul-numbered : tie.Need-mul-numbered Inv-loop μ-loop
-mul-numbered c = omega arith
-
-add-numbered : tie.Need-add-numbered Inv-loop μ-loop
-add-numbered c = omega arith
-
-mul-numbered-2 : tie.Need-mul-numbered-2 Inv-loop μ-loop
-mul-numbered-2 c = omega arith
-
-element-copy-out-numbered : tie.Need-element-copy-out-numbered Inv-loop μ-loop
-element-copy-out-numbered c = omega arith
-
-numbered-requires : tie.Need-numbered-requires Inv-loop μ-loop
-numbered-requires c κs = search needs
-
-returns : tie.Need-returns Inv-loop μ-loop
+returns : tie.Need-returns
 returns c =
-    let in-loop = c .before .before .before .before in
-    let a = in-loop .before .before .before .args in
-    let i = in-loop .before .loop .i in
-    let asked = c .before .before .before .serves in
-    let it = says-yes (asked .result) _ (c .before .before .if1 .taken) (asked .ensures) in
-    rw (c .numbered .ensures)
-    (sym (ap (λ (n : ℕ). servedFrom (a .g) (a .table .now) 0 n (a .t)) (sym (in-loop .before .before .in-room .ensures)) ∙
-    in-loop .before .loop .inv .1 ∙ serves-here (a .g) (a .table .now) (a .t) i _ (in-loop .loop-test .taken) it))
-
-add-i : tie.Need-add-i Inv-loop μ-loop
-add-i c = omega arith
-
-loop-less : tie.Need-loop-less Inv-loop μ-loop
-loop-less c = omega arith
-
-loop-again : tie.Need-loop-again Inv-loop μ-loop
-loop-again c =
-    let in-loop = c .before .before in
-    let a = in-loop .before .before .before .args in
-    let asked = c .before .serves in (
-      omega arith,
-      in-loop .before .loop .inv .1 ∙
-          serves-on (a .g) (a .table .now) (a .t) (in-loop .before .loop .i) _ (in-loop .loop-test .taken) (says-no (asked .result) _ (c .if1 .left) (asked .ensures)),
-    )
-
-returns-2 : tie.Need-returns-2 Inv-loop μ-loop
-returns-2 c =
     let a = c .before .before .before .args in
-    let n = c .before .before .in-room .result in
-    let none : n - c .before .loop .i ≡ 0 = omega arith in
-    sym (ap (λ (n : ℕ). servedFrom (a .g) (a .table .now) 0 n (a .t)) (sym (c .before .before .in-room .ensures)) ∙
-    c .before .loop .inv .1 ∙ rw none (serves-none (a .g) (a .table .now) (a .t) _))
+    c .server .ensures ∙ ap (served (a .g) (a .pairs) (a .table .now)) (c .before .number .ensures) ∙
+    sym (if-pos (decLt (a .head) 256) (c .before .before .if1 .taken) _ _)
+
+returns-2 : tie.Need-returns-2
+returns-2 c = sym (if-neg (decLt (c .before .args .head) 256) (λ less. omega arith) _ _)
 
 pub serving-spec : {M : Type 1} → statement M
-serving-spec =
-    tie.close
-    (tie.spec
-    Inv-loop
-    μ-loop
-    in-room-requires
-    loop-holds
-    serves-requires
-    mul-numbered
-    add-numbered
-    mul-numbered-2
-    element-copy-out-numbered
-    numbered-requires
-    returns
-    add-i
-    loop-less
-    loop-again
-    returns-2)
+serving-spec = tie.close (tie.spec cast-number number-requires server-requires returns returns-2)

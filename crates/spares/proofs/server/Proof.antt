@@ -1,0 +1,97 @@
+-- No pair before the i-th serves the track, so that what serves it is what does of the pairs from there on.
+use Prim.Native.Nat.{ℕ, suc, _-_, _≤_}
+use mathlib.Core.Path.{_≡_, refl, sym, ap, _∙_}
+use native.Mathlib.Nat.{sub-zero}
+use native.Mathlib.Numerals.{add-one}
+use native.Mathlib.Omega.{arith}
+use borrow.Author.Needs.{needs}
+use Rattle.wire.proofs.Promises.{says-no, says-yes}
+use Rattle.spares.specs.Table.{servedFrom}
+use Rattle.spares.proofs.Laws.{serves-here, serves-none, serves-on}
+use Rattle.spares.proofs.server.Statement.{statement}
+use Rattle.spares.proofs.server.Tie as tie
+
+abbrev Inv-loop : tie.InvT-loop
+Inv-loop table pairs g t n i₀ i = (i ≤ n) × (servedFrom g table 0 n t ≡ servedFrom g table i (n - i) t)
+
+abbrev μ-loop : tie.MeasureT-loop
+μ-loop table pairs g t n i₀ i = n - i
+
+in-room-requires : tie.Need-in-room-requires Inv-loop μ-loop
+in-room-requires c κs = search needs
+
+loop-holds : tie.Need-loop-holds Inv-loop μ-loop
+loop-holds c = (omega arith, rw sub-zero)
+
+serves-requires : tie.Need-serves-requires Inv-loop μ-loop
+serves-requires c κs = omega (arith, c .before .before .in-room .ensures)
+
+mul-stands-for : tie.Need-mul-stands-for Inv-loop μ-loop
+mul-stands-for c = omega arith
+
+add-stands-for : tie.Need-add-stands-for Inv-loop μ-loop
+add-stands-for c = omega arith
+
+mul-stands-for-2 : tie.Need-mul-stands-for-2 Inv-loop μ-loop
+mul-stands-for-2 c = omega arith
+
+element-copy-out-stands-for : tie.Need-element-copy-out-stands-for Inv-loop μ-loop
+element-copy-out-stands-for c = omega arith
+
+stands-for-requires : tie.Need-stands-for-requires Inv-loop μ-loop
+stands-for-requires c κs = search needs
+
+returns : tie.Need-returns Inv-loop μ-loop
+returns c =
+    let in-loop = c .before .before .before .before in
+    let a = in-loop .before .before .before .args in
+    let i = in-loop .before .loop .i in
+    let asked = c .before .before .before .serves in
+    let it = says-yes (asked .result) _ (c .before .before .if1 .taken) (asked .ensures) in
+    rw (c .stands-for .ensures)
+    (sym (ap (λ (n : ℕ). servedFrom (a .g) (a .table .now) 0 n (a .t)) (sym (in-loop .before .before .in-room .ensures)) ∙
+    in-loop .before .loop .inv .1 ∙ serves-here (a .g) (a .table .now) (a .t) i _ (in-loop .loop-test .taken) it))
+
+add-i : tie.Need-add-i Inv-loop μ-loop
+add-i c = omega arith
+
+loop-less : tie.Need-loop-less Inv-loop μ-loop
+loop-less c = omega arith
+
+loop-again : tie.Need-loop-again Inv-loop μ-loop
+loop-again c =
+    let in-loop = c .before .before in
+    let a = in-loop .before .before .before .args in
+    let asked = c .before .serves in (
+      omega arith,
+      in-loop .before .loop .inv .1 ∙
+          serves-on (a .g) (a .table .now) (a .t) (in-loop .before .loop .i) _ (in-loop .loop-test .taken) (says-no (asked .result) _ (c .if1 .left) (asked .ensures)),
+    )
+
+returns-2 : tie.Need-returns-2 Inv-loop μ-loop
+returns-2 c =
+    let a = c .before .before .before .args in
+    let n = c .before .before .in-room .result in
+    let none : n - c .before .loop .i ≡ 0 = omega arith in
+    sym (ap (λ (n : ℕ). servedFrom (a .g) (a .table .now) 0 n (a .t)) (sym (c .before .before .in-room .ensures)) ∙
+    c .before .loop .inv .1 ∙ rw none (serves-none (a .g) (a .table .now) (a .t) _))
+
+pub server-spec : {M : Type 1} → statement M
+server-spec =
+    tie.close
+    (tie.spec
+    Inv-loop
+    μ-loop
+    in-room-requires
+    loop-holds
+    serves-requires
+    mul-stands-for
+    add-stands-for
+    mul-stands-for-2
+    element-copy-out-stands-for
+    stands-for-requires
+    returns
+    add-i
+    loop-less
+    loop-again
+    returns-2)
