@@ -17,17 +17,19 @@ use Rattle.block.specs.Steps.{written}
 use Rattle.board.specs.Lent.{worldOf}
 use Rattle.abi.specs.Calls.{Lent, answered, called, calledOf, imageNumber, inspectedOf, inspection, lentOf, made, outcomeShort, record0Short, record1Short, recordLeft, worldIn}
 use Rattle.abi.specs.Layouts.{outcomeBytes, recordIn}
-use Rattle.unit.specs.Standing.{UnitRecord}
+use Rattle.board.specs.declared.Units.{Units}
+use Rattle.unit.specs.Standing.{byValue, noTracks, unitOf}
 
 -- A run that was made, from what the code ran and stored, and from what it read.
 pub answered-is :
-    (l : Lent) (e : Ending) {r : Outcome} {number : ℕ} {host image0 image1 events record0 record1 outcome : List ℕ} →
-    CameTo e (worldOf host image0 image1 events (r .units)) r →
-    record0 ≡ recordLeft (l .record0) (r .units .zero) →
-    record1 ≡ recordLeft (l .record1) (r .units .one) →
+    (l : Lent) (e : Ending) {r : Outcome} {number : ℕ} {host image0 image1 events tracks0 tracks1 record0 record1 outcome : List ℕ} →
+    CameTo e (worldOf host image0 image1 events tracks0 tracks1 (r .units)) r →
+    record0 ≡ recordLeft (l .record0) (unitOf (r .units .zero) noTracks) →
+    record1 ≡ recordLeft (l .record1) (unitOf (r .units .one) noTracks) →
     number ≡ runNumber (r .answer) →
     outcome ≡ written (l .outcome) 0 (outcomeBytes number (r .failed) (r .blocks) (r .sectors)) →
     calledOf number (lentOf host image0 image1 events record0 record1 outcome) ≡ answered l e
+unfolding recordLeft
 answered-is l e came left0 left1 is-number left =
     let on-host = ap (λ w. w .host) (came .world) in
     let on-image0 = ap (λ w. w .drive0 .image) (came .world) in
@@ -42,18 +44,18 @@ answered-is l e came left0 left1 is-number left =
     cc
 
 pub made-is :
-    (first allowance : ℕ) (l : Lent) {zero one : UnitRecord} {r : Outcome} {number : ℕ}
-    {host image0 image1 events record0 record1 outcome : List ℕ} →
-    zero ≡ recordIn (l .record0) →
-    one ≡ recordIn (l .record1) →
-    CameTo (ran first allowance (worldOf (l .host) (l .image0) (l .image1) (l .events) (record { zero = zero; one = one })))
-    (worldOf host image0 image1 events (r .units)) r →
-    record0 ≡ recordLeft (l .record0) (r .units .zero) →
-    record1 ≡ recordLeft (l .record1) (r .units .one) →
+    (first allowance : ℕ) (l : Lent) (units : Units) {r : Outcome} {number : ℕ}
+    {host image0 image1 events tracks0 tracks1 record0 record1 outcome : List ℕ} →
+    units .zero ≡ byValue (recordIn (l .record0)) →
+    units .one ≡ byValue (recordIn (l .record1)) →
+    CameTo (ran first allowance (worldOf (l .host) (l .image0) (l .image1) (l .events) noTracks noTracks units))
+    (worldOf host image0 image1 events tracks0 tracks1 (r .units)) r →
+    record0 ≡ recordLeft (l .record0) (unitOf (r .units .zero) noTracks) →
+    record1 ≡ recordLeft (l .record1) (unitOf (r .units .one) noTracks) →
     number ≡ runNumber (r .answer) →
     outcome ≡ written (l .outcome) 0 (outcomeBytes number (r .failed) (r .blocks) (r .sectors)) →
     calledOf number (lentOf host image0 image1 events record0 record1 outcome) ≡ made first allowance l
-made-is first allowance l is-zero is-one came left0 left1 is-number left =
+made-is first allowance l units is-zero is-one came left0 left1 is-number left =
     answered-is l (ran first allowance (worldIn l)) (rw (is-zero, is-one) at came) left0 left1 is-number left
 
 module _ (first allowance : ℕ) (l : Lent) where

@@ -2,11 +2,12 @@
 -- that is refused. A run keeps the record of a unit of which it writes none, and a record that is the same is left as it came.
 use Prim.Native.Nat.{ℕ}
 use mathlib.Core.Logic.{by-cases}
-use mathlib.Core.Path.{_≡_, refl, sym}
+use mathlib.Core.Path.{_≡_, refl, sym, ap}
 use native.Mathlib.Decide.{decLe}
 use native.Mathlib.Omega.{arith}
 use lib.ListN.{length}
 use Rattle.request.specs.declared.UnitNumber.the-variants.{Zero, One}
+use Rattle.unit.specs.Standing.{UnitRecord, byValue}
 use Rattle.demands.specs.Footprint.{RunWritesRecord}
 use Rattle.demands.proofs.Keeps.{run-keeps-record}
 use Rattle.abi.specs.Calls.{Called, Lent, called, calledOf, made, worldIn}
@@ -30,10 +31,10 @@ module _ (first allowance : ℕ) (l : Lent) where
       (RunWritesRecord first allowance (worldIn l) Zero → ⊥) → called first allowance l .lent .record0 ≡ l .record0
   record0-comes-back none =
       every-call (λ c. c .lent .record0 ≡ l .record0) (λ code. refl)
-      (left-as-it-came (l .record0) _ (sym (run-keeps-record first allowance (worldIn l) Zero none)))
+      (left-as-it-came (l .record0) _ (ap (λ (u : UnitRecord). byValue u) (sym (run-keeps-record first allowance (worldIn l) Zero none))))
 
   pub record1-comes-back :
       (RunWritesRecord first allowance (worldIn l) One → ⊥) → called first allowance l .lent .record1 ≡ l .record1
   record1-comes-back none =
       every-call (λ c. c .lent .record1 ≡ l .record1) (λ code. refl)
-      (left-as-it-came (l .record1) _ (sym (run-keeps-record first allowance (worldIn l) One none)))
+      (left-as-it-came (l .record1) _ (ap (λ (u : UnitRecord). byValue u) (sym (run-keeps-record first allowance (worldIn l) One none))))

@@ -9,7 +9,7 @@ use Rattle.answers.specs.Numbers.{runNumber}
 use Rattle.request.specs.declared.UnitNumber.{UnitNumber}
 use Rattle.request.specs.declared.UnitNumber.the-variants.{Zero, One}
 use Rattle.unit.proofs.Decided.{same?}
-use Rattle.unit.specs.Standing.{UnitRecord}
+use Rattle.unit.specs.Standing.{UnitRecord, byValue, table}
 use Rattle.board.specs.declared.inspection.Part.{Part}
 use Rattle.board.specs.Chain.{Ending, ran}
 use Rattle.board.specs.Inspection.{partOf}
@@ -61,12 +61,12 @@ outcomeShort = 0x1F3
 -- The world that the bytes stand for.
 abbrev pub worldIn : Lent → World
 worldIn l =
-    worldOf (l .host) (l .image0) (l .image1) (l .events)
-    (record { zero = recordIn (l .record0); one = recordIn (l .record1) })
+    worldOf (l .host) (l .image0) (l .image1) (l .events) (table (recordIn (l .record0))) (table (recordIn (l .record1)))
+    (record { zero = byValue (recordIn (l .record0)); one = byValue (recordIn (l .record1)) })
 
 -- A record's bytes after a run: stored anew where the record is another, and else left as they came, byte for byte.
 unfoldable pub recordLeft : List ℕ → UnitRecord → List ℕ
-recordLeft bytes u = ite (same? (recordIn bytes) u) bytes (written bytes 0 (recordBytes u))
+recordLeft bytes u = ite (same? (byValue (recordIn bytes)) (byValue u)) bytes (written bytes 0 (recordBytes u))
 
 -- A run that was made: its answer is returned, and the world that it leaves stands in the bytes.
 abbrev pub answered : Lent → Ending → Called

@@ -22,7 +22,7 @@ use Rattle.geometry.specs.declared.Geometry.{Geometry}
 use Rattle.geometry.specs.declared.Volume.{Volume}
 use Rattle.geometry.specs.declared.VolumeNumber.the-variants.{Zero, One}
 use Rattle.geometry.specs.Drive.{B, C, N, S, geometryOf, start, volume, volumeOf}
-use Rattle.unit.specs.Standing.{UnitRecord, cylinder, geometry, initialized, recordOf}
+use Rattle.unit.specs.Standing.{UnitRecord, cylinder, geometry, initialized, noTracks, recordOf}
 use Rattle.answers.specs.Numbers.{runNumber}
 use Rattle.board.specs.Chain.{Ending}
 use Rattle.block.specs.Events.{bigEndian}
@@ -45,9 +45,9 @@ abbrev pub geometryIn : List ℕ → Geometry
 geometryIn bytes =
     geometryOf (be16 bytes 4) (be16 bytes 6) (be16 bytes 8) (volumeIn bytes 10) (volumeIn bytes 12)
 
--- The record that stands in some bytes.
+-- The record that stands in some bytes. This version has no bytes for a table: no pair counts.
 abbrev pub recordIn : List ℕ → UnitRecord
-recordIn bytes = recordOf (saysInitialized bytes) (geometryIn bytes) (be16 bytes 14)
+recordIn bytes = recordOf (saysInitialized bytes) (geometryIn bytes) (be16 bytes 14) 0 noTracks
 
 abbrev pub twoBytes : ℕ → List ℕ
 twoBytes n = n / 256 % 256 ∷ n % 256 ∷ []

@@ -11,6 +11,7 @@ ghost use lib.ListN.{length};
 ghost use Rattle.abi.specs.Calls.{recordLeft};
 ghost use Rattle.abi.specs.Layouts.{geometryBytes, geometryIn, openingBytes, outcomeBytes, recordBytes, recordIn, volumeBytes, volumeIn};
 ghost use Rattle.block.specs.Steps.{written};
+ghost use Rattle.unit.specs.Standing.{byValue, noTracks, unitOf};
 
 fn volume(bytes: &[u8], at: usize) -> Volume
     requires { ⌜ at + 2 ≤ length (now bytes) ⌝ }
@@ -35,13 +36,14 @@ fn geometry(bytes: &[u8]) -> Geometry
 // The record that stands in some bytes.
 pub(crate) fn record(bytes: &[u8]) -> Record
     requires { ⌜ 16 ≤ length (now bytes) ⌝ }
-    ensures { λ r. ⌜ r ≡ recordIn (now (bytes .entry)) ⌝ }
+    ensures { λ r. ⌜ r ≡ byValue (recordIn (now (bytes .entry))) ⌝ }
 {
     let opening = wire::be32(bytes, 0);
     Record::new(
         opening == 0x0101_0010,
         geometry(bytes),
         wire::be16(bytes, 14),
+        0,
     )
 }
 
@@ -87,7 +89,7 @@ fn put_geometry(bytes: &mut [u8], g: Geometry)
 
 fn put_record(bytes: &mut [u8], u: Record)
     requires { ⌜ 16 ≤ length (now bytes) ⌝ }
-    ensures { λ _. ⌜ now (bytes .exit) ≡ written (now (bytes .entry)) 0 (recordBytes u) ⌝ }
+    ensures { λ _. ⌜ now (bytes .exit) ≡ written (now (bytes .entry)) 0 (recordBytes (unitOf u noTracks)) ⌝ }
 {
     put_opening(bytes, u.initialized());
     put_geometry(bytes, u.geometry());
@@ -97,7 +99,7 @@ fn put_record(bytes: &mut [u8], u: Record)
 // Stores a record where it is another than the one that stands there.
 pub(crate) fn leave_record(bytes: &mut [u8], u: Record)
     requires { ⌜ 16 ≤ length (now bytes) ⌝ }
-    ensures { λ _. ⌜ now (bytes .exit) ≡ recordLeft (now (bytes .entry)) u ⌝ }
+    ensures { λ _. ⌜ now (bytes .exit) ≡ recordLeft (now (bytes .entry)) (unitOf u noTracks) ⌝ }
 {
     if !record(bytes).same(u) {
         put_record(bytes, u);

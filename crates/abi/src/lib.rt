@@ -64,11 +64,15 @@ fn run(
 {
     let zero = layouts::record(record0);
     let one = layouts::record(record1);
+    let mut map0 = [0u32; 64];
+    let mut map1 = [0u32; 64];
     let done = board::run(
         host,
         image0,
         image1,
         events,
+        &mut map0,
+        &mut map1,
         Units { zero, one },
         first,
         allowance,
@@ -154,7 +158,8 @@ pub extern "C" fn vsmd_inspect(
     }
     let zero = layouts::record(record0);
     let one = layouts::record(record1);
-    let part = board::part_of(Units { zero, one }, long0, long1, unit, place);
+    let map = [0u32; 64];
+    let part = board::part_of(Units { zero, one }, &map, &map, long0, long1, unit, place);
     let which = part.unit;
     *image = image_number(which);
     *at = part.at;

@@ -2,10 +2,12 @@
 -- Bytes stored in a row are written into one buffer; rows follow one another.
 use Prim.Native.Nat.{ℕ, _+_, _*_}
 use mathlib.Core.List.{List, [], _∷_, _++_}
-use mathlib.Core.Path.{_≡_, sym, ap, _∙_}
+use mathlib.Core.Path.{_≡_, refl, sym, ap, _∙_}
 use lib.IntN.{ℤ}
 use Rattle.answers.specs.declared.BlockAnswer.{BlockAnswer}
 use Rattle.answers.specs.Numbers.{statusOf}
+use Rattle.judge.specs.declared.Leaving.{Leaving}
+use Rattle.judge.specs.declared.Leaving.the-variants.{AsItWas, HeadsAt, HeadsAtLastTried, Fresh}
 use Rattle.judge.specs.declared.Verdict.{Verdict}
 use Rattle.judge.specs.Verdict.{verdict}
 use Rattle.iopb.specs.Ask.{taskOf}
@@ -15,7 +17,8 @@ use Rattle.iopb.specs.Errors.{errorByte}
 use Rattle.transfer.specs.Stores.{Buffers, Store, after, bytesFrom, eventByte, hostByte}
 use Rattle.transfer.proofs.Stays.{event-bytes-stored, host-bytes-stored}
 use Rattle.transfer.proofs.Stores.{after-append}
-use Rattle.block.specs.Block.{asking, effectOn, finish, finished, judged}
+use Rattle.unit.specs.Standing.{UnitRecord, table}
+use Rattle.block.specs.Block.{asking, effectOn, finish, finished, judged, leftBy}
 use Rattle.block.specs.Events.{entry}
 use Rattle.block.specs.Steps.{three, written}
 use Rattle.block.specs.World.{Drive}
@@ -65,3 +68,10 @@ effect-judged host d at i b v is judgement = rw (← judgement, is)
 pub then-made :
     (ss ts : List Store) (m m′ m″ : Buffers) → m′ ≡ after ss m → m″ ≡ after ts m′ → m″ ≡ after (ss ++ ts) m
 then-made ss ts m m′ m″ one two = two ∙ ap (λ (x : Buffers). after ts x) one ∙ sym (after-append ss ts m)
+
+-- What a block leaves of a record has its table as it was.
+pub left-table : (u : UnitRecord) (moved : ℕ) (l : Leaving) → table (leftBy u moved l) ≡ table u
+left-table u moved AsItWas = refl
+left-table u moved (HeadsAt c) = refl
+left-table u moved (HeadsAtLastTried s) = refl
+left-table u moved (Fresh g) = refl

@@ -128,13 +128,13 @@ module _ (host : List ℕ) (at n bytes : ℕ) (good : ListGood host at n bytes) 
 module _ (host image : List ℕ) (u : UnitRecord) (j : Job) (good : JobGood u (length image) host j) where
   fits-with :
       (lengths addresses : List ℕ) → PiecesFit (length host) (j .span .count * B (geometry u)) lengths addresses →
-      SectorsFit u (j .span) lengths addresses (length host) (length image)
+      SectorsFit (geometry u) (j .span) lengths addresses (length host) (length image)
   fits-with lengths addresses pieces =
       record { some = good .span .some; inside = good .span .inside; pieces = pieces; held = good .long }
 
   pub piece-fits :
       (at : ℕ) → j .buffer ≡ Buffer.Piece at →
-      SectorsFit u (j .span) (j .span .count * B (geometry u) ∷ []) (at ∷ []) (length host) (length image)
+      SectorsFit (geometry u) (j .span) (j .span .count * B (geometry u) ∷ []) (at ∷ []) (length host) (length image)
   piece-fits at is = fits-with _ _ (one-piece-fits host at (j .span .count * B (geometry u)) (rw is at (good .buffer)))
 
   module _ (at n : ℕ) (is : j .buffer ≡ Buffer.List at n) where
@@ -146,7 +146,7 @@ module _ (host image : List ℕ) (u : UnitRecord) (j : Job) (good : JobGood u (l
     unfolding piecesOf
     copied-out = if-pos (listPlace? host at n) (record { most = list-good .most; place = list-good .place }) _ _
 
-    pub elements-fit : SectorsFit u (j .span) (take n (lengthsOf host at n)) (take n (addressesOf host at n)) (length host) (length image)
+    pub elements-fit : SectorsFit (geometry u) (j .span) (take n (lengthsOf host at n)) (take n (addressesOf host at n)) (length host) (length image)
     elements-fit = fits-with _ _ (list-fits host at n (j .span .count * B (geometry u)) list-good ((rw is at (good .buffer)) .1))
 
     pub slots-enough : (n ≤ length (lengthsOf host at n)) × (n ≤ length (addressesOf host at n))
@@ -155,6 +155,6 @@ module _ (host image : List ℕ) (u : UnitRecord) (j : Job) (good : JobGood u (l
 -- A track that fits.
 pub track-fits :
     (host : List ℕ) (image : ℕ) (u : UnitRecord) (spot : Spot) (at : ℕ) → TrackGood u image host spot at →
-    TrackFits u spot at (length host) image
+    TrackFits (geometry u) spot at (length host) image
 track-fits host image u spot at good =
     record { some = good .some; inside = good .track; memory = good .buffer .inside; held = good .long }

@@ -14,7 +14,7 @@ use Rattle.request.specs.declared.Buffer.the-variants.{Piece, List as Elements}
 use Rattle.request.specs.declared.Task.{Task}
 use Rattle.request.specs.declared.UnitNumber.{UnitNumber}
 use Rattle.unit.specs.Landing.{spotOf}
-use Rattle.unit.specs.Standing.{UnitRecord, cylinder, fresh, movedTo}
+use Rattle.unit.specs.Standing.{UnitRecord, cylinder, fresh, movedTo, table}
 use Rattle.transfer.specs.Data.{Transfer, dataOn, formatting, moving, progressOn}
 use Rattle.transfer.specs.Pieces.{joined}
 use Rattle.transfer.specs.Progress.{lastTried}
@@ -95,13 +95,13 @@ leftBy u moved AsItWas = u
 leftBy u moved (HeadsAt c) = movedTo u c
 leftBy u moved (HeadsAtLastTried s) =
     movedTo u (spotOf u (s .volume) (s .first + lastTried moved (s .count)) .cylinder)
-leftBy u moved (Fresh g) = fresh g
+leftBy u moved (Fresh g) = fresh g (table u)
 
 -- "Travel is the new cylinder minus the old one, and zero for 86, 87"
-abbrev pub travelled : UnitRecord → Leaving → UnitRecord → ℤ
+abbrev pub travelled : (old : ℕ) → Leaving → (new : ℕ) → ℤ
 travelled old AsItWas new = pos 0
-travelled old (HeadsAt c) new = travelTo (cylinder old) (cylinder new)
-travelled old (HeadsAtLastTried s) new = travelTo (cylinder old) (cylinder new)
+travelled old (HeadsAt c) new = travelTo old new
+travelled old (HeadsAtLastTried s) new = travelTo old new
 travelled old (Fresh g) new = pos 0
 
 -- "status 81 and error 00 are stored in the block; then the transfer happens"; the words that are reported come after it.
@@ -121,7 +121,7 @@ performed host d at plan =
       unit = unit;
       answer = p .answer;
       sectors = p .sectors;
-      travel = travelled (d .unit) (plan .leaving) unit;
+      travel = travelled (cylinder (d .unit)) (plan .leaving) (cylinder unit);
     }
 
 -- "For 10 to 19 only the block's word 1 and its event entry change"; travel is "zero for .. a block refused before transfer".

@@ -15,7 +15,7 @@ use Rattle.block.specs.declared.Done.{Done}
 use Rattle.block.specs.declared.Performed.{Performed}
 use Rattle.block.specs.Block.{Effect, Performance, begun, performed, transferOf}
 use Rattle.block.specs.World.{Drive}
-use Rattle.unit.specs.Standing.{UnitRecord}
+use Rattle.unit.specs.Standing.{UnitRecord, byValue, geometry, table}
 
 -- Bytes once some numbers are stored in them one after the other, from an index on.
 unfoldable pub written : List ℕ → ℕ → List ℕ → List ℕ
@@ -40,8 +40,8 @@ Stores ss host image host′ image′ = (events : List ℕ) → three host′ im
 -- What is to be moved fits, to or from these pieces.
 abbrev pub Ready : UnitRecord → Moving → (lengths addresses : List ℕ) → (long image : ℕ) → Type 0
 Ready u Nothing lengths addresses long image = Unit {0}
-Ready u (Sectors j) lengths addresses long image = SectorsFit u (j .span) lengths addresses long image
-Ready u (Track spot at) lengths addresses long image = TrackFits u spot at long image
+Ready u (Sectors j) lengths addresses long image = SectorsFit (geometry u) (j .span) lengths addresses long image
+Ready u (Track spot at) lengths addresses long image = TrackFits (geometry u) spot at long image
 
 -- A block was marked as running and a transfer made: what it came to, and every byte.
 pub record Made (t : Transfer) (at : ℕ) (host image host′ image′ : List ℕ) (m : Moved) : Type 0 where
@@ -55,16 +55,18 @@ pub record Carries (host : List ℕ) (d : Drive) (at : ℕ) (plan : Plan) (host�
 
 -- A block was performed.
 abbrev pub performedOf : Performance → Performed
-performedOf p = record { unit = p .unit; answer = p .answer; sectors = p .sectors; travel = p .travel }
+performedOf p = record { unit = byValue (p .unit); answer = p .answer; sectors = p .sectors; travel = p .travel }
 
-pub record Performs (p : Performance) (host image host′ image′ : List ℕ) (d : Performed) : Type 0 where
+pub record Performs (p : Performance) (host image host′ image′ ts′ : List ℕ) (d : Performed) : Type 0 where
   pub result : d ≡ performedOf p
+  pub table : ts′ ≡ table (p .unit)
   pub stored : Stores (p .stores) host image host′ image′
 
 abbrev pub doneOf : Effect → Done
-doneOf e = record { unit = e .unit; answer = e .answer; sectors = e .sectors }
+doneOf e = record { unit = byValue (e .unit); answer = e .answer; sectors = e .sectors }
 
--- A block's effect is what was done: what is returned, and every byte.
-pub record Did (e : Effect) (m m′ : Buffers) (d : Done) : Type 0 where
+-- A block's effect is what was done: what is returned, the table, and every byte.
+pub record Did (e : Effect) (m m′ : Buffers) (ts′ : List ℕ) (d : Done) : Type 0 where
   pub result : d ≡ doneOf e
+  pub table : ts′ ≡ table (e .unit)
   pub stored : m′ ≡ after (e .stores) m

@@ -35,7 +35,7 @@ ghost use Rattle.transfer.specs.Progress.{lastTried};
 ghost use Rattle.transfer.specs.Runs.{pieceByte};
 ghost use Rattle.transfer.specs.Stores.{after};
 ghost use Rattle.unit.specs.Landing.{spotOf};
-ghost use Rattle.unit.specs.Standing.{geometry};
+ghost use Rattle.unit.specs.Standing.{bare, byValue, cylinder, geometry, unitOf};
 
 mod events;
 
@@ -100,13 +100,14 @@ fn begin(
     host: &mut [u8],
     image: &mut [u8],
     u: Record,
+    table: &[u32; 64],
     at: usize,
     moving: Moving,
     lengths: &[u32],
     addresses: &[u32],
 ) -> Moved
-    requires { ⌜ (at + 28 ≤ length (now host)) × Ready u moving (now lengths) (now addresses) (length (now host)) (length (now image)) ⌝ }
-    ensures { λ m. ⌜ Made (transferWith u moving (pieceByte (now (lengths .entry)) (now (addresses .entry)))) at (now (host .entry)) (now (image .entry)) (now (host .exit)) (now (image .exit)) m ⌝ }
+    requires { ⌜ (at + 28 ≤ length (now host)) × Ready (unitOf u (now table)) moving (now lengths) (now addresses) (length (now host)) (length (now image)) ⌝ }
+    ensures { λ m. ⌜ Made (transferWith (unitOf u (now (table .entry))) moving (pieceByte (now (lengths .entry)) (now (addresses .entry)))) at (now (host .entry)) (now (image .entry)) (now (host .exit)) (now (image .exit)) m ⌝ }
 {
     put_status(host, at, 0x81, 0x00);
     match moving {
@@ -120,6 +121,7 @@ fn begin(
                 host,
                 image,
                 u,
+                table,
                 span,
                 job.to_host,
                 job.past_marks,
@@ -132,14 +134,14 @@ fn begin(
 }
 
 fn sector_bytes(u: Record) -> u32
-    ensures { λ r. ⌜ (r ≡ B (geometry u)) × (r < 65536) ⌝ }
+    ensures { λ r. ⌜ (r ≡ B (geometry (bare u))) × (r < 65536) ⌝ }
 {
     u.geometry().bytes_a_sector() as u32
 }
 
 // The bytes of a job's sectors, all in one piece: an element's byte count would be too narrow for them.
 fn job_bytes(u: Record, span: Span) -> u32
-    ensures { λ r. ⌜ r ≡ span .count * B (geometry u) ⌝ }
+    ensures { λ r. ⌜ r ≡ span .count * B (geometry (bare u)) ⌝ }
 {
     (span.count as u32) * sector_bytes(u)
 }
@@ -149,12 +151,13 @@ fn in_one_piece(
     host: &mut [u8],
     image: &mut [u8],
     u: Record,
+    table: &[u32; 64],
     at: usize,
     job: Job,
     address: u32,
 ) -> Moved
-    requires { ⌜ (at + 28 ≤ length (now host)) × ((job .buffer ≡ Buffer.Piece address) × JobGood u (length (now image)) (now host) job) ⌝ }
-    ensures { λ m. ⌜ Made (transferOf (now (host .entry)) u (Moving.Sectors job)) at (now (host .entry)) (now (image .entry)) (now (host .exit)) (now (image .exit)) m ⌝ }
+    requires { ⌜ (at + 28 ≤ length (now host)) × ((job .buffer ≡ Buffer.Piece address) × JobGood (unitOf u (now table)) (length (now image)) (now host) job) ⌝ }
+    ensures { λ m. ⌜ Made (transferOf (now (host .entry)) (unitOf u (now (table .entry))) (Moving.Sectors job)) at (now (host .entry)) (now (image .entry)) (now (host .exit)) (now (image .exit)) m ⌝ }
 {
     let span = job.span;
     let lengths = [job_bytes(u, span)];
@@ -163,6 +166,7 @@ fn in_one_piece(
         host,
         image,
         u,
+        table,
         at,
         Moving::Sectors(job),
         &lengths,
@@ -175,13 +179,14 @@ fn through_list(
     host: &mut [u8],
     image: &mut [u8],
     u: Record,
+    table: &[u32; 64],
     at: usize,
     job: Job,
     address: u32,
     elements: u8,
 ) -> Moved
-    requires { ⌜ (at + 28 ≤ length (now host)) × ((job .buffer ≡ Buffer.List address elements) × JobGood u (length (now image)) (now host) job) ⌝ }
-    ensures { λ m. ⌜ Made (transferOf (now (host .entry)) u (Moving.Sectors job)) at (now (host .entry)) (now (image .entry)) (now (host .exit)) (now (image .exit)) m ⌝ }
+    requires { ⌜ (at + 28 ≤ length (now host)) × ((job .buffer ≡ Buffer.List address elements) × JobGood (unitOf u (now table)) (length (now image)) (now host) job) ⌝ }
+    ensures { λ m. ⌜ Made (transferOf (now (host .entry)) (unitOf u (now (table .entry))) (Moving.Sectors job)) at (now (host .entry)) (now (image .entry)) (now (host .exit)) (now (image .exit)) m ⌝ }
 {
     let pieces = memory::copy_out(host, address, elements);
     let n = elements as usize;
@@ -191,6 +196,7 @@ fn through_list(
         host,
         image,
         u,
+        table,
         at,
         Moving::Sectors(job),
         &lengths[..n],
@@ -198,17 +204,25 @@ fn through_list(
     )
 }
 
-fn carry_job(host: &mut [u8], image: &mut [u8], u: Record, at: usize, job: Job) -> Moved
-    requires { ⌜ (at + 28 ≤ length (now host)) × JobGood u (length (now image)) (now host) job ⌝ }
-    ensures { λ m. ⌜ Made (transferOf (now (host .entry)) u (Moving.Sectors job)) at (now (host .entry)) (now (image .entry)) (now (host .exit)) (now (image .exit)) m ⌝ }
+fn carry_job(
+    host: &mut [u8],
+    image: &mut [u8],
+    u: Record,
+    table: &[u32; 64],
+    at: usize,
+    job: Job,
+) -> Moved
+    requires { ⌜ (at + 28 ≤ length (now host)) × JobGood (unitOf u (now table)) (length (now image)) (now host) job ⌝ }
+    ensures { λ m. ⌜ Made (transferOf (now (host .entry)) (unitOf u (now (table .entry))) (Moving.Sectors job)) at (now (host .entry)) (now (image .entry)) (now (host .exit)) (now (image .exit)) m ⌝ }
 {
     let buffer = job.buffer;
     match buffer {
-        Buffer::Piece(address) => in_one_piece(host, image, u, at, job, address),
+        Buffer::Piece(address) => in_one_piece(host, image, u, table, at, job, address),
         Buffer::List { at: list, elements } => through_list(
             host,
             image,
             u,
+            table,
             at,
             job,
             list,
@@ -218,23 +232,37 @@ fn carry_job(host: &mut [u8], image: &mut [u8], u: Record, at: usize, job: Job) 
 }
 
 // What needs no pieces: nothing to be moved, or a track, which is told by an address.
-fn without_pieces(host: &mut [u8], image: &mut [u8], u: Record, at: usize, moving: Moving) -> Moved
-    requires { ⌜ (at + 28 ≤ length (now host)) × Ready u moving (0 ∷ []) (0 ∷ []) (length (now host)) (length (now image)) ⌝ }
-    ensures { λ m. ⌜ Made (transferWith u moving (pieceByte (0 ∷ []) (0 ∷ []))) at (now (host .entry)) (now (image .entry)) (now (host .exit)) (now (image .exit)) m ⌝ }
+fn without_pieces(
+    host: &mut [u8],
+    image: &mut [u8],
+    u: Record,
+    table: &[u32; 64],
+    at: usize,
+    moving: Moving,
+) -> Moved
+    requires { ⌜ (at + 28 ≤ length (now host)) × Ready (unitOf u (now table)) moving (0 ∷ []) (0 ∷ []) (length (now host)) (length (now image)) ⌝ }
+    ensures { λ m. ⌜ Made (transferWith (unitOf u (now (table .entry))) moving (pieceByte (0 ∷ []) (0 ∷ []))) at (now (host .entry)) (now (image .entry)) (now (host .exit)) (now (image .exit)) m ⌝ }
 {
     let none = [0u32];
-    begin(host, image, u, at, moving, &none, &none)
+    begin(host, image, u, table, at, moving, &none, &none)
 }
 
 // Finds the pieces of what is to be moved, marks the block, and moves it.
-fn carry(host: &mut [u8], image: &mut [u8], u: Record, at: usize, moving: Moving) -> Moved
-    requires { ⌜ (at + 28 ≤ length (now host)) × MovingFits u (length (now image)) (now host) moving ⌝ }
-    ensures { λ m. ⌜ Made (transferOf (now (host .entry)) u moving) at (now (host .entry)) (now (image .entry)) (now (host .exit)) (now (image .exit)) m ⌝ }
+fn carry(
+    host: &mut [u8],
+    image: &mut [u8],
+    u: Record,
+    table: &[u32; 64],
+    at: usize,
+    moving: Moving,
+) -> Moved
+    requires { ⌜ (at + 28 ≤ length (now host)) × MovingFits (unitOf u (now table)) (length (now image)) (now host) moving ⌝ }
+    ensures { λ m. ⌜ Made (transferOf (now (host .entry)) (unitOf u (now (table .entry))) moving) at (now (host .entry)) (now (image .entry)) (now (host .exit)) (now (image .exit)) m ⌝ }
 {
     match moving {
-        Moving::Nothing => without_pieces(host, image, u, at, moving),
-        Moving::Sectors(job) => carry_job(host, image, u, at, job),
-        Moving::Track(_, _) => without_pieces(host, image, u, at, moving),
+        Moving::Nothing => without_pieces(host, image, u, table, at, moving),
+        Moving::Sectors(job) => carry_job(host, image, u, table, at, job),
+        Moving::Track(_, _) => without_pieces(host, image, u, table, at, moving),
     }
 }
 
@@ -245,36 +273,36 @@ fn lesser(a: u16, b: u16) -> u16
 }
 
 // The cylinder of the last sector tried of a span, of which so many sectors came.
-fn last_tried(u: Record, span: Span, sectors: u16) -> u16
-    requires { ⌜ SpanGood u span ⌝ }
-    ensures { λ r. ⌜ r ≡ spotOf u (span .volume) (span .first + lastTried sectors (span .count)) .cylinder ⌝ }
+fn last_tried(u: Record, table: &[u32; 64], span: Span, sectors: u16) -> u16
+    requires { ⌜ SpanGood (unitOf u (now table)) span ⌝ }
+    ensures { λ r. ⌜ r ≡ spotOf (unitOf u (now (table .entry))) (span .volume) (span .first + lastTried sectors (span .count)) .cylinder ⌝ }
 {
     let volume = span.volume;
     // a volume's sectors are counted in 64 bits, so the sum below is too
     let _all = u.geometry().volume_sectors(volume);
     let last = lesser(sectors, span.count - 1) as u64;
-    let Landing::At(spot) = u.land(volume, span.first + last) else {
+    let Landing::At(spot) = u.land(table, volume, span.first + last) else {
         return 0;
     };
     spot.cylinder
 }
 
 // The unit's record once so many sectors are moved.
-fn left(u: Record, leaving: Leaving, sectors: u16) -> Record
-    requires { ⌜ LeavingFits u leaving ⌝ }
-    ensures { λ r. ⌜ r ≡ leftBy u sectors leaving ⌝ }
+fn left(u: Record, table: &[u32; 64], leaving: Leaving, sectors: u16) -> Record
+    requires { ⌜ LeavingFits (unitOf u (now table)) leaving ⌝ }
+    ensures { λ r. ⌜ r ≡ byValue (leftBy (unitOf u (now (table .entry))) sectors leaving) ⌝ }
 {
     match leaving {
         Leaving::AsItWas => u,
         Leaving::HeadsAt(cylinder) => u.moved_to(cylinder),
-        Leaving::HeadsAtLastTried(span) => u.moved_to(last_tried(u, span, sectors)),
+        Leaving::HeadsAtLastTried(span) => u.moved_to(last_tried(u, table, span, sectors)),
         Leaving::Fresh(g) => Record::fresh(g),
     }
 }
 
 // How far the heads went: a new record's are where they are.
 fn gone(u: Record, leaving: Leaving, new: Record) -> i32
-    ensures { λ r. ⌜ r ≡ travelled u leaving new ⌝ }
+    ensures { λ r. ⌜ r ≡ travelled (cylinder (bare u)) leaving (cylinder (bare new)) ⌝ }
 {
     match leaving {
         Leaving::AsItWas => 0,
@@ -285,25 +313,39 @@ fn gone(u: Record, leaving: Leaving, new: Record) -> i32
 }
 
 // The stores of an accepted block in their order: the mark and what is moved, and then what is reported.
-fn carry_and_report(host: &mut [u8], image: &mut [u8], u: Record, at: usize, plan: Plan) -> Moved
-    requires { ⌜ (at + 28 ≤ length (now host)) × PlanFits u (length (now image)) (now host) plan ⌝ }
-    ensures { λ m. ⌜ Carries (now (host .entry)) (driveWith u (now (image .entry))) at plan (now (host .exit)) (now (image .exit)) m ⌝ }
+fn carry_and_report(
+    host: &mut [u8],
+    image: &mut [u8],
+    u: Record,
+    table: &[u32; 64],
+    at: usize,
+    plan: Plan,
+) -> Moved
+    requires { ⌜ (at + 28 ≤ length (now host)) × PlanFits (unitOf u (now table)) (length (now image)) (now host) plan ⌝ }
+    ensures { λ m. ⌜ Carries (now (host .entry)) (driveWith (unitOf u (now (table .entry))) (now (image .entry))) at plan (now (host .exit)) (now (image .exit)) m ⌝ }
 {
     let moving = plan.moving;
     let report = plan.report;
-    let m = carry(host, image, u, at, moving);
+    let m = carry(host, image, u, table, at, moving);
     put_report(host, at, report);
     m
 }
 
 // What an accepted block does: it knows no events, and not how many blocks came before.
-fn perform(host: &mut [u8], image: &mut [u8], u: Record, at: usize, plan: Plan) -> Performed
-    requires { ⌜ (at + 28 ≤ length (now host)) × PlanFits u (length (now image)) (now host) plan ⌝ }
-    ensures { λ p. ⌜ Performs (performed (now (host .entry)) (driveWith u (now (image .entry))) at plan) (now (host .entry)) (now (image .entry)) (now (host .exit)) (now (image .exit)) p ⌝ }
+fn perform(
+    host: &mut [u8],
+    image: &mut [u8],
+    u: Record,
+    table: &mut [u32; 64],
+    at: usize,
+    plan: Plan,
+) -> Performed
+    requires { ⌜ (at + 28 ≤ length (now host)) × PlanFits (unitOf u (now table)) (length (now image)) (now host) plan ⌝ }
+    ensures { λ p. ⌜ Performs (performed (now (host .entry)) (driveWith (unitOf u (now (table .entry))) (now (image .entry))) at plan) (now (host .entry)) (now (image .entry)) (now (host .exit)) (now (image .exit)) (now (table .exit)) p ⌝ }
 {
     let leaving = plan.leaving;
-    let m = carry_and_report(host, image, u, at, plan);
-    let unit = left(u, leaving, m.sectors);
+    let m = carry_and_report(host, image, u, table, at, plan);
+    let unit = left(u, table, leaving, m.sectors);
     let answer = m.answer;
     Performed {
         unit,
@@ -315,7 +357,7 @@ fn perform(host: &mut [u8], image: &mut [u8], u: Record, at: usize, plan: Plan) 
 
 // A block that is refused before a transfer.
 fn refuse(u: Record, r: Refusal) -> Performed
-    ensures { λ p. ⌜ p ≡ performedOf (refused (driveWith u []) r) ⌝ }
+    ensures { λ p. ⌜ p ≡ performedOf (refused (driveWith (bare u) []) r) ⌝ }
 {
     Performed {
         unit: u,
@@ -348,21 +390,22 @@ pub fn run_block(
     image: &mut [u8],
     events: &mut [u8],
     u: Record,
+    table: &mut [u32; 64],
     b: Block,
     at: usize,
     i: usize,
 ) -> Done
     requires { ⌜ Room (now host) (now events) at i × (b ≡ blockAt (now host) at) ⌝ }
-    ensures { λ d. ⌜ Did (effectOn (now (host .entry)) (driveWith u (now (image .entry))) at i) (three (now (host .entry)) (now (image .entry)) (now (events .entry))) (three (now (host .exit)) (now (image .exit)) (now (events .exit))) d ⌝ }
+    ensures { λ d. ⌜ Did (effectOn (now (host .entry)) (driveWith (unitOf u (now (table .entry))) (now (image .entry))) at i) (three (now (host .entry)) (now (image .entry)) (now (events .entry))) (three (now (host .exit)) (now (image .exit)) (now (events .exit))) (now (table .exit)) d ⌝ }
 {
     let standing = Standing {
         record: u,
         image: image.len(),
     };
-    match judge::judge(iopb::request(b, host), standing, host) {
+    match judge::judge(iopb::request(b, host), standing, table, host) {
         Verdict::Refused(r) => finish(host, events, b, at, i, refuse(u, r)),
         Verdict::Do(plan) => {
-            let p = perform(host, image, u, at, plan);
+            let p = perform(host, image, u, table, at, plan);
             finish(host, events, b, at, i, p)
         }
     }

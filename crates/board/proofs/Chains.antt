@@ -13,7 +13,7 @@ use Rattle.answers.specs.declared.RunAnswer.{RunAnswer}
 use Rattle.answers.specs.Numbers.{refusalNumber}
 use Rattle.wire.specs.Memory.{InMemory, inMemory?}
 use Rattle.iopb.specs.declared.Block.{Block}
-use Rattle.iopb.specs.Ask.{unitOf}
+use Rattle.iopb.specs.Ask as ask
 use Rattle.iopb.specs.Layout.{blockAt}
 use Rattle.request.specs.declared.UnitNumber.{UnitNumber}
 use Rattle.transfer.specs.Stores.{Buffers}
@@ -26,6 +26,7 @@ use Rattle.block.specs.Block.{effectAt, effectOn, unitAt, worldAfter}
 use Rattle.board.specs.Chain.{Ending, Tally, ends, executed, fetched}
 use Rattle.board.specs.Steps.{CameTo, Spare, SteppedTo, countedOf, endedOf, tallyOf}
 use Rattle.block.specs.Steps.{Did}
+use Rattle.unit.specs.Standing.{unitOf}
 use Rattle.block.specs.World.{World, buffersOf, changed, driveOf}
 use Rattle.board.specs.Lent.{worldOf}
 
@@ -40,12 +41,12 @@ module _ (w : World) (at i : ℕ) (n : UnitNumber) (named : unitAt w at ≡ n) w
   effect-named = ap (λ (x : UnitNumber). effectOn (w .host) (driveOf w x) at i) named
 
   step-made :
-      (m : Buffers) (d : Done) (units : Units) →
-      Did (effectOn (w .host) (driveOf w n) at i) (buffersOf w n) m d →
-      SteppedTo w at i (changed w n m (d .unit)) (steppedOf (blockAt (w .host) at) d units)
+      (m : Buffers) (ts : List ℕ) (d : Done) (units : Units) →
+      Did (effectOn (w .host) (driveOf w n) at i) (buffersOf w n) m ts d →
+      SteppedTo w at i (changed w n m (unitOf (d .unit) ts)) (steppedOf (blockAt (w .host) at) d units)
   unfolding worldAfter
-  step-made m d units did =
-      rw (did .result, did .stored)
+  step-made m ts d units did =
+      rw (did .result, did .table, did .stored)
       (record {
         world = rw (effect-named, named);
         answer = rw effect-named;
@@ -56,12 +57,12 @@ module _ (w : World) (at i : ℕ) (n : UnitNumber) (named : unitAt w at ≡ n) w
 
 -- The same with the block as it was read and the unit as it was told: it is the unit of the block's request.
 pub step-by :
-    (w : World) (at i : ℕ) (b : Block) (x n : UnitNumber) → b ≡ blockAt (w .host) at → x ≡ unitOf b → x ≡ n →
-    (m : Buffers) (d : Done) (units : Units) → Did (effectOn (w .host) (driveOf w n) at i) (buffersOf w n) m d →
-    SteppedTo w at i (changed w n m (d .unit)) (steppedOf b d units)
-step-by w at i b x n read asks is m d units did =
-    let named : unitAt w at ≡ n = ap unitOf (sym read) ∙ sym asks ∙ is in
-    rw read (step-made w at i n named m d units did)
+    (w : World) (at i : ℕ) (b : Block) (x n : UnitNumber) → b ≡ blockAt (w .host) at → x ≡ ask.unitOf b → x ≡ n →
+    (m : Buffers) (ts : List ℕ) (d : Done) (units : Units) → Did (effectOn (w .host) (driveOf w n) at i) (buffersOf w n) m ts d →
+    SteppedTo w at i (changed w n m (unitOf (d .unit) ts)) (steppedOf b d units)
+step-by w at i b x n read asks is m ts d units did =
+    let named : unitAt w at ≡ n = ap ask.unitOf (sym read) ∙ sym asks ∙ is in
+    rw read (step-made w at i n named m ts d units did)
 
 -- ---- what follows a block
 
@@ -106,10 +107,10 @@ module _ (left : ℕ) (t : Tally) (at : ℕ) (w : World) (some : 0 < left) where
 -- ---- an end
 
 pub came-to :
-    (answer : RunAnswer) (failed : ℕ) (count : Count) (units : Units) (host image0 image1 events : List ℕ) (e : Ending) →
-    e ≡ ends answer failed (tallyOf count) (worldOf host image0 image1 events units) →
-    CameTo e (worldOf host image0 image1 events units) (endedOf answer failed count units)
-came-to answer failed count units host image0 image1 events e is = rw is (record { result = refl; world = refl })
+    (answer : RunAnswer) (failed : ℕ) (count : Count) (units : Units) (host image0 image1 events tracks0 tracks1 : List ℕ) (e : Ending) →
+    e ≡ ends answer failed (tallyOf count) (worldOf host image0 image1 events tracks0 tracks1 units) →
+    CameTo e (worldOf host image0 image1 events tracks0 tracks1 units) (endedOf answer failed count units)
+came-to answer failed count units host image0 image1 events tracks0 tracks1 e is = rw is (record { result = refl; world = refl })
 
 -- An end that is another's.
 pub came-the-same : (e f : Ending) (w : World) (r : Outcome) → e ≡ f → CameTo f w r → CameTo e w r

@@ -7,6 +7,7 @@ use Rattle.wire.specs.Memory.{InMemory}
 use Rattle.answers.specs.declared.RunAnswer.{RunAnswer}
 use Rattle.iopb.specs.Layout.{blockAt}
 use Rattle.block.specs.Block.{effectAt, worldAfter}
+use Rattle.unit.specs.Standing.{byValue}
 use Rattle.block.specs.World.{World}
 use Rattle.board.specs.declared.Units.{Units}
 use Rattle.board.specs.declared.chain.Count.{Count}
@@ -33,7 +34,7 @@ outcomeOf e =
       failed = e .failed;
       blocks = e .tally .blocks;
       sectors = e .tally .sectors;
-      units = record { zero = e .world .drive0 .unit; one = e .world .drive1 .unit };
+      units = record { zero = byValue (e .world .drive0 .unit); one = byValue (e .world .drive1 .unit) };
     }
 
 pub record CameTo (e : Ending) (w : World) (r : Outcome) : Type 0 where
@@ -64,9 +65,9 @@ pub record Fetchable (w : World) (at i : ℕ) : Type 0 where
   pub place : InMemory (w .host) at 28
   pub entry : 8 * i + 8 ≤ length (w .events)
 
-abbrev pub RanOne : World → ℕ → ℕ → (host image0 image1 events : List ℕ) → Single → Type 0
-RanOne w at i host image0 image1 events (Ran s) =
-    Fetchable w at i × SteppedTo w at i (worldOf host image0 image1 events (s .units)) s
-RanOne w at i host image0 image1 events NoRoom =
+abbrev pub RanOne : World → ℕ → ℕ → (host image0 image1 events tracks0 tracks1 : List ℕ) → Single → Type 0
+RanOne w at i host image0 image1 events tracks0 tracks1 (Ran s) =
+    Fetchable w at i × SteppedTo w at i (worldOf host image0 image1 events tracks0 tracks1 (s .units)) s
+RanOne w at i host image0 image1 events tracks0 tracks1 NoRoom =
     (Fetchable w at i → ⊥) ×
-    (worldOf host image0 image1 events (record { zero = w .drive0 .unit; one = w .drive1 .unit }) ≡ w)
+    (worldOf host image0 image1 events tracks0 tracks1 (record { zero = byValue (w .drive0 .unit); one = byValue (w .drive1 .unit) }) ≡ w)

@@ -49,12 +49,14 @@ pub(crate) fn step(
     image0: &mut [u8],
     image1: &mut [u8],
     events: &mut [u8],
+    map0: &mut [u32; 64],
+    map1: &mut [u32; 64],
     units: Units,
     at: usize,
     i: usize,
 ) -> Stepped
     requires { ⌜ Room (now host) (now events) at i ⌝ }
-    ensures { λ s. ⌜ SteppedTo (worldOf (now (host .entry)) (now (image0 .entry)) (now (image1 .entry)) (now (events .entry)) units) at i (worldOf (now (host .exit)) (now (image0 .exit)) (now (image1 .exit)) (now (events .exit)) (s .units)) s ⌝ }
+    ensures { λ s. ⌜ SteppedTo (worldOf (now (host .entry)) (now (image0 .entry)) (now (image1 .entry)) (now (events .entry)) (now (map0 .entry)) (now (map1 .entry)) units) at i (worldOf (now (host .exit)) (now (image0 .exit)) (now (image1 .exit)) (now (events .exit)) (now (map0 .exit)) (now (map1 .exit)) (s .units)) s ⌝ }
 {
     let b = Block::read(host, at);
     let options = b.options;
@@ -62,7 +64,7 @@ pub(crate) fn step(
     let one = units.one;
     match iopb::unit(b) {
         UnitNumber::Zero => {
-            let done = run_block(host, image0, events, zero, b, at, i);
+            let done = run_block(host, image0, events, zero, map0, b, at, i);
             let unit = done.unit;
             let answer = done.answer;
             Stepped {
@@ -74,7 +76,7 @@ pub(crate) fn step(
             }
         }
         UnitNumber::One => {
-            let done = run_block(host, image1, events, one, b, at, i);
+            let done = run_block(host, image1, events, one, map1, b, at, i);
             let unit = done.unit;
             let answer = done.answer;
             Stepped {
@@ -120,13 +122,15 @@ fn fetch(
     image0: &mut [u8],
     image1: &mut [u8],
     events: &mut [u8],
+    map0: &mut [u32; 64],
+    map1: &mut [u32; 64],
     units: Units,
     at: u32,
     left: u32,
     count: Count,
 ) -> Outcome
     requires { ⌜ Spare (now events) left (tallyOf count) ⌝ }
-    ensures { λ r. ⌜ CameTo (fetched left (tallyOf count) at (worldOf (now (host .entry)) (now (image0 .entry)) (now (image1 .entry)) (now (events .entry)) units)) (worldOf (now (host .exit)) (now (image0 .exit)) (now (image1 .exit)) (now (events .exit)) (r .units)) r ⌝ }
+    ensures { λ r. ⌜ CameTo (fetched left (tallyOf count) at (worldOf (now (host .entry)) (now (image0 .entry)) (now (image1 .entry)) (now (events .entry)) (now (map0 .entry)) (now (map1 .entry)) units)) (worldOf (now (host .exit)) (now (image0 .exit)) (now (image1 .exit)) (now (events .exit)) (now (map0 .exit)) (now (map1 .exit)) (r .units)) r ⌝ }
 {
     if left == 0 {
         return ended(RunAnswer::AllowanceSpent, 0, count, units);
@@ -134,7 +138,18 @@ fn fetch(
     if !holds_block(host, at) {
         return ended(RunAnswer::LinkBad, 0, count, units);
     }
-    execute(host, image0, image1, events, units, at, left - 1, count)
+    execute(
+        host,
+        image0,
+        image1,
+        events,
+        map0,
+        map1,
+        units,
+        at,
+        left - 1,
+        count,
+    )
 }
 
 // A block that ended with a link leads to the next fetch. The link of a failed block is not followed.
@@ -143,19 +158,23 @@ fn execute(
     image0: &mut [u8],
     image1: &mut [u8],
     events: &mut [u8],
+    map0: &mut [u32; 64],
+    map1: &mut [u32; 64],
     units: Units,
     at: u32,
     left: u32,
     count: Count,
 ) -> Outcome
     requires { ⌜ InMemory (now host) at 28 × Spare (now events) (left + 1) (tallyOf count) ⌝ }
-    ensures { λ r. ⌜ CameTo (executed (fetched left) (tallyOf count) at (worldOf (now (host .entry)) (now (image0 .entry)) (now (image1 .entry)) (now (events .entry)) units)) (worldOf (now (host .exit)) (now (image0 .exit)) (now (image1 .exit)) (now (events .exit)) (r .units)) r ⌝ }
+    ensures { λ r. ⌜ CameTo (executed (fetched left) (tallyOf count) at (worldOf (now (host .entry)) (now (image0 .entry)) (now (image1 .entry)) (now (events .entry)) (now (map0 .entry)) (now (map1 .entry)) units)) (worldOf (now (host .exit)) (now (image0 .exit)) (now (image1 .exit)) (now (events .exit)) (now (map0 .exit)) (now (map1 .exit)) (r .units)) r ⌝ }
 {
     let s = step(
         host,
         image0,
         image1,
         events,
+        map0,
+        map1,
         units,
         at as usize,
         count.blocks as usize,
@@ -167,7 +186,18 @@ fn execute(
         BlockAnswer::Failed(r) => failed(r, count, units),
         BlockAnswer::Ended => {
             if s.linked {
-                fetch(host, image0, image1, events, units, s.link, left, count)
+                fetch(
+                    host,
+                    image0,
+                    image1,
+                    events,
+                    map0,
+                    map1,
+                    units,
+                    s.link,
+                    left,
+                    count,
+                )
             } else {
                 ended(RunAnswer::Done, 0, count, units)
             }
@@ -217,11 +247,13 @@ pub fn run(
     image0: &mut [u8],
     image1: &mut [u8],
     events: &mut [u8],
+    map0: &mut [u32; 64],
+    map1: &mut [u32; 64],
     units: Units,
     first: u32,
     allowance: u32,
 ) -> Outcome
-    ensures { λ r. ⌜ CameTo (ran first allowance (worldOf (now (host .entry)) (now (image0 .entry)) (now (image1 .entry)) (now (events .entry)) units)) (worldOf (now (host .exit)) (now (image0 .exit)) (now (image1 .exit)) (now (events .exit)) (r .units)) r ⌝ }
+    ensures { λ r. ⌜ CameTo (ran first allowance (worldOf (now (host .entry)) (now (image0 .entry)) (now (image1 .entry)) (now (events .entry)) (now (map0 .entry)) (now (map1 .entry)) units)) (worldOf (now (host .exit)) (now (image0 .exit)) (now (image1 .exit)) (now (events .exit)) (now (map0 .exit)) (now (map1 .exit)) (r .units)) r ⌝ }
 {
     if !holds_entries(events) {
         return ended(RunAnswer::EventsShort, 0, nothing(), units);
@@ -237,6 +269,8 @@ pub fn run(
         image0,
         image1,
         events,
+        map0,
+        map1,
         units,
         first,
         allowance,
@@ -256,11 +290,13 @@ pub fn run_one(
     image0: &mut [u8],
     image1: &mut [u8],
     events: &mut [u8],
+    map0: &mut [u32; 64],
+    map1: &mut [u32; 64],
     units: Units,
     at: u32,
     i: u32,
 ) -> Single
-    ensures { λ r. ⌜ RanOne (worldOf (now (host .entry)) (now (image0 .entry)) (now (image1 .entry)) (now (events .entry)) units) at i (now (host .exit)) (now (image0 .exit)) (now (image1 .exit)) (now (events .exit)) r ⌝ }
+    ensures { λ r. ⌜ RanOne (worldOf (now (host .entry)) (now (image0 .entry)) (now (image1 .entry)) (now (events .entry)) (now (map0 .entry)) (now (map1 .entry)) units) at i (now (host .exit)) (now (image0 .exit)) (now (image1 .exit)) (now (events .exit)) (now (map0 .exit)) (now (map1 .exit)) r ⌝ }
 {
     if !holds_block(host, at) {
         return Single::NoRoom;
@@ -268,5 +304,15 @@ pub fn run_one(
     if (events.len() as u64) < 8 * (i as u64) + 8 {
         return Single::NoRoom;
     }
-    Single::Ran(step(host, image0, image1, events, units, at as usize, i as usize))
+    Single::Ran(step(
+        host,
+        image0,
+        image1,
+        events,
+        map0,
+        map1,
+        units,
+        at as usize,
+        i as usize,
+    ))
 }

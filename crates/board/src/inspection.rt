@@ -6,6 +6,7 @@ use unit::Record;
 ghost use mathlib.Core.Path.{_≡_};
 ghost use lib.ListN.{length};
 ghost use Rattle.board.specs.Inspection.{bytesOf, noPart, partOf, sectorPart};
+ghost use Rattle.unit.specs.Standing.{unitOf};
 
 // A part of a unit's image: so many bytes, from the byte `at` on.
 pub struct Part {
@@ -26,10 +27,10 @@ fn no_part() -> Part
 }
 
 // The sector at a place of one unit, whose image is so long.
-fn sector_part(unit: UnitNumber, u: Record, long: usize, place: u64) -> Part
-    ensures { λ r. ⌜ r ≡ sectorPart unit u long place ⌝ }
+fn sector_part(unit: UnitNumber, u: Record, table: &[u32; 64], long: usize, place: u64) -> Part
+    ensures { λ r. ⌜ r ≡ sectorPart unit (unitOf u (now (table .entry))) long place ⌝ }
 {
-    if !u.counts_as_initialized() {
+    if !u.counts_as_initialized(table) {
         return no_part();
     }
     let g = u.geometry();
@@ -50,12 +51,20 @@ fn sector_part(unit: UnitNumber, u: Record, long: usize, place: u64) -> Part
 }
 
 // Which part of which image an inspection hands back.
-pub fn part_of(units: Units, long0: usize, long1: usize, unit: u32, place: u64) -> Part
-    ensures { λ r. ⌜ r ≡ partOf (units .zero) (units .one) long0 long1 unit place ⌝ }
+pub fn part_of(
+    units: Units,
+    map0: &[u32; 64],
+    map1: &[u32; 64],
+    long0: usize,
+    long1: usize,
+    unit: u32,
+    place: u64,
+) -> Part
+    ensures { λ r. ⌜ r ≡ partOf (unitOf (units .zero) (now (map0 .entry))) (unitOf (units .one) (now (map1 .entry))) long0 long1 unit place ⌝ }
 {
     match unit {
-        0 => sector_part(UnitNumber::Zero, units.zero, long0, place),
-        1 => sector_part(UnitNumber::One, units.one, long1, place),
+        0 => sector_part(UnitNumber::Zero, units.zero, map0, long0, place),
+        1 => sector_part(UnitNumber::One, units.one, map1, long1, place),
         _ => no_part(),
     }
 }
@@ -65,14 +74,16 @@ pub fn inspect<'a>(
     image0: &'a [u8],
     image1: &'a [u8],
     units: Units,
+    map0: &[u32; 64],
+    map1: &[u32; 64],
     unit: u32,
     place: u64,
 ) -> &'a [u8]
     ensures { λ r. ⌜ now r ≡
         bytesOf (now (image0 .entry)) (now (image1 .entry))
-        (partOf (units .zero) (units .one) (length (now (image0 .entry))) (length (now (image1 .entry))) unit place) ⌝ }
+        (partOf (unitOf (units .zero) (now (map0 .entry))) (unitOf (units .one) (now (map1 .entry))) (length (now (image0 .entry))) (length (now (image1 .entry))) unit place) ⌝ }
 {
-    let part = part_of(units, image0.len(), image1.len(), unit, place);
+    let part = part_of(units, map0, map1, image0.len(), image1.len(), unit, place);
     let at = part.at;
     let end = at + part.bytes;
     let unit = part.unit;

@@ -39,7 +39,7 @@ module _ (v : Visit) where
   below u new counts inside =
       travel-in-range (cylinder u) new (omega (arith, counts .cylinder, counts .within .sizes .cylinders)) (omega (arith, counts .within .sizes .cylinders))
 
-  in-range : (u : UnitRecord) (moved : ℕ) (l : Leaving) → LeavingFits u l → InRange (travelled u l (leftBy u moved l))
+  in-range : (u : UnitRecord) (moved : ℕ) (l : Leaving) → LeavingFits u l → InRange (travelled (cylinder u) l (cylinder (leftBy u moved l)))
   in-range u moved AsItWas fits = nowhere
   in-range u moved (HeadsAt c) fits = below u c (fits .0) (fits .1)
   in-range u moved (HeadsAtLastTried s) fits =

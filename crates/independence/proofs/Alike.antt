@@ -31,6 +31,7 @@ use Rattle.judge.proofs.Locality.{block-local}
 use Rattle.transfer.specs.Data.{Transfer, dataOn, progressOn}
 use Rattle.transfer.proofs.Joined.{joined-same}
 use Rattle.block.specs.Block.{Performance, asking, begun, bufferOf, dataByte, finished, judged, leftBy, reported, transferOf, transferWith, travelled}
+use Rattle.unit.specs.Standing.{cylinder}
 use Rattle.block.specs.World.{Drive, World, driveOf}
 use Rattle.demands.specs.Footprint.{askedOf, movingOf, namedDrive, names, transferBy, verdictOf}
 use Rattle.demands.specs.Visits.{Visit, blockOf, effectOf}
@@ -151,7 +152,7 @@ module _
           unit = unit;
           answer = q .answer;
           sectors = q .sectors;
-          travel = travelled (d .unit) (p .leaving) unit;
+          travel = travelled (cylinder (d .unit)) (p .leaving) (cylinder unit);
         })
         (ap (transferWith (d .unit) (p .moving)) (data-alike (Do p) is))
 

@@ -8,7 +8,7 @@ use Rattle.request.specs.declared.Buffer.the-variants.{List as Elements}
 use Rattle.request.specs.declared.Task.{Task}
 use Rattle.request.specs.declared.Task.the-variants.{Handshake, Format}
 use Rattle.request.specs.declared.Track.{Track}
-use Rattle.unit.specs.Standing.{geometry}
+use Rattle.unit.specs.Standing.{byValue, geometry, table}
 use Rattle.judge.specs.declared.Job.{Job}
 use Rattle.judge.specs.declared.Plan.{Plan}
 use Rattle.judge.specs.declared.Leaving.{Leaving}
@@ -67,7 +67,7 @@ pub handshake-reports :
     (a : Asked) → a .task ≡ Handshake → verdict a ≡ Verdict.Do (plan Moving.Nothing Report.Identity Leaving.AsItWas)
 handshake-reports a is =
     subst (λ (t : Task). verdict (on (a .unit) (a .image) t (a .host)) ≡ Verdict.Do (plan Moving.Nothing Report.Identity Leaving.AsItWas)) (sym is)
-    (handshake (record { «record» = a .unit; image = a .image }) (a .host))
+    (handshake (record { «record» = byValue (a .unit); image = a .image }) (table (a .unit)) (a .host))
 
 pub format-reports :
     (a : Asked) (k : Track) (p : Plan) → a .task ≡ Format k → verdict a ≡ Verdict.Do p → p .report ≡ Formatted (S (geometry (a .unit)))

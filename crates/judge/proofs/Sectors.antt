@@ -13,7 +13,7 @@ use Rattle.geometry.specs.Sectors.{firstByte, markByte}
 use Rattle.geometry.proofs.Laws.{sector-in-image}
 use Rattle.unit.specs.Landing.{spotOf}
 use Rattle.unit.proofs.Laws.{spot-inside}
-use Rattle.unit.specs.Standing.{UnitRecord, geometry}
+use Rattle.unit.specs.Standing.{UnitRecord, geometry, unitOf}
 use Rattle.request.specs.declared.Move.{Move}
 use Rattle.request.specs.declared.Task.{Task}
 use Rattle.judge.specs.declared.Standing.{Standing}
@@ -28,32 +28,35 @@ pub record Reachable (u : UnitRecord) (image : ℕ) (v : VolumeNumber) (n : ℕ)
   pub bytes : firstByte (geometry u) (spotOf u v n .place) + B (geometry u) ≤ image
   pub mark : markByte (geometry u) (spotOf u v n .place) < image
 
-module _ (m : Move) (s : Standing) (host : List ℕ) where
+module _ (m : Move) (s : Standing) (ts host : List ℕ) where
+  abbrev u : UnitRecord
+  u = unitOf (s .record) ts
+
   abbrev v : VolumeNumber
   v = m .target .volume
 
   abbrev begin : Number
-  begin = beginsAt (s .record) (m .target)
+  begin = beginsAt u (m .target)
 
   pub sectors-reachable :
-      None (beforeBuffer (asked (Task.Move m) s host) m) →
-      (n : ℕ) × ((begin ≡ Is n) × ((j : ℕ) → j < m .count → Reachable (s .record) (s .image) v (n + j)))
+      None (beforeBuffer (asked (Task.Move m) s ts host) m) →
+      (n : ℕ) × ((begin ≡ Is n) × ((j : ℕ) → j < m .count → Reachable u (s .image) v (n + j)))
   unfolding None
   sectors-reachable (initialized, (present, (some, (inside, (long, rest))))) =
-      by-number begin refl (by-cases (covers? (s .record) v begin (m .count)) (λ c. c) (λ out. absurd (inside out)))
+      by-number begin refl (by-cases (covers? u v begin (m .count)) (λ c. c) (λ out. absurd (inside out)))
     where
       by-number :
-          (x : Number) → begin ≡ x → Covers (s .record) v x (m .count) →
-          (n : ℕ) × ((begin ≡ Is n) × ((j : ℕ) → j < m .count → Reachable (s .record) (s .image) v (n + j)))
+          (x : Number) → begin ≡ x → Covers u v x (m .count) →
+          (n : ℕ) × ((begin ≡ Is n) × ((j : ℕ) → j < m .count → Reachable u (s .image) v (n + j)))
       by-number Outside is covers = absurd covers
       by-number (Is n) is covers = (
         n,
         (
           is,
           λ j j<.
-              let within : n + j < volumeSectors (geometry (s .record)) v = omega arith in
-              let spot = spot-inside (s .record) v (n + j) within in
-              let image = sector-in-image (geometry (s .record)) (s .image) (spotOf (s .record) v (n + j) .place) (omega (arith, long)) (omega arith) in
+              let within : n + j < volumeSectors (geometry u) v = omega arith in
+              let spot = spot-inside u v (n + j) within in
+              let image = sector-in-image (geometry u) (s .image) (spotOf u v (n + j) .place) (omega (arith, long)) (omega arith) in
               record { in-volume = within; bytes = image .0; mark = image .1 },
         ),
       )

@@ -29,8 +29,8 @@ both true false h = absurd h
 both false b h = absurd h
 
 -- "Commands": of each row, those of the listed commands that are asked a check with its answer are the row's.
-module _ (b : Block) (s : Standing) (host : List ℕ) where
-  pub rows-are-the-papers : computed (answersTo b s host) rows ≡ columns rows
+module _ (b : Block) (s : Standing) (ts host : List ℕ) where
+  pub rows-are-the-papers : computed (answersTo b s ts host) rows ≡ columns rows
   unfolding taskOf
   rows-are-the-papers = refl
 
@@ -56,11 +56,11 @@ no-task c ((code, t) ∷ ts) none = by-test (no-task c ts) (eqb c code) none
     by-test rest false none = rest none
 
 pub every-other-is-10 :
-    (b : Block) (s : Standing) (host : List ℕ) → T (not (oneOf (b .command) listed)) →
-    verdict (asked (taskOf host b) s host) ≡ Verdict.Refused Refusal.CommandUnknown
+    (b : Block) (s : Standing) (ts host : List ℕ) → T (not (oneOf (b .command) listed)) →
+    verdict (asked (taskOf host b) s ts host) ≡ Verdict.Refused Refusal.CommandUnknown
 unfolding taskOf
-every-other-is-10 b s host none =
-    ap (λ (t : Task). verdict (asked t s host)) (no-task (b .command) (tasks host b) none) ∙ unknown s host
+every-other-is-10 b s ts host none =
+    ap (λ (t : Task). verdict (asked t s ts host)) (no-task (b .command) (tasks host b) none) ∙ unknown s ts host
 
 -- Only the plan of 86 has the identity to report, and only that of 8C a number of sectors; every other command's reports nothing.
 abbrev identifies : Report → Bool

@@ -17,7 +17,7 @@ use Rattle.request.specs.declared.Target.{Target}
 use Rattle.request.specs.declared.Task.{Task}
 use Rattle.request.specs.declared.Track.{Track}
 use Rattle.unit.specs.Landing.{spotOf}
-use Rattle.unit.specs.Standing.{CountsAsInitialized, UnitRecord, geometry}
+use Rattle.unit.specs.Standing.{CountsAsInitialized, UnitRecord, geometry, unitOf}
 use Rattle.memory.specs.Lists.{ListGood, Ranges}
 use Rattle.wire.specs.Memory.{InMemory}
 use Rattle.judge.specs.declared.Leaving.{Leaving}
@@ -32,46 +32,46 @@ use Rattle.judge.specs.Verdict.{byItsOwn, fromAddress, fromBuffer, fromD
 use Rattle.judge.proofs.EachTask.{passes-first}
 use Rattle.judge.proofs.First.{done, never, on-its-own, pass, skip, stop}
 
-module _ (s : Standing) (host : List ℕ) where
+module _ (s : Standing) (ts host : List ℕ) where
   abbrev u : UnitRecord
-  u = s .record
+  u = unitOf (s .record) ts
 
   abbrev g : Geometry
   g = geometry u
 
-  pub own : (t : Task) → (T (unlisted t) → ⊥) → verdict (asked t s host) ≡ byItsOwn (asked t s host)
-  own t listed = on-its-own (asked t s host) (passes-first (asked t s host) listed)
+  pub own : (t : Task) → (T (unlisted t) → ⊥) → verdict (asked t s ts host) ≡ byItsOwn (asked t s ts host)
+  own t listed = on-its-own (asked t s ts host) (passes-first (asked t s ts host) listed)
 
-  pub unknown : verdict (asked Task.Unknown s host) ≡ Verdict.Refused Refusal.CommandUnknown
+  pub unknown : verdict (asked Task.Unknown s ts host) ≡ Verdict.Refused Refusal.CommandUnknown
   unfolding verdict
   unknown = stop _ _ _ tt
 
-  pub handshake : verdict (asked Task.Handshake s host) ≡ Verdict.Do (plan Moving.Nothing Report.Identity Leaving.AsItWas)
+  pub handshake : verdict (asked Task.Handshake s ts host) ≡ Verdict.Do (plan Moving.Nothing Report.Identity Leaving.AsItWas)
   unfolding byItsOwn
   handshake = own Task.Handshake never ∙ done _
 
   -- ---- 87
 
-  pub shape-misplaced : byItsOwn (asked (Task.Initialize Shape.Misplaced) s host) ≡ Verdict.Refused Refusal.UibMisplaced
+  pub shape-misplaced : byItsOwn (asked (Task.Initialize Shape.Misplaced) s ts host) ≡ Verdict.Refused Refusal.UibMisplaced
   unfolding byItsOwn
   shape-misplaced = stop _ _ _ tt
 
   module _ (x : Geometry) where
-    pub shape-outside : (Within x → ⊥) → byItsOwn (asked (Task.Initialize (Shape.Given x)) s host) ≡ Verdict.Refused Refusal.UibOutsideLimits
+    pub shape-outside : (Within x → ⊥) → byItsOwn (asked (Task.Initialize (Shape.Given x)) s ts host) ≡ Verdict.Refused Refusal.UibOutsideLimits
     unfolding byItsOwn
     shape-outside out = skip _ _ _ never ∙ stop _ _ _ out
 
-    pub shape-given : Within x → byItsOwn (asked (Task.Initialize (Shape.Given x)) s host) ≡ Verdict.Do (only (Leaving.Fresh x))
+    pub shape-given : Within x → byItsOwn (asked (Task.Initialize (Shape.Given x)) s ts host) ≡ Verdict.Do (only (Leaving.Fresh x))
     unfolding byItsOwn
     shape-given within = skip _ _ _ never ∙ skip _ _ _ (λ n. n within) ∙ done _
 
   -- ---- 89
 
-  pub restore-refused : (CountsAsInitialized u → ⊥) → byItsOwn (asked Task.Restore s host) ≡ Verdict.Refused Refusal.NotInitialized
+  pub restore-refused : (CountsAsInitialized u → ⊥) → byItsOwn (asked Task.Restore s ts host) ≡ Verdict.Refused Refusal.NotInitialized
   unfolding byItsOwn
   restore-refused not-it = stop _ _ _ not-it
 
-  pub restore-done : CountsAsInitialized u → byItsOwn (asked Task.Restore s host) ≡ Verdict.Do (only (Leaving.HeadsAt 0))
+  pub restore-done : CountsAsInitialized u → byItsOwn (asked Task.Restore s ts host) ≡ Verdict.Do (only (Leaving.HeadsAt 0))
   unfolding byItsOwn
   restore-done counts = skip _ _ _ (λ n. n counts) ∙ done _
 
@@ -79,7 +79,7 @@ module _ (s : Standing) (host : List ℕ) where
 
   module _ (t : Target) where
     abbrev seek : Asked
-    seek = asked (Task.Seek t) s host
+    seek = asked (Task.Seek t) s ts host
 
     abbrev at : Number
     at = beginsAt u t
@@ -118,7 +118,7 @@ module _ (s : Standing) (host : List ℕ) where
 
   module _ (k : Track) where
     abbrev format : Asked
-    format = asked (Task.Format k) s host
+    format = asked (Task.Format k) s ts host
 
     pub format-11 : (CountsAsInitialized u → ⊥) → byItsOwn format ≡ Verdict.Refused Refusal.NotInitialized
     unfolding byItsOwn
@@ -150,7 +150,7 @@ module _ (s : Standing) (host : List ℕ) where
 
   module _ (m : Move) where
     abbrev moves : Asked
-    moves = asked (Task.Move m) s host
+    moves = asked (Task.Move m) s ts host
 
     abbrev bytes : ℕ
     bytes = m .count * B g

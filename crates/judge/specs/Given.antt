@@ -1,6 +1,7 @@
 -- What is judged, and the cases of the answers 10 to 19 that need words of their own (01, Answer numbers).
 use Prim.Native.Nat.{ℕ, _+_, _-_, _<_}
 use mathlib.Core.List.{List}
+use Rattle.geometry.specs.declared.Geometry.{Geometry}
 use Rattle.geometry.specs.declared.Number.{Number}
 use Rattle.geometry.specs.declared.Number.the-variants.{Is, Outside}
 use Rattle.geometry.specs.declared.VolumeNumber.{VolumeNumber}
@@ -15,7 +16,7 @@ use Rattle.request.specs.declared.Target.{Target}
 use Rattle.request.specs.declared.Task.{Task}
 use Rattle.request.specs.declared.Track.{Track}
 use Rattle.unit.specs.Landing.{numberOn}
-use Rattle.unit.specs.Standing.{UnitRecord, geometry}
+use Rattle.unit.specs.Standing.{UnitRecord, geometry, unitOf}
 use Rattle.judge.specs.declared.Standing.{Standing}
 
 -- What is judged: a task, its unit's record and image length, and the host memory.
@@ -25,16 +26,16 @@ pub record Asked : Type 0 where
   pub image : ℕ
   pub host : List ℕ
 
-abbrev pub asked : Task → Standing → List ℕ → Asked
-asked t s host = record { task = t; unit = s .record; image = s .image; host = host }
+abbrev pub asked : Task → Standing → List ℕ → List ℕ → Asked
+asked t s ts host = record { task = t; unit = unitOf (s .record) ts; image = s .image; host = host }
 
 -- The number at which a request begins: a logical number as it came, and a physical address's where the volume has it.
-abbrev pub numberOf : UnitRecord → VolumeNumber → Start → Number
-numberOf u v (Logical n) = Is n
-numberOf u v (Physical c h s) = numberOn u v c h s
+abbrev pub numberOf : Geometry → VolumeNumber → Start → Number
+numberOf g v (Logical n) = Is n
+numberOf g v (Physical c h s) = numberOn g v c h s
 
 abbrev pub beginsAt : UnitRecord → Target → Number
-beginsAt u t = numberOf u (t .volume) (t .start)
+beginsAt u t = numberOf (geometry u) (t .volume) (t .start)
 
 -- "first sector outside the volume, or the last": neither is, of a request for so many sectors.
 abbrev pub Covers : UnitRecord → VolumeNumber → Number → ℕ → Type 0

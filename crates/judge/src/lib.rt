@@ -36,7 +36,7 @@ ghost use Rattle.judge.specs.declared.Verdict.{Verdict};
 ghost use Rattle.request.specs.declared.Task.{Task};
 ghost use Rattle.wire.specs.Promise.{Says};
 ghost use Rattle.unit.specs.Landing.{trackOf};
-ghost use Rattle.unit.specs.Standing.{geometry};
+ghost use Rattle.unit.specs.Standing.{bare, geometry, unitOf};
 
 // What is judged of a unit beside the request: its record, and how long its image is.
 pub struct Standing {
@@ -87,22 +87,22 @@ pub enum Verdict {
 }
 
 // The verdict on a request.
-pub fn judge(r: Request, standing: Standing, host: &[u8]) -> Verdict
-    ensures { λ v. ⌜ v ≡ verdict (asked (r .task) standing (now (host .entry))) ⌝ }
+pub fn judge(r: Request, standing: Standing, table: &[u32; 64], host: &[u8]) -> Verdict
+    ensures { λ v. ⌜ v ≡ verdict (asked (r .task) standing (now (table .entry)) (now (host .entry))) ⌝ }
 {
     let task = r.task;
     match task {
         Task::Unknown => Verdict::Refused(Refusal::CommandUnknown),
-        Task::Move(m) => judge_move(m, standing, host),
+        Task::Move(m) => judge_move(m, standing, table, host),
         Task::Handshake => Verdict::Do(Plan {
             moving: Moving::Nothing,
             report: Report::Identity,
             leaving: Leaving::AsItWas,
         }),
         Task::Initialize(s) => judge_shape(s),
-        Task::Restore => judge_restore(standing),
-        Task::Seek(t) => judge_seek(t, standing),
-        Task::Format(k) => judge_format(k, standing, host),
+        Task::Restore => judge_restore(standing, table),
+        Task::Seek(t) => judge_seek(t, standing, table),
+        Task::Format(k) => judge_format(k, standing, table, host),
     }
 }
 
@@ -118,7 +118,7 @@ fn only(leaving: Leaving) -> Verdict
 }
 
 fn judge_shape(s: Shape) -> Verdict
-    ensures { λ v. ⌜ ((standing : Standing) (host : List ℕ) → v ≡ byItsOwn (asked (Task.Initialize s) standing host)) ⌝ }
+    ensures { λ v. ⌜ ((standing : Standing) (ts host : List ℕ) → v ≡ byItsOwn (asked (Task.Initialize s) standing ts host)) ⌝ }
 {
     match s {
         Shape::Misplaced => Verdict::Refused(Refusal::UibMisplaced),
@@ -132,11 +132,11 @@ fn judge_shape(s: Shape) -> Verdict
     }
 }
 
-fn judge_restore(standing: Standing) -> Verdict
-    ensures { λ v. ⌜ ((host : List ℕ) → v ≡ byItsOwn (asked Task.Restore standing host)) ⌝ }
+fn judge_restore(standing: Standing, table: &[u32; 64]) -> Verdict
+    ensures { λ v. ⌜ ((host : List ℕ) → v ≡ byItsOwn (asked Task.Restore standing (now (table .entry)) host)) ⌝ }
 {
     let u = standing.record;
-    if u.counts_as_initialized() {
+    if u.counts_as_initialized(table) {
         restored()
     } else {
         Verdict::Refused(Refusal::NotInitialized)
@@ -152,25 +152,25 @@ fn restored() -> Verdict
 
 // What the checks ask of a unit's geometry.
 fn has_volume(u: Record, v: VolumeNumber) -> bool
-    ensures { λ r. ⌜ Says r (Present (volume (geometry u) v)) ⌝ }
+    ensures { λ r. ⌜ Says r (Present (volume (geometry (bare u)) v)) ⌝ }
 {
     u.geometry().volume(v).is_present()
 }
 
 fn sectors_of(u: Record, v: VolumeNumber) -> u64
-    ensures { λ r. ⌜ r ≡ volumeSectors (geometry u) v ⌝ }
+    ensures { λ r. ⌜ r ≡ volumeSectors (geometry (bare u)) v ⌝ }
 {
     u.geometry().volume_sectors(v)
 }
 
 fn sector_bytes(u: Record) -> u64
-    ensures { λ r. ⌜ (r ≡ B (geometry u)) × (r < 65536) ⌝ }
+    ensures { λ r. ⌜ (r ≡ B (geometry (bare u))) × (r < 65536) ⌝ }
 {
     u.geometry().bytes_a_sector() as u64
 }
 
 fn is_short(s: Standing) -> bool
-    ensures { λ r. ⌜ Says r (s .image < need (geometry (s .record))) ⌝ }
+    ensures { λ r. ⌜ Says r (s .image < need (geometry (bare (s .record)))) ⌝ }
 {
     let u = s.record;
     (s.image as u64) < u.geometry().need()
@@ -178,7 +178,7 @@ fn is_short(s: Standing) -> bool
 
 // The number of a request's first sector in its volume.
 fn number(u: Record, v: VolumeNumber, start: Start) -> Number
-    ensures { λ n. ⌜ n ≡ numberOf u v start ⌝ }
+    ensures { λ n. ⌜ n ≡ numberOf (geometry (bare u)) v start ⌝ }
 {
     match start {
         Start::Logical(n) => Number::Is(n as u64),
@@ -191,29 +191,29 @@ fn number(u: Record, v: VolumeNumber, start: Start) -> Number
 }
 
 // Checks 11 and 14 of a seek.
-fn judge_seek(t: Target, standing: Standing) -> Verdict
-    ensures { λ v. ⌜ ((host : List ℕ) → v ≡ byItsOwn (asked (Task.Seek t) standing host)) ⌝ }
+fn judge_seek(t: Target, standing: Standing, table: &[u32; 64]) -> Verdict
+    ensures { λ v. ⌜ ((host : List ℕ) → v ≡ byItsOwn (asked (Task.Seek t) standing (now (table .entry)) host)) ⌝ }
 {
     let u = standing.record;
     let volume = t.volume;
-    if !u.counts_as_initialized() {
+    if !u.counts_as_initialized(table) {
         return Verdict::Refused(Refusal::NotInitialized);
     }
     if !has_volume(u, volume) {
         return Verdict::Refused(Refusal::VolumeAbsent);
     }
-    judge_address(t, standing)
+    judge_address(t, standing, table)
 }
 
 // Check 16 of a seek, which is for its one address.
-fn judge_address(t: Target, standing: Standing) -> Verdict
-    ensures { λ v. ⌜ ((host : List ℕ) → v ≡ fromAddress (asked (Task.Seek t) standing host) t) ⌝ }
+fn judge_address(t: Target, standing: Standing, table: &[u32; 64]) -> Verdict
+    ensures { λ v. ⌜ ((host : List ℕ) → v ≡ fromAddress (asked (Task.Seek t) standing (now (table .entry)) host) t) ⌝ }
 {
     let u = standing.record;
     let volume = t.volume;
     let start = t.start;
     match number(u, volume, start) {
-        Number::Is(n) => match u.land(volume, n) {
+        Number::Is(n) => match u.land(table, volume, n) {
             Landing::At(spot) => only(Leaving::HeadsAt(spot.cylinder)),
             Landing::Outside => Verdict::Refused(Refusal::SectorOutside),
         },
@@ -222,28 +222,28 @@ fn judge_address(t: Target, standing: Standing) -> Verdict
 }
 
 // Checks 11, 16 and 17 of a format.
-fn judge_format(k: Track, standing: Standing, host: &[u8]) -> Verdict
-    ensures { λ v. ⌜ v ≡ byItsOwn (asked (Task.Format k) standing (now (host .entry))) ⌝ }
+fn judge_format(k: Track, standing: Standing, table: &[u32; 64], host: &[u8]) -> Verdict
+    ensures { λ v. ⌜ v ≡ byItsOwn (asked (Task.Format k) standing (now (table .entry)) (now (host .entry))) ⌝ }
 {
     let u = standing.record;
-    if !u.counts_as_initialized() {
+    if !u.counts_as_initialized(table) {
         return Verdict::Refused(Refusal::NotInitialized);
     }
-    match u.land_track(k.cylinder, k.head) {
+    match u.land_track(table, k.cylinder, k.head) {
         Landing::At(spot) => {
             if is_short(standing) {
                 return Verdict::Refused(Refusal::ImageShort);
             }
-            judge_data(k, spot, standing, host)
+            judge_data(k, spot, standing, table, host)
         }
         Landing::Outside => Verdict::Refused(Refusal::SectorOutside),
     }
 }
 
 // Check 19 of a format, which is for the bytes of one sector.
-fn judge_data(k: Track, spot: Spot, standing: Standing, host: &[u8]) -> Verdict
-    requires { ⌜ spot ≡ trackOf (standing .record) (k .cylinder) (k .head) ⌝ }
-    ensures { λ v. ⌜ v ≡ fromData (asked (Task.Format k) standing (now (host .entry))) k ⌝ }
+fn judge_data(k: Track, spot: Spot, standing: Standing, table: &[u32; 64], host: &[u8]) -> Verdict
+    requires { ⌜ spot ≡ trackOf (unitOf (standing .record) (now table)) (k .cylinder) (k .head) ⌝ }
+    ensures { λ v. ⌜ v ≡ fromData (asked (Task.Format k) standing (now (table .entry)) (now (host .entry))) k ⌝ }
 {
     let u = standing.record;
     if !holds(host, k.buffer, sector_bytes(u)) {
@@ -254,7 +254,7 @@ fn judge_data(k: Track, spot: Spot, standing: Standing, host: &[u8]) -> Verdict
 
 // The plan of 8C: it reports the sectors of the track, which are as many as every track has.
 fn formatted(k: Track, spot: Spot, u: Record) -> Verdict
-    ensures { λ v. ⌜ v ≡ Verdict.Do (plan (Moving.Track spot (k .buffer)) (Report.Formatted (S (geometry u))) (Leaving.HeadsAt (k .cylinder))) ⌝ }
+    ensures { λ v. ⌜ v ≡ Verdict.Do (plan (Moving.Track spot (k .buffer)) (Report.Formatted (S (geometry (bare u)))) (Leaving.HeadsAt (k .cylinder))) ⌝ }
 {
     Verdict::Do(Plan {
         moving: Moving::Track(spot, k.buffer),
@@ -264,13 +264,13 @@ fn formatted(k: Track, spot: Spot, u: Record) -> Verdict
 }
 
 // Checks 11, 14 and 15 of a transfer.
-fn judge_move(m: Move, standing: Standing, host: &[u8]) -> Verdict
-    ensures { λ v. ⌜ v ≡ byItsOwn (asked (Task.Move m) standing (now (host .entry))) ⌝ }
+fn judge_move(m: Move, standing: Standing, table: &[u32; 64], host: &[u8]) -> Verdict
+    ensures { λ v. ⌜ v ≡ byItsOwn (asked (Task.Move m) standing (now (table .entry)) (now (host .entry))) ⌝ }
 {
     let record = standing.record;
     let target = m.target;
     let volume = target.volume;
-    if !record.counts_as_initialized() {
+    if !record.counts_as_initialized(table) {
         return Verdict::Refused(Refusal::NotInitialized);
     }
     if !has_volume(record, volume) {
@@ -279,28 +279,28 @@ fn judge_move(m: Move, standing: Standing, host: &[u8]) -> Verdict
     if m.count == 0 {
         return Verdict::Refused(Refusal::CountZero);
     }
-    judge_start(m, standing, host)
+    judge_start(m, standing, table, host)
 }
 
 // Check 16 of a transfer, whether it begins anywhere.
-fn judge_start(m: Move, standing: Standing, host: &[u8]) -> Verdict
+fn judge_start(m: Move, standing: Standing, table: &[u32; 64], host: &[u8]) -> Verdict
     requires { ⌜ 0 < m .count ⌝ }
-    ensures { λ v. ⌜ v ≡ fromSectors (asked (Task.Move m) standing (now (host .entry))) m ⌝ }
+    ensures { λ v. ⌜ v ≡ fromSectors (asked (Task.Move m) standing (now (table .entry)) (now (host .entry))) m ⌝ }
 {
     let u = standing.record;
     let target = m.target;
     let volume = target.volume;
     let start = target.start;
     match number(u, volume, start) {
-        Number::Is(n) => judge_span(m, n, standing, host),
+        Number::Is(n) => judge_span(m, n, standing, table, host),
         Number::Outside => Verdict::Refused(Refusal::SectorOutside),
     }
 }
 
 // Check 16 of a transfer that begins at a number: the last sector is compared by what the volume has left.
-fn judge_span(m: Move, n: u64, standing: Standing, host: &[u8]) -> Verdict
-    requires { ⌜ Begins (asked (Task.Move m) standing (now host)) m n ⌝ }
-    ensures { λ v. ⌜ v ≡ fromSectors (asked (Task.Move m) standing (now (host .entry))) m ⌝ }
+fn judge_span(m: Move, n: u64, standing: Standing, table: &[u32; 64], host: &[u8]) -> Verdict
+    requires { ⌜ Begins (asked (Task.Move m) standing (now table) (now host)) m n ⌝ }
+    ensures { λ v. ⌜ v ≡ fromSectors (asked (Task.Move m) standing (now (table .entry)) (now (host .entry))) m ⌝ }
 {
     let u = standing.record;
     let target = m.target;
@@ -312,24 +312,24 @@ fn judge_span(m: Move, n: u64, standing: Standing, host: &[u8]) -> Verdict
     if sectors - n < (m.count as u64) {
         return Verdict::Refused(Refusal::SectorOutside);
     }
-    judge_image(m, n, standing, host)
+    judge_image(m, n, standing, table, host)
 }
 
 // Check 17 of a transfer.
-fn judge_image(m: Move, n: u64, standing: Standing, host: &[u8]) -> Verdict
-    requires { ⌜ Begins (asked (Task.Move m) standing (now host)) m n ⌝ }
-    ensures { λ v. ⌜ v ≡ fromImage (asked (Task.Move m) standing (now (host .entry))) m ⌝ }
+fn judge_image(m: Move, n: u64, standing: Standing, table: &[u32; 64], host: &[u8]) -> Verdict
+    requires { ⌜ Begins (asked (Task.Move m) standing (now table) (now host)) m n ⌝ }
+    ensures { λ v. ⌜ v ≡ fromImage (asked (Task.Move m) standing (now (table .entry)) (now (host .entry))) m ⌝ }
 {
     if is_short(standing) {
         return Verdict::Refused(Refusal::ImageShort);
     }
-    judge_buffer(m, n, standing, host)
+    judge_buffer(m, n, standing, table, host)
 }
 
 // Checks 18 and 19 of a transfer.
-fn judge_buffer(m: Move, n: u64, standing: Standing, host: &[u8]) -> Verdict
-    requires { ⌜ Begins (asked (Task.Move m) standing (now host)) m n ⌝ }
-    ensures { λ v. ⌜ v ≡ fromBuffer (asked (Task.Move m) standing (now (host .entry))) m ⌝ }
+fn judge_buffer(m: Move, n: u64, standing: Standing, table: &[u32; 64], host: &[u8]) -> Verdict
+    requires { ⌜ Begins (asked (Task.Move m) standing (now table) (now host)) m n ⌝ }
+    ensures { λ v. ⌜ v ≡ fromBuffer (asked (Task.Move m) standing (now (table .entry)) (now (host .entry))) m ⌝ }
 {
     let u = standing.record;
     let bytes = (m.count as u64) * sector_bytes(u);

@@ -40,13 +40,15 @@ fn hear(
     image0: &mut [u8],
     image1: &mut [u8],
     text: &mut [u8],
+    map0: &mut [u32; 64],
+    map1: &mut [u32; 64],
     s: State,
 ) -> Next {
     let long = read_field(field);
     if field.len() < long {
         return Next::Over;
     }
-    let said = transcript::step(&field[..long], host, image0, image1, text, s);
+    let said = transcript::step(&field[..long], host, image0, image1, text, map0, map1, s);
     if !write_text(text, said.text) {
         return Next::Over;
     }
@@ -69,10 +71,12 @@ fn turn(
     image0: &mut [u8],
     image1: &mut [u8],
     text: &mut [u8],
+    map0: &mut [u32; 64],
+    map1: &mut [u32; 64],
     next: Next,
 ) -> Next {
     match next {
-        Next::On(s) => hear(field, host, image0, image1, text, s),
+        Next::On(s) => hear(field, host, image0, image1, text, map0, map1, s),
         Next::Over => Next::Over,
         Next::NoRoom => Next::NoRoom,
     }
@@ -84,6 +88,8 @@ fn main() {
     let mut image0 = [0u8; 16384];
     let mut image1 = [0u8; 16384];
     let mut text = [0u8; 8192];
+    let mut map0 = [0u32; 64];
+    let mut map1 = [0u32; 64];
     let mut next = Next::On(transcript::start());
     // a proved loop has to end, and an input need not: it counts its turns down from a number that no input uses up
     let mut turns = u64::MAX;
@@ -95,6 +101,8 @@ fn main() {
             &mut image0,
             &mut image1,
             &mut text,
+            &mut map0,
+            &mut map1,
             next,
         );
     }

@@ -16,7 +16,7 @@ fn small() -> Geometry {
 
 // The record of the small drive, initialized or not.
 pub(crate) fn record(initialized: bool) -> Record {
-    Record::new(initialized, small(), 0)
+    Record::new(initialized, small(), 0, 0)
 }
 
 fn byte(place: u64) {
@@ -34,7 +34,7 @@ fn byte(place: u64) {
 fn landing(name: &[u8], volume: VolumeNumber, number: u64) {
     decimal(name, number);
     let unit = record(true);
-    match unit.land(volume, number) {
+    match unit.land(&[0u32; 64], volume, number) {
         Landing::At(spot) => {
             line(b" place ", spot.place);
             byte(spot.place);

@@ -25,7 +25,8 @@ fn inspected<'a>(
     unit: u32,
     place: u64,
 ) {
-    let lent = board::inspect(image0, image1, units(one), unit, place);
+    let map = [0u32; 64];
+    let lent = board::inspect(image0, image1, units(one), &map, &map, unit, place);
     line(name, lent.len() as u64);
     if lent.len() == 64 {
         end(b"  first byte ", lent[0]);

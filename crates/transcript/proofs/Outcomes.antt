@@ -14,8 +14,10 @@ start-once κ a x y e f p q = p ∙ sym q
 wanted-once : OneResult wanted.Post
 wanted-once κ a x y e f p q = p ∙ sym q
 
--- What a caller of a step sees: the answer, with the state in it, and every byte of the four buffers.
+-- What a caller of a step sees: the answer, with the state in it, and every byte of the four buffers and every track of the
+-- two tables.
 step-once :
     OneOutcome step.Post
-    (λ κ x e. spokenOf x (lentOf (now (e .1 .0)) (now (e .1 .1 .0)) (now (e .1 .1 .1 .0)) (now (e .1 .1 .1 .1 .0))))
+    (λ κ x e. spokenOf x (lentOf (now (e .1 .0)) (now (e .1 .1 .0)) (now (e .1 .1 .1 .0)) (now (e .1 .1 .1 .1 .0)) (now (e .1 .1 .1 .1 .1 .0))
+    (now (e .1 .1 .1 .1 .1 .1 .0))))
 step-once κ a x y e f p q = p ∙ sym q

@@ -69,33 +69,33 @@ module _ (field : List ℕ) (s : State) (l : Lent) (at : ℕ) (room : Room s l) 
 
   pub host-given :
       spokenOf (onWith (s .units) (longOf field) (s .image0) (s .image1) at 0)
-      (lentOf (copied field 3 (l .host) 0 (longOf field)) (l .image0) (l .image1) (l .text)) ≡
+      (lentOf (copied field 3 (l .host) 0 (longOf field)) (l .image0) (l .image1) (l .text) (l .tracks0) (l .tracks1)) ≡
       went (heard (heldIn s l) 1 (bytesIn field)) at l
   unfolding heard ℕ-discrete
   host-given =
       λ i.
       spokenOf (onWith (s .units) (sym (bytes-long field whole) i) (image0-stays .0 i) (image1-stays .0 i) at 0)
-      (lentOf (copied-over field whole (l .host) i) (image0-stays .1 i) (image1-stays .1 i) (l .text))
+      (lentOf (copied-over field whole (l .host) i) (image0-stays .1 i) (image1-stays .1 i) (l .text) (l .tracks0) (l .tracks1))
 
   pub image0-given :
       spokenOf (onWith (s .units) (s .host) (longOf field) (s .image1) at 0)
-      (lentOf (l .host) (copied field 3 (l .image0) 0 (longOf field)) (l .image1) (l .text)) ≡
+      (lentOf (l .host) (copied field 3 (l .image0) 0 (longOf field)) (l .image1) (l .text) (l .tracks0) (l .tracks1)) ≡
       went (heard (heldIn s l) 2 (bytesIn field)) at l
   unfolding heard ℕ-discrete
   image0-given =
       λ i.
       spokenOf (onWith (s .units) (host-stays .0 i) (sym (bytes-long field whole) i) (image1-stays .0 i) at 0)
-      (lentOf (host-stays .1 i) (copied-over field whole (l .image0) i) (image1-stays .1 i) (l .text))
+      (lentOf (host-stays .1 i) (copied-over field whole (l .image0) i) (image1-stays .1 i) (l .text) (l .tracks0) (l .tracks1))
 
   pub image1-given :
       spokenOf (onWith (s .units) (s .host) (s .image0) (longOf field) at 0)
-      (lentOf (l .host) (l .image0) (copied field 3 (l .image1) 0 (longOf field)) (l .text)) ≡
+      (lentOf (l .host) (l .image0) (copied field 3 (l .image1) 0 (longOf field)) (l .text) (l .tracks0) (l .tracks1)) ≡
       went (heard (heldIn s l) 3 (bytesIn field)) at l
   unfolding heard ℕ-discrete
   image1-given =
       λ i.
       spokenOf (onWith (s .units) (host-stays .0 i) (image0-stays .0 i) (sym (bytes-long field whole) i) at 0)
-      (lentOf (host-stays .1 i) (image0-stays .1 i) (copied-over field whole (l .image1) i) (l .text))
+      (lentOf (host-stays .1 i) (image0-stays .1 i) (copied-over field whole (l .image1) i) (l .text) (l .tracks0) (l .tracks1))
 
 -- ---- a run
 
@@ -109,7 +109,7 @@ run-heard h tag bytes not-1 not-2 not-3 =
 
 -- What a run meets: what is held, and an event buffer of its own.
 abbrev pub met : Held → World
-met h = worldOf (h .host) (h .image0) (h .image1) (replicate 512 0) (h .units)
+met h = worldOf (h .host) (h .image0) (h .image1) (replicate 512 0) (h .tracks0) (h .tracks1) (h .units)
 
 -- Its address and its allowance are read where they stand in the field.
 module _ (field : List ℕ) (five : longOf field ≡ 5) where
@@ -149,7 +149,8 @@ came-back used buffer part fits kept =
 -- The lines of a run are what it says, and the parts that it leaves are what is held.
 pub run-went :
     (s : State) (l : Lent) (at : ℕ) → Room s l →
-    {e : Ending} (host image0 image1 events : List ℕ) (r : Outcome) → CameTo e (worldOf host image0 image1 events (r .units)) r →
+    {e : Ending} (host image0 image1 events tracks0 tracks1 : List ℕ) (r : Outcome) →
+    CameTo e (worldOf host image0 image1 events tracks0 tracks1 (r .units)) r →
     length host ≡ length (take (s .host) (l .host)) →
     length image0 ≡ length (take (s .image0) (l .image0)) →
     length image1 ≡ length (take (s .image1) (l .image1)) →
@@ -159,9 +160,9 @@ pub run-went :
     Appended text′ next (blockLines events (r .blocks)) text″ end →
     spokenOf (onWith (r .units) (s .host) (s .image0) (s .image1) at end)
     (lentOf (host ++ drop (s .host) (l .host)) (image0 ++ drop (s .image0) (l .image0)) (image1 ++ drop (s .image1) (l .image1))
-    text″) ≡
+    text″ tracks0 tracks1) ≡
     went (runHeard e) at l
-run-went s l at room host image0 image1 events r came kept kept0 kept1 {number = number} is a b c line lines =
+run-went s l at room host image0 image1 events tracks0 tracks1 r came kept kept0 kept1 {number = number} is a b c line lines =
     let h = came-back (s .host) (l .host) host (room .host) kept in
     let i0 = came-back (s .image0) (l .image0) image0 (room .image0) kept0 in
     let i1 = came-back (s .image1) (l .image1) image1 (room .image1) kept1 in
@@ -175,5 +176,5 @@ run-went s l at room host image0 image1 events r came kept kept0 kept1 {number =
       block-lines-short events (r .blocks) (omega arith),
     )) in
     (λ t.
-    spokenOf (onWith (r .units) (h .0 t) (i0 .0 t) (i1 .0 t) at (told .1 t)) (lentOf (h .1 t) (i0 .1 t) (i1 .1 t) (told .0 t))) ∙
+    spokenOf (onWith (r .units) (h .0 t) (i0 .0 t) (i1 .0 t) at (told .1 t)) (lentOf (h .1 t) (i0 .1 t) (i1 .1 t) (told .0 t) tracks0 tracks1)) ∙
     rw is (ap (λ x. went (runHeard x) at l) (ended-as came))

@@ -9,6 +9,7 @@ use native.Mathlib.Decide.{ℕ-discrete}
 use native.Mathlib.Omega.{arith}
 use lib.ListN.{drop, getD, length, take, length-append, length-drop, length-take}
 use lib.Seq.{take-append-seam}
+use Rattle.unit.specs.Standing.{noTracks}
 use Rattle.request.specs.declared.UnitNumber.the-variants.{Zero, One}
 use Rattle.board.specs.Chain.{ran}
 use Rattle.block.specs.World.{World}
@@ -77,6 +78,8 @@ module _ (x : Heard) (at : ℕ) (l : Lent) where
         image0 = take-append-seam (x .held .image0) (drop (length (x .held .image0)) (l .image0)) i;
         image1 = take-append-seam (x .held .image1) (drop (length (x .held .image1)) (l .image1)) i;
         units = x .held .units;
+        tracks0 = x .held .tracks0;
+        tracks1 = x .held .tracks1;
       }
 
   -- and no buffer gets shorter, so that there is room again.
@@ -151,14 +154,15 @@ row (suc k) s l (byte ∷ more) room early =
 
 -- A program that, until a step is the last, reads what a field wants, makes a step of it on the buffers that the step before left,
 -- and prints what the step says, prints what the session prints: of any input of fewer than 2^64 - 16,387 bytes, with buffers that
--- have room for any field and for the lines of any run. It begins with nothing held, and makes at most one step more than the input
+-- have room for any field and for the lines of any run. It begins with nothing held, with tables of zeros, and makes at most one step more than the input
 -- has bytes.
 pub steps-in-a-row :
     (input : List ℕ) (l : Lent) → length input + mostField < 2 ^ 64 →
     mostBytes ≤ length (l .host) → mostBytes ≤ length (l .image0) → mostBytes ≤ length (l .image1) → textRoom ≤ length (l .text) →
+    l .tracks0 ≡ noTracks → l .tracks1 ≡ noTracks →
     inARow (length input + 1) (stateOf begin 0) l input ≡ session input
 unfolding session
-steps-in-a-row input l early host image0 image1 text =
+steps-in-a-row input l early host image0 image1 text none0 none1 =
     row (length input + 1) (stateOf begin 0) l input
     (record {
       host = (omega arith, host);
@@ -168,3 +172,4 @@ steps-in-a-row input l early host image0 image1 text =
       at = omega arith;
     })
     (omega arith)
+    ∙ (λ i. playedWithin (length input + 1) (record { host = []; image0 = []; image1 = []; units = begin .units; tracks0 = none0 i; tracks1 = none1 i }) 0 input)

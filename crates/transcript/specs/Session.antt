@@ -6,7 +6,7 @@ use mathlib.Core.Path.{_≡_}
 use native.Mathlib.Decide.{decLe, map-dec, ℕ-discrete}
 use lib.ListN.{drop, getD, length, replicate, take}
 use Rattle.wire.specs.Words.{be16, be32}
-use Rattle.unit.specs.Standing.{blank}
+use Rattle.unit.specs.Standing.{blank, byValue, table}
 use Rattle.answers.specs.Numbers.{runNumber}
 use Rattle.board.specs.declared.Units.{Units}
 use Rattle.board.specs.Chain.{Ending, ran}
@@ -19,10 +19,20 @@ pub record Held : Type 0 where
   pub image0 : List ℕ
   pub image1 : List ℕ
   pub units : Units
+  pub tracks0 : List ℕ
+  pub tracks1 : List ℕ
 
 -- "each is empty until given. Units start uninitialized."
 abbrev pub begin : Held
-begin = record { host = []; image0 = []; image1 = []; units = record { zero = blank; one = blank } }
+begin =
+    record {
+      host = [];
+      image0 = [];
+      image1 = [];
+      units = record { zero = byValue blank; one = byValue blank };
+      tracks0 = table blank;
+      tracks1 = table blank;
+    }
 
 -- "tag, two-byte big-endian length, bytes": the field at the head of what is left of the input.
 abbrev pub tagOf : List ℕ → ℕ
@@ -80,7 +90,7 @@ heardOf text held = record { text = text; held = held }
 -- "04 a run (address 4 bytes, allowance 1)". Its event buffer of 512 bytes is new and zero; only the entries of blocks run are printed.
 abbrev pub endingOf : Held → List ℕ → Ending
 endingOf h bytes =
-    ran (be32 bytes 0) (getD bytes 4 0) (worldOf (h .host) (h .image0) (h .image1) (replicate 512 0) (h .units))
+    ran (be32 bytes 0) (getD bytes 4 0) (worldOf (h .host) (h .image0) (h .image1) (replicate 512 0) (h .tracks0) (h .tracks1) (h .units))
 
 abbrev pub runHeard : Ending → Heard
 runHeard e =
@@ -90,7 +100,9 @@ runHeard e =
       host = w .host;
       image0 = w .drive0 .image;
       image1 = w .drive1 .image;
-      units = record { zero = w .drive0 .unit; one = w .drive1 .unit };
+      units = record { zero = byValue (w .drive0 .unit); one = byValue (w .drive1 .unit) };
+      tracks0 = table (w .drive0 .unit);
+      tracks1 = table (w .drive1 .unit);
     })
 
 -- "Tag 01 host memory, 02 and 03 images of units 0 and 1, 04 a run"; "A repeated 01, 02 or 03 replaces the earlier one".
@@ -98,11 +110,11 @@ runHeard e =
 unfoldable pub heard : Held → ℕ → List ℕ → Heard
 heard h tag bytes =
     ite (ℕ-discrete tag 1)
-    (heardOf [] (record { host = bytes; image0 = h .image0; image1 = h .image1; units = h .units }))
+    (heardOf [] (record { host = bytes; image0 = h .image0; image1 = h .image1; units = h .units; tracks0 = h .tracks0; tracks1 = h .tracks1 }))
     (ite (ℕ-discrete tag 2)
-    (heardOf [] (record { host = h .host; image0 = bytes; image1 = h .image1; units = h .units }))
+    (heardOf [] (record { host = h .host; image0 = bytes; image1 = h .image1; units = h .units; tracks0 = h .tracks0; tracks1 = h .tracks1 }))
     (ite (ℕ-discrete tag 3)
-    (heardOf [] (record { host = h .host; image0 = h .image0; image1 = bytes; units = h .units }))
+    (heardOf [] (record { host = h .host; image0 = h .image0; image1 = bytes; units = h .units; tracks0 = h .tracks0; tracks1 = h .tracks1 }))
     (runHeard (endingOf h bytes))))
 
 -- What is left of the input is refused, or begins with a field.

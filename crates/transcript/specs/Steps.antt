@@ -30,9 +30,12 @@ pub record Lent : Type 0 where
   pub image0 : List ℕ
   pub image1 : List ℕ
   pub text : List ℕ
+  pub tracks0 : List ℕ
+  pub tracks1 : List ℕ
 
-abbrev pub lentOf : (host image0 image1 text : List ℕ) → Lent
-lentOf host image0 image1 text = record { host = host; image0 = image0; image1 = image1; text = text }
+abbrev pub lentOf : (host image0 image1 text tracks0 tracks1 : List ℕ) → Lent
+lentOf host image0 image1 text tracks0 tracks1 =
+    record { host = host; image0 = image0; image1 = image1; text = text; tracks0 = tracks0; tracks1 = tracks1 }
 
 -- So many bytes are in use of a buffer that has room for any field.
 abbrev pub Fits : ℕ → List ℕ → Type 0
@@ -67,6 +70,8 @@ heldIn s l =
       image0 = take (s .image0) (l .image0);
       image1 = take (s .image1) (l .image1);
       units = s .units;
+      tracks0 = l .tracks0;
+      tracks1 = l .tracks1;
     }
 
 abbrev pub stateOf : Held → ℕ → State
@@ -99,16 +104,17 @@ abbrev pub onWith : Units → (host image0 image1 at text : ℕ) → Said
 onWith units host image0 image1 at text =
     saidOf (Next.On (record { units = units; host = host; image0 = image0; image1 = image1; at = at })) text
 
--- A field that was heard: its text stands in the text buffer, and what is held after it in the other three.
+-- A field that was heard: its text stands in the text buffer, and what is held after it in the others.
 abbrev pub went : Heard → ℕ → Lent → Spoken
 went x at l =
     let h = x .held in
     spokenOf (saidOf (Next.On (stateOf h at)) (length (x .text)))
-    (lentOf (atStart (h .host) (l .host)) (atStart (h .image0) (l .image0)) (atStart (h .image1) (l .image1)) (atStart (x .text) (l .text)))
+    (lentOf (atStart (h .host) (l .host)) (atStart (h .image0) (l .image0)) (atStart (h .image1) (l .image1)) (atStart (x .text) (l .text)) (h .tracks0)
+    (h .tracks1))
 
 -- A text that is the session's last.
 abbrev pub closed : List ℕ → Lent → Spoken
-closed text l = spokenOf (saidOf Next.Over (length text)) (lentOf (l .host) (l .image0) (l .image1) (atStart text (l .text)))
+closed text l = spokenOf (saidOf Next.Over (length text)) (lentOf (l .host) (l .image0) (l .image1) (atStart text (l .text)) (l .tracks0) (l .tracks1))
 
 -- A step on what was read of a field; that is [] where the input has ended.
 abbrev pub spokenOn : List ℕ → State → Lent → Spoken

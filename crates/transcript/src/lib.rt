@@ -3,6 +3,7 @@
 // It reads no input and writes no output, and it trusts no caller: without room nothing is done.
 use board::Units;
 use unit::Record;
+ghost use mathlib.Core.List.{[]};
 ghost use mathlib.Core.Path.{_≡_};
 ghost use Rattle.transcript.specs.Session.{begin};
 ghost use Rattle.transcript.specs.Steps.{Fits, Room, lentOf, spoken, spokenOf, stateOf};
@@ -67,7 +68,7 @@ fn fits(buffer: &[u8], used: usize) -> bool
 }
 
 fn has_room(host: &[u8], image0: &[u8], image1: &[u8], text: &[u8], s: State) -> bool
-    ensures { λ r. ⌜ Says r (Room s (lentOf (now (host .entry)) (now (image0 .entry)) (now (image1 .entry)) (now (text .entry)))) ⌝ }
+    ensures { λ r. ⌜ Says r (Room s (lentOf (now (host .entry)) (now (image0 .entry)) (now (image1 .entry)) (now (text .entry)) [] [])) ⌝ }
 {
     if !fits(host, s.host) {
         return false;
@@ -92,10 +93,12 @@ pub fn step(
     image0: &mut [u8],
     image1: &mut [u8],
     text: &mut [u8],
+    map0: &mut [u32; 64],
+    map1: &mut [u32; 64],
     s: State,
 ) -> Said
-    ensures { λ r. ⌜ spokenOf r (lentOf (now (host .exit)) (now (image0 .exit)) (now (image1 .exit)) (now (text .exit)))
-        ≡ spoken (now (field .entry)) s (lentOf (now (host .entry)) (now (image0 .entry)) (now (image1 .entry)) (now (text .entry))) ⌝ }
+    ensures { λ r. ⌜ spokenOf r (lentOf (now (host .exit)) (now (image0 .exit)) (now (image1 .exit)) (now (text .exit)) (now (map0 .exit)) (now (map1 .exit)))
+        ≡ spoken (now (field .entry)) s (lentOf (now (host .entry)) (now (image0 .entry)) (now (image1 .entry)) (now (text .entry)) (now (map0 .entry)) (now (map1 .entry))) ⌝ }
 {
     if !has_room(host, image0, image1, text, s) {
         return Said {
@@ -115,5 +118,5 @@ pub fn step(
             text: lines::put_refusal(text, s.at),
         };
     }
-    play::hear(field, host, image0, image1, text, s)
+    play::hear(field, host, image0, image1, text, map0, map1, s)
 }

@@ -33,12 +33,14 @@ fn run(
     image0: &mut [u8],
     image1: &mut [u8],
     text: &mut [u8],
+    map0: &mut [u32; 64],
+    map1: &mut [u32; 64],
     s: State,
     at: u64,
 ) -> Said
-    requires { ⌜ Room s (lentOf (now host) (now image0) (now image1) (now text)) × ((longOf (now field) ≡ 5) × (8 ≤ length (now field))) ⌝ }
-    ensures { λ r. ⌜ spokenOf r (lentOf (now (host .exit)) (now (image0 .exit)) (now (image1 .exit)) (now (text .exit)))
-        ≡ went (runHeard (endingOf (heldIn s (lentOf (now (host .entry)) (now (image0 .entry)) (now (image1 .entry)) (now (text .entry)))) (bytesIn (now (field .entry))))) at (lentOf (now (host .entry)) (now (image0 .entry)) (now (image1 .entry)) (now (text .entry))) ⌝ }
+    requires { ⌜ Room s (lentOf (now host) (now image0) (now image1) (now text) (now map0) (now map1)) × ((longOf (now field) ≡ 5) × (8 ≤ length (now field))) ⌝ }
+    ensures { λ r. ⌜ spokenOf r (lentOf (now (host .exit)) (now (image0 .exit)) (now (image1 .exit)) (now (text .exit)) (now (map0 .exit)) (now (map1 .exit)))
+        ≡ went (runHeard (endingOf (heldIn s (lentOf (now (host .entry)) (now (image0 .entry)) (now (image1 .entry)) (now (text .entry)) (now (map0 .entry)) (now (map1 .entry)))) (bytesIn (now (field .entry))))) at (lentOf (now (host .entry)) (now (image0 .entry)) (now (image1 .entry)) (now (text .entry)) (now (map0 .entry)) (now (map1 .entry))) ⌝ }
 {
     let first = wire::be32(field, 3);
     let allowance = field[7] as u32;
@@ -51,6 +53,8 @@ fn run(
         &mut image0[..long0],
         &mut image1[..long1],
         &mut events,
+        map0,
+        map1,
         s.units,
         first,
         allowance,
@@ -77,11 +81,13 @@ pub(crate) fn hear(
     image0: &mut [u8],
     image1: &mut [u8],
     text: &mut [u8],
+    map0: &mut [u32; 64],
+    map1: &mut [u32; 64],
     s: State,
 ) -> Said
-    requires { ⌜ Room s (lentOf (now host) (now image0) (now image1) (now text)) × Field (now field) ⌝ }
-    ensures { λ r. ⌜ spokenOf r (lentOf (now (host .exit)) (now (image0 .exit)) (now (image1 .exit)) (now (text .exit)))
-        ≡ went (heard (heldIn s (lentOf (now (host .entry)) (now (image0 .entry)) (now (image1 .entry)) (now (text .entry)))) (tagOf (now (field .entry))) (bytesIn (now (field .entry)))) (s .at + (3 + longOf (now (field .entry)))) (lentOf (now (host .entry)) (now (image0 .entry)) (now (image1 .entry)) (now (text .entry))) ⌝ }
+    requires { ⌜ Room s (lentOf (now host) (now image0) (now image1) (now text) (now map0) (now map1)) × Field (now field) ⌝ }
+    ensures { λ r. ⌜ spokenOf r (lentOf (now (host .exit)) (now (image0 .exit)) (now (image1 .exit)) (now (text .exit)) (now (map0 .exit)) (now (map1 .exit)))
+        ≡ went (heard (heldIn s (lentOf (now (host .entry)) (now (image0 .entry)) (now (image1 .entry)) (now (text .entry)) (now (map0 .entry)) (now (map1 .entry)))) (tagOf (now (field .entry))) (bytesIn (now (field .entry)))) (s .at + (3 + longOf (now (field .entry)))) (lentOf (now (host .entry)) (now (image0 .entry)) (now (image1 .entry)) (now (text .entry)) (now (map0 .entry)) (now (map1 .entry))) ⌝ }
 {
     let tag = field[0];
     let long = wire::be16(field, 1) as usize;
@@ -99,6 +105,6 @@ pub(crate) fn hear(
             wire::copy(field, 3, image1, 0, long);
             on(s, s.host, s.image0, long, at)
         }
-        _ => run(field, host, image0, image1, text, s, at),
+        _ => run(field, host, image0, image1, text, map0, map1, s, at),
     }
 }

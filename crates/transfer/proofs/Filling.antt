@@ -85,11 +85,11 @@ module _ (image : List ℕ) (u : UnitRecord) (spot : Spot) (at : ℕ) where
 
   module _ (long : ℕ) where
     pub track-fit :
-        TrackFits u spot at long (length image) →
+        TrackFits (geometry u) spot at long (length image) →
         trackResult long image u spot at ≡ resultOf (movedOn image (formatting u spot at)) (dataOn image (formatting u spot at))
     unfolding trackResult
-    track-fit fit = if-pos (trackFits? u spot at long (length image)) fit _ _
+    track-fit fit = if-pos (trackFits? (geometry u) spot at long (length image)) fit _ _
 
-    pub track-unfit : (TrackFits u spot at long (length image) → ⊥) → trackResult long image u spot at ≡ resultOf idle []
+    pub track-unfit : (TrackFits (geometry u) spot at long (length image) → ⊥) → trackResult long image u spot at ≡ resultOf idle []
     unfolding trackResult
-    track-unfit unfit = if-neg (trackFits? u spot at long (length image)) unfit _ _
+    track-unfit unfit = if-neg (trackFits? (geometry u) spot at long (length image)) unfit _ _

@@ -72,15 +72,15 @@ module _ (image : List ℕ) (u : UnitRecord) (s : Span) (heeds : Bool) where
 -- The two results of a call.
 module _ (long : ℕ) (image : List ℕ) (u : UnitRecord) (s : Span) (to-host past-marks : Bool) (lengths addresses : List ℕ) where
   pub sectors-fit :
-      SectorsFit u s lengths addresses long (length image) →
+      SectorsFit (geometry u) s lengths addresses long (length image) →
       sectorsResult long image u s to-host past-marks lengths addresses ≡
       resultOf (movedOn image (spanTransfer u s to-host past-marks lengths addresses))
       (dataOn image (spanTransfer u s to-host past-marks lengths addresses))
   unfolding sectorsResult
-  sectors-fit fit = if-pos (sectorsFit? u s lengths addresses long (length image)) fit _ _
+  sectors-fit fit = if-pos (sectorsFit? (geometry u) s lengths addresses long (length image)) fit _ _
 
   pub sectors-unfit :
-      (SectorsFit u s lengths addresses long (length image) → ⊥) →
+      (SectorsFit (geometry u) s lengths addresses long (length image) → ⊥) →
       sectorsResult long image u s to-host past-marks lengths addresses ≡ resultOf idle []
   unfolding sectorsResult
-  sectors-unfit unfit = if-neg (sectorsFit? u s lengths addresses long (length image)) unfit _ _
+  sectors-unfit unfit = if-neg (sectorsFit? (geometry u) s lengths addresses long (length image)) unfit _ _

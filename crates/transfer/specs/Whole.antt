@@ -1,6 +1,6 @@
 -- What a transfer comes to where the request fits, and that one which does not is left alone. A caller that has judged its request
 -- never meets the second; no caller is trusted to have.
-use Prim.Native.Nat.{ℕ, _+_, _≤_, _<_}
+use Prim.Native.Nat.{ℕ, _+_, _*_, _≤_, _<_}
 use mathlib.Core.Bool.{Bool}
 use mathlib.Core.List.{List, []}
 use mathlib.Core.Logic.{ite, Dec·and}
@@ -9,6 +9,7 @@ use lib.ListN.{getD, length}
 use Rattle.wire.proofs.Decided.{all?}
 use Rattle.answers.specs.declared.BlockAnswer.{BlockAnswer}
 use Rattle.answers.specs.declared.Refusal.{Refusal}
+use Rattle.geometry.specs.declared.Geometry.{Geometry}
 use Rattle.geometry.specs.Drive.{B, S, driveSectors, need, volumeSectors}
 use Rattle.unit.specs.declared.Span.{Span}
 use Rattle.unit.specs.declared.Spot.{Spot}
@@ -16,22 +17,22 @@ use Rattle.unit.specs.Standing.{UnitRecord, geometry}
 use Rattle.transfer.specs.declared.Moved.{Moved}
 use Rattle.transfer.specs.Data.{Transfer, dataOn, formatting, moving, progressOn}
 use Rattle.transfer.specs.Pieces.{sum}
-use Rattle.transfer.specs.Runs.{PiecesFit, pieceByte, spanBytes}
+use Rattle.transfer.specs.Runs.{PiecesFit, pieceByte}
 use Rattle.transfer.specs.Stores.{Store}
 
 -- Some sectors, which their volume has, pieces in host memory for all their bytes, and an image that is long enough for the drive.
-pub record SectorsFit (u : UnitRecord) (s : Span) (lengths addresses : List ℕ) (long image : ℕ) : Type 0 where
+pub record SectorsFit (g : Geometry) (s : Span) (lengths addresses : List ℕ) (long image : ℕ) : Type 0 where
   pub some : 0 < s .count
-  pub inside : s .first + s .count ≤ volumeSectors (geometry u) (s .volume)
-  pub pieces : PiecesFit long (spanBytes u s) lengths addresses
-  pub held : need (geometry u) ≤ image
+  pub inside : s .first + s .count ≤ volumeSectors g (s .volume)
+  pub pieces : PiecesFit long (s .count * B g) lengths addresses
+  pub held : need g ≤ image
 
 -- As many places in a row as a track has, which the drive has, the bytes of a sector in host memory, and such an image.
-pub record TrackFits (u : UnitRecord) (spot : Spot) (at long image : ℕ) : Type 0 where
-  pub some : 0 < S (geometry u)
-  pub inside : spot .place + S (geometry u) ≤ driveSectors (geometry u)
-  pub memory : at + B (geometry u) ≤ long
-  pub held : need (geometry u) ≤ image
+pub record TrackFits (g : Geometry) (spot : Spot) (at long image : ℕ) : Type 0 where
+  pub some : 0 < S g
+  pub inside : spot .place + S g ≤ driveSectors g
+  pub memory : at + B g ≤ long
+  pub held : need g ≤ image
 
 -- Nothing moved. 19 stands here for every way not to fit: which check refuses a request is the judge's to say.
 abbrev pub idle : Moved
@@ -54,21 +55,21 @@ piecesFit? long bytes lengths addresses =
     (Dec·and (all? _ (λ i. decLe (getD addresses i 0 + getD lengths i 0) long) (length lengths))
     (decLe bytes (sum (λ i. getD lengths i 0) (length lengths)))))
 
-pub sectorsFit? : (u : UnitRecord) (s : Span) (lengths addresses : List ℕ) (long image : ℕ) → Dec (SectorsFit u s lengths addresses long image)
-sectorsFit? u s lengths addresses long image =
+pub sectorsFit? : (g : Geometry) (s : Span) (lengths addresses : List ℕ) (long image : ℕ) → Dec (SectorsFit g s lengths addresses long image)
+sectorsFit? g s lengths addresses long image =
     map-dec (λ d. record { some = d .0; inside = d .1 .0; pieces = d .1 .1 .0; held = d .1 .1 .1 })
     (λ f. (f .some, (f .inside, (f .pieces, f .held))))
     (Dec·and (decLt 0 (s .count))
-    (Dec·and (decLe (s .first + s .count) (volumeSectors (geometry u) (s .volume)))
-    (Dec·and (piecesFit? long (spanBytes u s) lengths addresses) (decLe (need (geometry u)) image))))
+    (Dec·and (decLe (s .first + s .count) (volumeSectors g (s .volume)))
+    (Dec·and (piecesFit? long (s .count * B g) lengths addresses) (decLe (need g) image))))
 
-pub trackFits? : (u : UnitRecord) (spot : Spot) (at long image : ℕ) → Dec (TrackFits u spot at long image)
-trackFits? u spot at long image =
+pub trackFits? : (g : Geometry) (spot : Spot) (at long image : ℕ) → Dec (TrackFits g spot at long image)
+trackFits? g spot at long image =
     map-dec (λ d. record { some = d .0; inside = d .1 .0; memory = d .1 .1 .0; held = d .1 .1 .1 })
     (λ f. (f .some, (f .inside, (f .memory, f .held))))
-    (Dec·and (decLt 0 (S (geometry u)))
-    (Dec·and (decLe (spot .place + S (geometry u)) (driveSectors (geometry u)))
-    (Dec·and (decLe (at + B (geometry u)) long) (decLe (need (geometry u)) image))))
+    (Dec·and (decLt 0 (S g))
+    (Dec·and (decLe (spot .place + S g) (driveSectors g))
+    (Dec·and (decLe (at + B g) long) (decLe (need g) image))))
 
 -- The outcome of a call: what is returned, and the stores that were made.
 pub record Result : Type 0 where
@@ -81,9 +82,9 @@ resultOf moved stores = record { moved = moved; stores = stores }
 unfoldable pub sectorsResult : ℕ → List ℕ → UnitRecord → Span → Bool → Bool → List ℕ → List ℕ → Result
 sectorsResult long image u s to-host past-marks lengths addresses =
     let t = spanTransfer u s to-host past-marks lengths addresses in
-    ite (sectorsFit? u s lengths addresses long (length image)) (resultOf (movedOn image t) (dataOn image t)) (resultOf idle [])
+    ite (sectorsFit? (geometry u) s lengths addresses long (length image)) (resultOf (movedOn image t) (dataOn image t)) (resultOf idle [])
 
 unfoldable pub trackResult : ℕ → List ℕ → UnitRecord → Spot → ℕ → Result
 trackResult long image u spot at =
     let t = formatting u spot at in
-    ite (trackFits? u spot at long (length image)) (resultOf (movedOn image t) (dataOn image t)) (resultOf idle [])
+    ite (trackFits? (geometry u) spot at long (length image)) (resultOf (movedOn image t) (dataOn image t)) (resultOf idle [])

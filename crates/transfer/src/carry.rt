@@ -11,7 +11,7 @@ ghost use Rattle.geometry.specs.Drive.{B};
 ghost use Rattle.transfer.specs.Runs.{Carried, Fits, Held, On, PiecesFit, Ready, Spans, advanced, behind, fillStore, lent, spanBytes, spanStores};
 ghost use Rattle.transfer.specs.Stores.{after, upTo};
 ghost use Rattle.wire.specs.Copy.{copied};
-ghost use Rattle.unit.specs.Standing.{geometry};
+ghost use Rattle.unit.specs.Standing.{bare, geometry, unitOf};
 
 // Where a transfer stands on the disk: the image's byte, how many bytes follow in a row, and the sectors done with them.
 pub(crate) struct Cursor {
@@ -34,12 +34,18 @@ fn copy_run(host: &mut [u8], h: usize, image: &mut [u8], d: usize, n: usize, to_
 }
 
 // The cursor of the run that follows, of the span's sectors.
-fn next_run(u: Record, span: Span, next: u16) -> Cursor
-    requires { ⌜ (next < span .count) × ((0 < B (geometry u)) × Spans u span) ⌝ }
-    ensures { λ r. ⌜ Ready u span (next * B (geometry u)) r ⌝ }
+fn next_run(u: Record, table: &[u32; 64], span: Span, next: u16) -> Cursor
+    requires { ⌜ (next < span .count) × ((0 < B (geometry (bare u))) × Spans (unitOf u (now table)) span) ⌝ }
+    ensures { λ r. ⌜ Ready (unitOf u (now (table .entry))) span (next * B (geometry (bare u))) r ⌝ }
 {
     let volume = span.volume;
-    let run = run_at(u, volume, span.first + (next as u64), span.count - next);
+    let run = run_at(
+        u,
+        table,
+        volume,
+        span.first + (next as u64),
+        span.count - next,
+    );
     let Sector::At { first, mark: _ } = u.geometry().sector(run.place) else {
         return Cursor {
             at: 0,
@@ -55,14 +61,14 @@ fn next_run(u: Record, span: Span, next: u16) -> Cursor
 }
 
 // The cursor itself while it has bytes left, and then the next run's.
-fn ready(u: Record, span: Span, c: Cursor) -> Cursor
-    requires { ⌜ Spans u span × (On u span (behind u c) c × (behind u c < span .count * B (geometry u))) ⌝ }
-    ensures { λ r. ⌜ Ready u span (behind u c) r ⌝ }
+fn ready(u: Record, table: &[u32; 64], span: Span, c: Cursor) -> Cursor
+    requires { ⌜ Spans (unitOf u (now table)) span × (On (unitOf u (now table)) span (behind (bare u) c) c × (behind (bare u) c < span .count * B (geometry (bare u)))) ⌝ }
+    ensures { λ r. ⌜ Ready (unitOf u (now (table .entry))) span (behind (bare u) c) r ⌝ }
 {
     if 0 < c.left {
         return c;
     }
-    next_run(u, span, c.next)
+    next_run(u, table, span, c.next)
 }
 
 fn lesser(a: u64, b: u64) -> u64
@@ -90,19 +96,20 @@ fn carry_piece(
     host: &mut [u8],
     image: &mut [u8],
     u: Record,
+    table: &[u32; 64],
     span: Span,
     to_host: bool,
     from: Cursor,
     at: usize,
     n: usize,
 ) -> Cursor
-    requires { ⌜ Fits u span from at n (now host) (now image) ⌝ }
-    ensures { λ r. ⌜ Carried u span «to_host» (behind u from) at n (lent (now (host .entry)) (now (image .entry))) (lent (now (host .exit)) (now (image .exit))) r ⌝ }
+    requires { ⌜ Fits (unitOf u (now table)) span from at n (now host) (now image) ⌝ }
+    ensures { λ r. ⌜ Carried (unitOf u (now (table .entry))) span «to_host» (behind (bare u) from) at n (lent (now (host .entry)) (now (image .entry))) (lent (now (host .exit)) (now (image .exit))) r ⌝ }
 {
     let mut c = from;
     let mut done = 0;
     while done < n {
-        let r = ready(u, span, c);
+        let r = ready(u, table, span, c);
         let bytes = lesser(r.left, (n - done) as u64);
         copy_run(
             host,
@@ -120,7 +127,7 @@ fn carry_piece(
 
 // The bytes of a span's sectors.
 pub(crate) fn span_bytes(u: Record, span: Span) -> u64
-    ensures { λ r. ⌜ r ≡ spanBytes u span ⌝ }
+    ensures { λ r. ⌜ r ≡ spanBytes (bare u) span ⌝ }
 {
     (span.count as u64) * (u.geometry().bytes_a_sector() as u64)
 }
@@ -130,13 +137,14 @@ pub(crate) fn carry(
     host: &mut [u8],
     image: &mut [u8],
     u: Record,
+    table: &[u32; 64],
     span: Span,
     to_host: bool,
     lengths: &[u32],
     addresses: &[u32],
 )
-    requires { ⌜ Spans u span × (Held u span (length (now image)) × PiecesFit (length (now host)) (spanBytes u span) (now lengths) (now addresses)) ⌝ }
-    ensures { λ _. ⌜ lent (now (host .exit)) (now (image .exit)) ≡ after (upTo (spanBytes u span) (spanStores u span «to_host» (now (lengths .entry)) (now (addresses .entry)))) (lent (now (host .entry)) (now (image .entry))) ⌝ }
+    requires { ⌜ Spans (unitOf u (now table)) span × (Held (unitOf u (now table)) span (length (now image)) × PiecesFit (length (now host)) (spanBytes (bare u) span) (now lengths) (now addresses)) ⌝ }
+    ensures { λ _. ⌜ lent (now (host .exit)) (now (image .exit)) ≡ after (upTo (spanBytes (bare u) span) (spanStores (unitOf u (now (table .entry))) span «to_host» (now (lengths .entry)) (now (addresses .entry)))) (lent (now (host .entry)) (now (image .entry))) ⌝ }
 {
     let all = span_bytes(u, span);
     let mut c = Cursor {
@@ -149,7 +157,7 @@ pub(crate) fn carry(
     while done < all {
         let n = lesser(lengths[i] as u64, all - done);
         let at = addresses[i] as usize;
-        c = carry_piece(host, image, u, span, to_host, c, at, n as usize);
+        c = carry_piece(host, image, u, table, span, to_host, c, at, n as usize);
         done += n;
         i += 1;
     }

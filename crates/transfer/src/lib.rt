@@ -17,7 +17,7 @@ ghost use Rattle.transfer.specs.Runs.{PiecesFit, lent};
 ghost use Rattle.transfer.specs.Stores.{after};
 ghost use Rattle.transfer.specs.Whole.{SectorsFit, TrackFits, idle, sectorsResult, trackResult};
 ghost use Rattle.wire.specs.Promise.{Says};
-ghost use Rattle.unit.specs.Standing.{geometry};
+ghost use Rattle.unit.specs.Standing.{bare, geometry, unitOf};
 
 mod carry;
 mod reach;
@@ -67,8 +67,8 @@ fn less(a: u64, b: u64) -> u64
 
 // Whether a span has sectors, and its volume has them.
 fn span_fits(u: Record, span: Span) -> bool
-    ensures says { λ r. ⌜ Says r ((0 < span .count) × (span .first + span .count ≤ volumeSectors (geometry u) (span .volume))) ⌝ }
-    ensures small { λ _. ⌜ volumeSectors (geometry u) (span .volume) < 2 ^ 64 ⌝ }
+    ensures says { λ r. ⌜ Says r ((0 < span .count) × (span .first + span .count ≤ volumeSectors (geometry (bare u)) (span .volume))) ⌝ }
+    ensures small { λ _. ⌜ volumeSectors (geometry (bare u)) (span .volume) < 2 ^ 64 ⌝ }
 {
     let volume = span.volume;
     let sectors = u.geometry().volume_sectors(volume);
@@ -83,7 +83,7 @@ fn span_fits(u: Record, span: Span) -> bool
 
 // Whether an image of so many bytes is long enough for the drive: every sector, and every mark, is there.
 fn holds_drive(u: Record, image: u64) -> bool
-    ensures { λ r. ⌜ Says r (need (geometry u) ≤ image) ⌝ }
+    ensures { λ r. ⌜ Says r (need (geometry (bare u)) ≤ image) ⌝ }
 {
     u.geometry().need() <= image
 }
@@ -96,8 +96,8 @@ fn sectors_fit(
     long: u64,
     image: u64,
 ) -> bool
-    ensures says { λ r. ⌜ Says r (SectorsFit u span (now (lengths .entry)) (now (addresses .entry)) long image) ⌝ }
-    ensures small { λ _. ⌜ volumeSectors (geometry u) (span .volume) < 2 ^ 64 ⌝ }
+    ensures says { λ r. ⌜ Says r (SectorsFit (geometry (bare u)) span (now (lengths .entry)) (now (addresses .entry)) long image) ⌝ }
+    ensures small { λ _. ⌜ volumeSectors (geometry (bare u)) (span .volume) < 2 ^ 64 ⌝ }
 {
     if !span_fits(u, span) {
         return false;
@@ -144,14 +144,15 @@ pub fn move_sectors(
     host: &mut [u8],
     image: &mut [u8],
     u: Record,
+    table: &[u32; 64],
     span: Span,
     to_host: bool,
     past_marks: bool,
     lengths: &[u32],
     addresses: &[u32],
 ) -> Moved
-    ensures result { λ r. ⌜ r ≡ sectorsResult (length (now (host .entry))) (now (image .entry)) u span «to_host» «past_marks» (now (lengths .entry)) (now (addresses .entry)) .moved ⌝ }
-    ensures stores { λ _. ⌜ lent (now (host .exit)) (now (image .exit)) ≡ after (sectorsResult (length (now (host .entry))) (now (image .entry)) u span «to_host» «past_marks» (now (lengths .entry)) (now (addresses .entry)) .stores) (lent (now (host .entry)) (now (image .entry))) ⌝ }
+    ensures result { λ r. ⌜ r ≡ sectorsResult (length (now (host .entry))) (now (image .entry)) (unitOf u (now (table .entry))) span «to_host» «past_marks» (now (lengths .entry)) (now (addresses .entry)) .moved ⌝ }
+    ensures stores { λ _. ⌜ lent (now (host .exit)) (now (image .exit)) ≡ after (sectorsResult (length (now (host .entry))) (now (image .entry)) (unitOf u (now (table .entry))) span «to_host» «past_marks» (now (lengths .entry)) (now (addresses .entry)) .stores) (lent (now (host .entry)) (now (image .entry))) ⌝ }
 {
     if !sectors_fit(
         u,
@@ -163,9 +164,9 @@ pub fn move_sectors(
     ) {
         return idle();
     }
-    let moved = survey(image, u, span, heeds(to_host, past_marks));
+    let moved = survey(image, u, table, span, heeds(to_host, past_marks));
     let reached = first_sectors(span, moved.sectors);
-    carry(host, image, u, reached, to_host, lengths, addresses);
+    carry(host, image, u, table, reached, to_host, lengths, addresses);
     moved
 }
 
@@ -185,7 +186,7 @@ fn on_drive(g: Geometry, place: u64) -> bool
 }
 
 fn track_fits(u: Record, spot: Spot, at: u32, long: u64, image: u64) -> bool
-    ensures { λ r. ⌜ Says r (TrackFits u spot at long image) ⌝ }
+    ensures { λ r. ⌜ Says r (TrackFits (geometry (bare u)) spot at long image) ⌝ }
 {
     let g = u.geometry();
     if !on_drive(g, spot.place) {
@@ -199,8 +200,8 @@ fn track_fits(u: Record, spot: Spot, at: u32, long: u64, image: u64) -> bool
 
 // Writes the bytes of one sector, from an address of host memory on, to every sector of a track.
 pub fn format_track(host: &[u8], image: &mut [u8], u: Record, spot: Spot, at: u32) -> Moved
-    ensures result { λ r. ⌜ r ≡ trackResult (length (now (host .entry))) (now (image .entry)) u spot at .moved ⌝ }
-    ensures stores { λ _. ⌜ lent (now (host .entry)) (now (image .exit)) ≡ after (trackResult (length (now (host .entry))) (now (image .entry)) u spot at .stores) (lent (now (host .entry)) (now (image .entry))) ⌝ }
+    ensures result { λ r. ⌜ r ≡ trackResult (length (now (host .entry))) (now (image .entry)) (bare u) spot at .moved ⌝ }
+    ensures stores { λ _. ⌜ lent (now (host .entry)) (now (image .exit)) ≡ after (trackResult (length (now (host .entry))) (now (image .entry)) (bare u) spot at .stores) (lent (now (host .entry)) (now (image .entry))) ⌝ }
 {
     if !track_fits(u, spot, at, host.len() as u64, image.len() as u64) {
         return idle();

@@ -13,7 +13,7 @@ ghost use Prim.Native.Nat.{_+_, _≤_, _<_, min};
 ghost use lib.ListN.{length};
 ghost use Rattle.geometry.specs.Drive.{driveSectors, need, volumeSectors};
 ghost use Rattle.transfer.specs.Runs.{Advanced, Readable, RunAt, Spans, inARow, progressFrom, reached, rowOf};
-ghost use Rattle.unit.specs.Standing.{geometry};
+ghost use Rattle.unit.specs.Standing.{bare, geometry, unitOf};
 
 // A run of sectors that follow one another in the image.
 pub(crate) struct Run {
@@ -22,11 +22,11 @@ pub(crate) struct Run {
 }
 
 // The run from a number on, of the sectors asked for at most.
-pub(crate) fn run_at(u: Record, v: VolumeNumber, number: u64, most: u16) -> Run
-    requires { ⌜ (number < volumeSectors (geometry u) v) × (0 < most) ⌝ }
-    ensures { λ r. ⌜ RunAt u v number most r ⌝ }
+pub(crate) fn run_at(u: Record, table: &[u32; 64], v: VolumeNumber, number: u64, most: u16) -> Run
+    requires { ⌜ (number < volumeSectors (geometry (bare u)) v) × (0 < most) ⌝ }
+    ensures { λ r. ⌜ RunAt (unitOf u (now (table .entry))) v number most r ⌝ }
 {
-    let Landing::At(spot) = u.land(v, number) else {
+    let Landing::At(spot) = u.land(table, v, number) else {
         return Run {
             place: 0,
             sectors: 1,
@@ -94,18 +94,26 @@ pub(crate) fn reach(image: &[u8], g: Geometry, heeds: bool, place: u64, n: u16) 
 }
 
 // How far the run from a number on comes.
-fn advance(image: &[u8], u: Record, v: VolumeNumber, number: u64, most: u16, heeds: bool) -> Moved
-    requires { ⌜ (0 < most) × ((number + most ≤ volumeSectors (geometry u) v) × (need (geometry u) ≤ length (now image))) ⌝ }
-    ensures { λ r. ⌜ Advanced (now (image .entry)) u v number most heeds r ⌝ }
+fn advance(
+    image: &[u8],
+    u: Record,
+    table: &[u32; 64],
+    v: VolumeNumber,
+    number: u64,
+    most: u16,
+    heeds: bool,
+) -> Moved
+    requires { ⌜ (0 < most) × ((number + most ≤ volumeSectors (geometry (bare u)) v) × (need (geometry (bare u)) ≤ length (now image))) ⌝ }
+    ensures { λ r. ⌜ Advanced (now (image .entry)) (unitOf u (now (table .entry))) v number most heeds r ⌝ }
 {
-    let run = run_at(u, v, number, most);
+    let run = run_at(u, table, v, number, most);
     reach(image, u.geometry(), heeds, run.place, run.sectors)
 }
 
 // How far a span comes, run after run until one is stopped.
-pub(crate) fn survey(image: &[u8], u: Record, span: Span, heeds: bool) -> Moved
-    requires { ⌜ Spans u span × (need (geometry u) ≤ length (now image)) ⌝ }
-    ensures { λ r. ⌜ r ≡ reached (progressFrom (now (image .entry)) u (span .volume) heeds (span .first) (span .count)) ⌝ }
+pub(crate) fn survey(image: &[u8], u: Record, table: &[u32; 64], span: Span, heeds: bool) -> Moved
+    requires { ⌜ Spans (unitOf u (now table)) span × (need (geometry (bare u)) ≤ length (now image)) ⌝ }
+    ensures { λ r. ⌜ r ≡ reached (progressFrom (now (image .entry)) (unitOf u (now (table .entry))) (span .volume) heeds (span .first) (span .count)) ⌝ }
 {
     let volume = span.volume;
     let mut done: u16 = 0;
@@ -113,6 +121,7 @@ pub(crate) fn survey(image: &[u8], u: Record, span: Span, heeds: bool) -> Moved
         let m = advance(
             image,
             u,
+            table,
             volume,
             span.first + (done as u64),
             span.count - done,

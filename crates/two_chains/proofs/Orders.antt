@@ -25,19 +25,19 @@ module _ (t : Which) (c : Chain) (s : Both) {r : Outcome} {w : World} (came : Ca
   told-by-call : toldBy (cameOf r) ≡ runOf t c .out s
   told-by-call = ap (λ (o : Outcome). toldBy (cameOf o)) (came .result)
 
-module _ (c d : Chain) (host image0 image1 events1 events2 : List ℕ) (units : Units) where
+module _ (c d : Chain) (host image0 image1 events1 events2 tracks0 tracks1 : List ℕ) (units : Units) where
   abbrev s : Both
-  s = bothOf host image0 image1 events1 events2 units
+  s = bothOf host image0 image1 events1 events2 tracks0 tracks1 units
 
   pub first-then-second :
-      {r q : Outcome} {x y : Came} {h a b e h′ a′ b′ e′ : List ℕ} →
-      CameTo (ran (c .first) (c .allowance) (worldOf host image0 image1 events1 units)) (worldOf h a b e (r .units)) r →
-      CameTo (ran (d .first) (d .allowance) (worldOf h a b events2 (r .units))) (worldOf h′ a′ b′ e′ (q .units)) q →
+      {r q : Outcome} {x y : Came} {h a b e t u h′ a′ b′ e′ t′ u′ : List ℕ} →
+      CameTo (ran (c .first) (c .allowance) (worldOf host image0 image1 events1 tracks0 tracks1 units)) (worldOf h a b e t u (r .units)) r →
+      CameTo (ran (d .first) (d .allowance) (worldOf h a b events2 t u (r .units))) (worldOf h′ a′ b′ e′ t′ u′ (q .units)) q →
       x ≡ cameOf r → y ≡ cameOf q →
-      ranBothOf (record { first = x; second = y; units = q .units }) (bothOf h′ a′ b′ e e′ (q .units)) ≡
+      ranBothOf (record { first = x; second = y; units = q .units }) (bothOf h′ a′ b′ e e′ t′ u′ (q .units)) ≡
       ranBoth FirstThenSecond c d s
-  first-then-second {r} {q} {x} {y} {h} {a} {b} {e} one two is-x is-y =
-      let between = bothOf h a b e events2 (r .units) in
+  first-then-second {r} {q} {x} {y} {h} {a} {b} {e} {t} {u} one two is-x is-y =
+      let between = bothOf h a b e events2 t u (r .units) in
       let step = left-by-call First c s one in
       λ i.
       record {
@@ -51,14 +51,14 @@ mirrored : Both → Both
 mirrored s = record { host = s .host; drive0 = s .drive0; drive1 = s .drive1; events1 = s .events2; events2 = s .events1 }
 
 pub exchanged :
-    (c d : Chain) (host image0 image1 events1 events2 : List ℕ) (units : Units) (x : Twice)
-    (h a b e e′ : List ℕ) →
-    ranBothOf x (bothOf h a b e′ e (x .units)) ≡
-    ranBoth FirstThenSecond d c (bothOf host image0 image1 events2 events1 units) →
-    ranBothOf (record { first = x .second; second = x .first; units = x .units }) (bothOf h a b e e′ (x .units)) ≡
-    ranBoth SecondThenFirst c d (bothOf host image0 image1 events1 events2 units)
+    (c d : Chain) (host image0 image1 events1 events2 tracks0 tracks1 : List ℕ) (units : Units) (x : Twice)
+    (h a b e e′ t u : List ℕ) →
+    ranBothOf x (bothOf h a b e′ e t u (x .units)) ≡
+    ranBoth FirstThenSecond d c (bothOf host image0 image1 events2 events1 tracks0 tracks1 units) →
+    ranBothOf (record { first = x .second; second = x .first; units = x .units }) (bothOf h a b e e′ t u (x .units)) ≡
+    ranBoth SecondThenFirst c d (bothOf host image0 image1 events1 events2 tracks0 tracks1 units)
 unfolding mirrored
-exchanged c d host image0 image1 events1 events2 units x h a b e e′ is =
+exchanged c d host image0 image1 events1 events2 tracks0 tracks1 units x h a b e e′ t u is =
     λ i. record { first = is i .second; second = is i .first; left = mirrored (is i .left) }
 
 -- Of independent chains the order does not matter, whichever it is.

@@ -1,6 +1,7 @@
 -- Two chains run one after the other, in each order, as the code hands them back.
 use Prim.Native.Nat.{ℕ}
 use mathlib.Core.List.{List}
+use Rattle.unit.specs.Standing.{unitOf}
 use Rattle.board.specs.declared.Units.{Units}
 use Rattle.board.specs.declared.chain.Outcome.{Outcome}
 use Rattle.two_chains.specs.declared.Came.{Came}
@@ -10,12 +11,12 @@ use Rattle.two_chains.specs.declared.Twice.{Twice}
 use Rattle.independence.specs.Chains.{Both, Chain, First, Second, Told, runOf}
 
 -- What a caller lends.
-abbrev pub bothOf : (host image0 image1 events1 events2 : List ℕ) → Units → Both
-bothOf host image0 image1 events1 events2 units =
+abbrev pub bothOf : (host image0 image1 events1 events2 tracks0 tracks1 : List ℕ) → Units → Both
+bothOf host image0 image1 events1 events2 tracks0 tracks1 units =
     record {
       host = host;
-      drive0 = record { unit = units .zero; image = image0 };
-      drive1 = record { unit = units .one; image = image1 };
+      drive0 = record { unit = unitOf (units .zero) tracks0; image = image0 };
+      drive1 = record { unit = unitOf (units .one) tracks1; image = image1 };
       events1 = events1;
       events2 = events2;
     }

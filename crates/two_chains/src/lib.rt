@@ -48,18 +48,40 @@ fn in_turn(
     image1: &mut [u8],
     events1: &mut [u8],
     events2: &mut [u8],
+    map0: &mut [u32; 64],
+    map1: &mut [u32; 64],
     units: Units,
     first1: u32,
     allowance1: u32,
     first2: u32,
     allowance2: u32,
 ) -> Twice
-    ensures { λ r. ⌜ ranBothOf r (bothOf (now (host .exit)) (now (image0 .exit)) (now (image1 .exit)) (now (events1 .exit)) (now (events2 .exit)) (r .units))
-        ≡ ranBoth Order.FirstThenSecond (chainOf first1 allowance1) (chainOf first2 allowance2) (bothOf (now (host .entry)) (now (image0 .entry)) (now (image1 .entry)) (now (events1 .entry)) (now (events2 .entry)) units) ⌝ }
+    ensures { λ r. ⌜ ranBothOf r (bothOf (now (host .exit)) (now (image0 .exit)) (now (image1 .exit)) (now (events1 .exit)) (now (events2 .exit)) (now (map0 .exit)) (now (map1 .exit)) (r .units))
+        ≡ ranBoth Order.FirstThenSecond (chainOf first1 allowance1) (chainOf first2 allowance2) (bothOf (now (host .entry)) (now (image0 .entry)) (now (image1 .entry)) (now (events1 .entry)) (now (events2 .entry)) (now (map0 .entry)) (now (map1 .entry)) units) ⌝ }
 {
-    let one = board::run(host, image0, image1, events1, units, first1, allowance1);
+    let one = board::run(
+        host,
+        image0,
+        image1,
+        events1,
+        map0,
+        map1,
+        units,
+        first1,
+        allowance1,
+    );
     let between = one.units;
-    let two = board::run(host, image0, image1, events2, between, first2, allowance2);
+    let two = board::run(
+        host,
+        image0,
+        image1,
+        events2,
+        map0,
+        map1,
+        between,
+        first2,
+        allowance2,
+    );
     let after = two.units;
     Twice {
         first: told(one),
@@ -75,6 +97,8 @@ pub fn run_both(
     image1: &mut [u8],
     events1: &mut [u8],
     events2: &mut [u8],
+    map0: &mut [u32; 64],
+    map1: &mut [u32; 64],
     units: Units,
     order: Order,
     first1: u32,
@@ -82,8 +106,8 @@ pub fn run_both(
     first2: u32,
     allowance2: u32,
 ) -> Twice
-    ensures { λ r. ⌜ ranBothOf r (bothOf (now (host .exit)) (now (image0 .exit)) (now (image1 .exit)) (now (events1 .exit)) (now (events2 .exit)) (r .units))
-        ≡ ranBoth order (chainOf first1 allowance1) (chainOf first2 allowance2) (bothOf (now (host .entry)) (now (image0 .entry)) (now (image1 .entry)) (now (events1 .entry)) (now (events2 .entry)) units) ⌝ }
+    ensures { λ r. ⌜ ranBothOf r (bothOf (now (host .exit)) (now (image0 .exit)) (now (image1 .exit)) (now (events1 .exit)) (now (events2 .exit)) (now (map0 .exit)) (now (map1 .exit)) (r .units))
+        ≡ ranBoth order (chainOf first1 allowance1) (chainOf first2 allowance2) (bothOf (now (host .entry)) (now (image0 .entry)) (now (image1 .entry)) (now (events1 .entry)) (now (events2 .entry)) (now (map0 .entry)) (now (map1 .entry)) units) ⌝ }
 {
     match order {
         Order::FirstThenSecond => in_turn(
@@ -92,6 +116,8 @@ pub fn run_both(
             image1,
             events1,
             events2,
+            map0,
+            map1,
             units,
             first1,
             allowance1,
@@ -105,6 +131,8 @@ pub fn run_both(
                 image1,
                 events2,
                 events1,
+                map0,
+                map1,
                 units,
                 first2,
                 allowance2,

@@ -2,7 +2,7 @@
 -- An answer of the geometry tells whether the sector is on the drive, and that picks the side of each definition.
 use Prim.Native.Nat.{ℕ, _-_, _<_, _≤_}
 use mathlib.Core.Logic.{by-cases, if-neg, if-pos}
-use mathlib.Core.Path.{_≡_, sym, ap, _∙_}
+use mathlib.Core.Path.{_≡_, sym, ap, subst, _∙_}
 use native.Mathlib.Decide.{decLt}
 use native.Mathlib.Omega.{arith}
 use Rattle.geometry.specs.declared.Address.{Address}
@@ -16,81 +16,116 @@ use Rattle.geometry.proofs.Answers.{at-found, at-placed, no-address, no-place}
 use Rattle.geometry.proofs.Laws.{address-on-drive}
 use Rattle.unit.specs.declared.Landing.{Landing}
 use Rattle.wire.proofs.Promises.{never}
-use Rattle.unit.specs.declared.Record.{Record}
 use Rattle.unit.specs.declared.Spot.{Spot}
-use Rattle.unit.specs.Landing.{landing, landingAt, spotAt, spotOf, trackLanding, trackOf}
-use Rattle.unit.specs.Landing.Behind.{spotAt-is, spotOf-is, trackOf-is}
+use Rattle.unit.specs.Landing.{landed, landing, landingAt, onto, servedLanding, spotAt, spotOf, spotted, trackLanding, trackOf}
+use Rattle.unit.specs.Landing.Behind.{landed-is, spotAt-is, spotOf-is, trackOf-is}
+use Rattle.unit.specs.Standing.{UnitRecord, geometry, pairs, table}
+use Rattle.unit.proofs.Laws.{landed-on-drive}
+use Rattle.spares.specs.declared.Served.{Served}
+use Rattle.spares.specs.declared.Served.the-variants.{Itself, By}
+use Rattle.spares.specs.Table.{servedAt}
 
-pub landingAt-inside : (g : Geometry) (a : Address) → OnDrive g a → landingAt g a ≡ Landing.At (spotAt g a)
+pub spotted-inside : (g : Geometry) (a : Address) → OnDrive g a → spotted g a ≡ Landing.At (spotAt g a)
+unfolding spotted
+spotted-inside g a on = if-pos (onDrive? g a) on _ _
+
+pub landingAt-inside : (u : UnitRecord) (a : Address) → OnDrive (geometry u) a → landingAt u a ≡ Landing.At (spotAt (geometry u) (landed u a))
 unfolding landingAt
-landingAt-inside g a on = if-pos (onDrive? g a) on _ _
+landingAt-inside u a on = if-pos (onDrive? (geometry u) a) on _ _
 
-pub landing-inside : (u : Record) (v : VolumeNumber) (n : ℕ) → n < volumeSectors (u .geometry) v → landing u v n ≡ Landing.At (spotOf u v n)
+pub landing-inside : (u : UnitRecord) (v : VolumeNumber) (n : ℕ) → n < volumeSectors (geometry u) v → landing u v n ≡ Landing.At (spotOf u v n)
 unfolding landing
-landing-inside u v n inside = if-pos (decLt n (volumeSectors (u .geometry) v)) inside _ _
+landing-inside u v n inside = if-pos (decLt n (volumeSectors (geometry u) v)) inside _ _
 
-pub landing-outside : (u : Record) (v : VolumeNumber) (n : ℕ) → volumeSectors (u .geometry) v ≤ n → landing u v n ≡ Landing.Outside
+pub landing-outside : (u : UnitRecord) (v : VolumeNumber) (n : ℕ) → volumeSectors (geometry u) v ≤ n → landing u v n ≡ Landing.Outside
 unfolding landing
-landing-outside u v n out = if-neg (decLt n (volumeSectors (u .geometry) v)) (λ inside. omega arith) _ _
+landing-outside u v n out = if-neg (decLt n (volumeSectors (geometry u) v)) (λ inside. omega arith) _ _
 
-pub trackLanding-is : (u : Record) (c h : ℕ) → trackLanding u c h ≡ landingAt (u .geometry) (address c h 0)
+pub trackLanding-is : (u : UnitRecord) (c h : ℕ) → trackLanding u c h ≡ landingAt u (address c h 0)
 unfolding landingAt trackLanding
 trackLanding-is u c h = rw trackOf-is
 
 -- ---- from the geometry's answers
 
-pub landed :
+pub at-its-spot :
     (g : Geometry) (a : Address) (p : ℕ) →
     placed g a ≡ Place.At p →
-    Landing.At (record { cylinder = a .cylinder; place = p; rest = S g - a .sector }) ≡ landingAt g a
-landed g a p is =
+    Landing.At (record { cylinder = a .cylinder; place = p; rest = S g - a .sector }) ≡ spotted g a
+at-its-spot g a p is =
     let at = at-placed g a p is in
-    rw (landingAt-inside g a (at .0), spotAt-is, at .1)
+    rw (spotted-inside g a (at .0), spotAt-is, at .1)
 
-pub not-landed : (g : Geometry) (a : Address) → placed g a ≡ Place.Outside → Landing.Outside ≡ landingAt g a
+pub at-no-spot : (g : Geometry) (a : Address) → placed g a ≡ Place.Outside → Landing.Outside ≡ spotted g a
+unfolding spotted
+at-no-spot g a is = sym (if-neg (onDrive? g a) (no-place g a is) _ _)
+
+-- ---- from an address's own spot to where it lands
+
+pub own-spot : (g : Geometry) (a : Address) (s : Spot) → spotted g a ≡ Landing.At s → OnDrive g a × (s ≡ spotAt g a)
+unfolding spotted
+own-spot g a s is =
+    by-cases (onDrive? g a) (λ on. (on, cc (spotted-inside g a on)))
+    (λ out. absurd (never (cc (if-neg (onDrive? g a) out (Landing.At (spotAt g a)) Landing.Outside))))
+
+pub served-lands :
+    (u : UnitRecord) (a : Address) → OnDrive (geometry u) a →
+    servedLanding (geometry u) a (servedAt (geometry u) (pairs u) (table u) (a .cylinder) (a .head)) ≡ landingAt u a
+served-lands u a on =
+    let its = landed-on-drive u a on in
+    rw (landingAt-inside u a on) (by-served (servedAt (geometry u) (pairs u) (table u) (a .cylinder) (a .head)) (landed-is u a) its)
+  where
+    by-served :
+        (s : Served) → landed u a ≡ onto s a → OnDrive (geometry u) (landed u a) →
+        servedLanding (geometry u) a s ≡ Landing.At (spotAt (geometry u) (landed u a))
+    by-served Itself is on = ap (λ (x : Address). Landing.At (spotAt (geometry u) x)) (sym is)
+    by-served (By k) is on =
+        spotted-inside (geometry u) _ (subst (OnDrive (geometry u)) is on) ∙ ap (λ (x : Address). Landing.At (spotAt (geometry u) x)) (sym is)
+
+pub nowhere : (u : UnitRecord) (a : Address) → spotted (geometry u) a ≡ Landing.Outside → Landing.Outside ≡ landingAt u a
 unfolding landingAt
-not-landed g a is = sym (if-neg (onDrive? g a) (no-place g a is) _ _)
+nowhere u a is =
+    sym (if-neg (onDrive? (geometry u) a) (λ on. never (cc (spotted-inside (geometry u) a on))) _ _)
 
 pub found-lands :
-    (u : Record) (v : VolumeNumber) (n : ℕ) (a : Address) →
-    found (u .geometry) v n ≡ Found.At a → landingAt (u .geometry) a ≡ landing u v n
+    (u : UnitRecord) (v : VolumeNumber) (n : ℕ) (a : Address) →
+    found (geometry u) v n ≡ Found.At a → landingAt u a ≡ landing u v n
 found-lands u v n a is =
-    let at = at-found (u .geometry) v n a is in
+    let at = at-found (geometry u) v n a is in
     rw (
       at .1,
-      landingAt-inside (u .geometry) _ (address-on-drive (u .geometry) v n (at .0)),
+      landingAt-inside u _ (address-on-drive (geometry u) v n (at .0)),
       landing-inside u v n (at .0),
       spotOf-is,
     )
 
 pub not-found-lands :
-    (u : Record) (v : VolumeNumber) (n : ℕ) → found (u .geometry) v n ≡ Found.Outside → Landing.Outside ≡ landing u v n
-not-found-lands u v n is = sym (landing-outside u v n (no-address (u .geometry) v n is))
+    (u : UnitRecord) (v : VolumeNumber) (n : ℕ) → found (geometry u) v n ≡ Found.Outside → Landing.Outside ≡ landing u v n
+not-found-lands u v n is = sym (landing-outside u v n (no-address (geometry u) v n is))
 
 -- ---- the other way: an answer tells which case it is
 
 pub at-landing :
-    (u : Record) (v : VolumeNumber) (n : ℕ) (s : Spot) →
-    landing u v n ≡ Landing.At s → (n < volumeSectors (u .geometry) v) × (s ≡ spotOf u v n)
+    (u : UnitRecord) (v : VolumeNumber) (n : ℕ) (s : Spot) →
+    landing u v n ≡ Landing.At s → (n < volumeSectors (geometry u) v) × (s ≡ spotOf u v n)
 at-landing u v n s is =
-    by-cases (decLt n (volumeSectors (u .geometry) v)) (λ inside. (inside, cc (landing-inside u v n inside)))
+    by-cases (decLt n (volumeSectors (geometry u) v)) (λ inside. (inside, cc (landing-inside u v n inside)))
     (λ out. absurd (never (cc (landing-outside u v n (omega arith)))))
 
-pub no-landing : (u : Record) (v : VolumeNumber) (n : ℕ) → landing u v n ≡ Landing.Outside → volumeSectors (u .geometry) v ≤ n
+pub no-landing : (u : UnitRecord) (v : VolumeNumber) (n : ℕ) → landing u v n ≡ Landing.Outside → volumeSectors (geometry u) v ≤ n
 no-landing u v n is =
-    by-cases (decLt n (volumeSectors (u .geometry) v)) (λ inside. absurd (never (cc (landing-inside u v n inside))))
+    by-cases (decLt n (volumeSectors (geometry u) v)) (λ inside. absurd (never (cc (landing-inside u v n inside))))
     (λ out. omega arith)
 
 pub at-track :
-    (u : Record) (c h : ℕ) (s : Spot) →
-    trackLanding u c h ≡ Landing.At s → OnDrive (u .geometry) (address c h 0) × (s ≡ trackOf u c h)
+    (u : UnitRecord) (c h : ℕ) (s : Spot) →
+    trackLanding u c h ≡ Landing.At s → OnDrive (geometry u) (address c h 0) × (s ≡ trackOf u c h)
 unfolding trackLanding
 at-track u c h s is =
-    by-cases (onDrive? (u .geometry) (address c h 0))
-    (λ on. (on, cc (if-pos (onDrive? (u .geometry) (address c h 0)) on (Landing.At (trackOf u c h)) Landing.Outside)))
-    (λ out. absurd (never (cc (if-neg (onDrive? (u .geometry) (address c h 0)) out (Landing.At (trackOf u c h)) Landing.Outside))))
+    by-cases (onDrive? (geometry u) (address c h 0))
+    (λ on. (on, cc (if-pos (onDrive? (geometry u) (address c h 0)) on (Landing.At (trackOf u c h)) Landing.Outside)))
+    (λ out. absurd (never (cc (if-neg (onDrive? (geometry u) (address c h 0)) out (Landing.At (trackOf u c h)) Landing.Outside))))
 
-pub no-track : (u : Record) (c h : ℕ) → trackLanding u c h ≡ Landing.Outside → OnDrive (u .geometry) (address c h 0) → ⊥
+pub no-track : (u : UnitRecord) (c h : ℕ) → trackLanding u c h ≡ Landing.Outside → OnDrive (geometry u) (address c h 0) → ⊥
 unfolding trackLanding
 no-track u c h is on =
-    never (cc (if-pos (onDrive? (u .geometry) (address c h 0)) on (Landing.At (trackOf u c h)) Landing.Outside))
+    never (cc (if-pos (onDrive? (geometry u) (address c h 0)) on (Landing.At (trackOf u c h)) Landing.Outside))

@@ -1,21 +1,31 @@
--- Where requests land, as the crates above may know it: inside the drive, each sector somewhere else, a track in one run.
--- Each is the geometry's law of the same name, met through the equations of Behind.
+-- Where requests land, as the crates above may know it: inside the drive, and a track in one run.
+-- Each is the geometry's law of the same name, of the address on the track that serves the one named.
 use Prim.Native.Nat.{ℕ, _+_, _-_, _≤_, _<_}
-use mathlib.Core.Path.{_≡_, refl, ap, _∙_}
+use mathlib.Core.Logic.{by-cases, if-neg, if-pos}
+use mathlib.Core.Path.{_≡_, refl, sym, ap, subst, _∙_}
+use native.Mathlib.Decide.{decLt}
 use native.Mathlib.Nat.{sub-zero}
 use native.Mathlib.Omega.{arith}
 use Rattle.geometry.specs.declared.Address.{Address}
 use Rattle.geometry.specs.declared.Geometry.{Geometry}
 use Rattle.geometry.specs.declared.VolumeNumber.{VolumeNumber}
 use Rattle.geometry.specs.declared.VolumeNumber.the-variants.{Zero, One}
-use Rattle.geometry.specs.Drive.{C, S, driveSectors, volumeSectors}
+use Rattle.geometry.specs.Drive.{C, S, driveHeads, driveSectors, volumeSectors}
 use Rattle.geometry.specs.Limits.{VolumesWithin}
 use Rattle.geometry.specs.Sectors.{InVolume, OnDrive, address, addressOf, numberOf, placeOf}
 use Rattle.geometry.proofs.Laws as geometry
-use Rattle.unit.specs.declared.Record.{Record}
+use Rattle.spares.specs.declared.Served.{Served}
+use Rattle.spares.specs.declared.Served.the-variants.{Itself, By}
+use Rattle.spares.specs.declared.Track.{Track}
+use Rattle.spares.specs.Table.{served, servedAt}
+use Rattle.spares.specs.Tracks.{trackNumber}
+use Rattle.spares.proofs.Laws.{empty-serves-itself, server-on-drive}
 use Rattle.unit.specs.declared.Spot.{Spot}
-use Rattle.unit.specs.Landing.{spotAt, spotOf, trackOf}
-use Rattle.unit.specs.Landing.Behind.{spotAt-is, spotOf-is, trackOf-is}
+use Rattle.unit.specs.Landing.{landed, onto, spotAt, spotOf, trackOf}
+use Rattle.unit.specs.Landing.Behind.{landed-is, spotAt-is, spotOf-is, trackOf-is}
+use Rattle.unit.specs.Standing.{UnitRecord, pairs, table}
+use Rattle.unit.specs.Standing as standing
+use Rattle.wire.proofs.Promises.{never}
 
 -- A spot inside the drive, with the rest of its track.
 pub record InDrive (g : Geometry) (s : Spot) : Type 0 where
@@ -32,26 +42,86 @@ module _ (g : Geometry) (a : Address) (on : OnDrive g a) where
       (omega
       (arith, geometry.place-inside g _ end-on, geometry.track-consecutive g (a .cylinder) (a .head) (a .sector) last))
 
-pub track-inside : (u : Record) (c h : ℕ) → OnDrive (u .geometry) (address c h 0) → InDrive (u .geometry) (trackOf u c h)
-track-inside u c h on = rw trackOf-is (spotAt-inside (u .geometry) (address c h 0) on)
+-- ---- where an address lands
 
--- From a track's first sector on the whole track is left.
-pub track-whole : (u : Record) (c h : ℕ) → trackOf u c h .rest ≡ S (u .geometry)
-track-whole u c h = rw (trackOf-is, spotAt-is) (sub-zero (S (u .geometry)))
+module _ (u : UnitRecord) where
+  abbrev shape : Geometry
+  shape = standing.geometry u
 
-module _ (u : Record) (v : VolumeNumber) where
+  abbrev serving : ℕ → ℕ → Served
+  serving c h = servedAt shape (pairs u) (table u) c h
+
+  -- Where no pair counts, an address lands where it says.
+  pub no-pairs-lands-there : pairs u ≡ 0 → (a : Address) → landed u a ≡ a
+  no-pairs-lands-there none a =
+      let alone : served shape (pairs u) (table u) (trackNumber (a .cylinder) (a .head)) ≡ Itself = rw none (empty-serves-itself shape (table u) (trackNumber (a .cylinder) (a .head))) in
+      let itself : serving (a .cylinder) (a .head) ≡ Itself =
+      by-cases (decLt (a .head) 256) (λ small. if-pos (decLt (a .head) 256) small _ _ ∙ alone) (λ large. if-neg (decLt (a .head) 256) large _ _) in
+      landed-is u a ∙ ap (λ (x : Served). onto x a) itself
+
+  -- A spare that serves is on the drive.
+  served-on : (c h : ℕ) (k : Track) → serving c h ≡ By k → (k .cylinder < C shape) × (k .head < driveHeads shape)
+  served-on c h k is =
+      by-cases (decLt h 256) (λ small. server-on-drive shape (pairs u) (table u) (trackNumber c h) k (sym (if-pos (decLt h 256) small _ _) ∙ is))
+      (λ large.
+      let none : serving c h ≡ Itself = if-neg (decLt h 256) large _ _ in
+      absurd (never (cc none)))
+
+  pub landed-on-drive : (a : Address) → OnDrive shape a → OnDrive shape (landed u a)
+  landed-on-drive a on = rw landed-is (by-served (serving (a .cylinder) (a .head)) refl)
+    where
+      by-served : (s : Served) → serving (a .cylinder) (a .head) ≡ s → OnDrive shape (onto s a)
+      by-served Itself is = on
+      by-served (By k) is =
+          let its = served-on (a .cylinder) (a .head) k is in
+          record { cylinder = its .0; head = its .1; sector = on .sector }
+
+  pub landed-sector : (a : Address) → landed u a .sector ≡ a .sector
+  landed-sector a = rw landed-is (by-served (serving (a .cylinder) (a .head)))
+    where
+      by-served : (s : Served) → onto s a .sector ≡ a .sector
+      by-served Itself = refl
+      by-served (By k) = refl
+
+  -- The sectors of a track land on one track, in their order.
+  pub landed-in-a-row :
+      (c h s k : ℕ) →
+      landed u (address c h (s + k)) ≡
+      address (landed u (address c h s) .cylinder) (landed u (address c h s) .head) (landed u (address c h s) .sector + k)
+  landed-in-a-row c h s k = rw (landed-is u (address c h (s + k)), landed-is u (address c h s)) (by-served (serving c h))
+    where
+      by-served :
+          (x : Served) →
+          onto x (address c h (s + k)) ≡
+          address (onto x (address c h s) .cylinder) (onto x (address c h s) .head) (onto x (address c h s) .sector + k)
+      by-served Itself = refl
+      by-served (By t) = refl
+
+  -- ---- a track
+
+  pub track-inside : (c h : ℕ) → OnDrive shape (address c h 0) → InDrive shape (trackOf u c h)
+  track-inside c h on = rw trackOf-is (spotAt-inside shape (landed u (address c h 0)) (landed-on-drive (address c h 0) on))
+
+  -- From a track's first sector on the whole track is left.
+  pub track-whole : (c h : ℕ) → trackOf u c h .rest ≡ S shape
+  track-whole c h = rw (trackOf-is, spotAt-is, landed-sector) (sub-zero (S shape))
+
+module _ (u : UnitRecord) (v : VolumeNumber) where
   abbrev g : Geometry
-  g = u .geometry
+  g = standing.geometry u
+
+  abbrev lands : ℕ → Address
+  lands n = landed u (addressOf g v n)
 
   parts :
       (n : ℕ) →
-      (spotOf u v n .cylinder ≡ addressOf g v n .cylinder) ×
-      ((spotOf u v n .place ≡ placeOf g (addressOf g v n)) × (spotOf u v n .rest ≡ S g - addressOf g v n .sector))
-  parts n = rw (spotOf-is, spotAt-is) (refl, (refl, refl))
+      (spotOf u v n .cylinder ≡ lands n .cylinder) ×
+      ((spotOf u v n .place ≡ placeOf g (lands n)) × (spotOf u v n .rest ≡ S g - addressOf g v n .sector))
+  parts n = rw (spotOf-is, spotAt-is, landed-sector) (refl, (refl, refl))
 
   -- Each number of a volume lands inside the drive.
   pub spot-inside : (n : ℕ) → n < volumeSectors g v → InDrive g (spotOf u v n)
-  spot-inside n inside = rw spotOf-is (spotAt-inside g _ (geometry.address-on-drive g v n inside))
+  spot-inside n inside = rw spotOf-is (spotAt-inside g _ (landed-on-drive u _ (geometry.address-on-drive g v n inside)))
 
   -- The rest of a track is consecutive, in the volume and in the image.
   pub spots-consecutive :
@@ -60,25 +130,11 @@ module _ (u : Record) (v : VolumeNumber) where
   spots-consecutive n k inside rest =
       let here = parts n in
       let there = parts (n + k) in
-      let more : addressOf g v n .sector + k < S g = omega arith in
-      (geometry.track-inside g v n inside k more, omega (arith, geometry.track-places g v n inside k more))
-
-  -- Two different numbers of a volume have two different places.
-  pub spots-differ :
-      (n m : ℕ) → n < volumeSectors g v → m < volumeSectors g v → spotOf u v n .place ≡ spotOf u v m .place → n ≡ m
-  spots-differ n m n-in m-in same =
-      geometry.numbers-differ g v n m n-in m-in (omega (arith, parts n, parts m))
-
-  -- A physical address of the volume lands on its own cylinder.
-  pub number-lands : (c h s : ℕ) → InVolume g v c h s → spotOf u v (numberOf g v c h s) .cylinder ≡ c
-  number-lands c h s in-it =
-      parts (numberOf g v c h s) .0
-      ∙ ap (λ (a : Address). a .cylinder) (geometry.number-leads-back g v c h s (in-it .head) (in-it .sector))
-
--- Sectors of two volumes have different places.
-pub volumes-differ :
-    (u : Record) → VolumesWithin (u .geometry) → (n m : ℕ) →
-    n < volumeSectors (u .geometry) Zero → m < volumeSectors (u .geometry) One →
-    spotOf u Zero n .place ≡ spotOf u One m .place → ⊥
-volumes-differ u w n m n-in m-in same =
-    geometry.volumes-differ (u .geometry) w n m n-in m-in (omega (arith, parts u Zero n, parts u One m))
+      let a = addressOf g v n in
+      let more : a .sector + k < S g = omega arith in
+      let next : lands (n + k) ≡ address (lands n .cylinder) (lands n .head) (lands n .sector + k) =
+      ap (landed u) (geometry.track-numbers g v n inside k more) ∙ landed-in-a-row u (a .cylinder) (a .head) (a .sector) k in (
+        geometry.track-inside g v n inside k more,
+        there .1 .0 ∙ ap (placeOf g) next ∙ geometry.track-consecutive g (lands n .cylinder) (lands n .head) (lands n .sector) k ∙
+            ap (λ (x : ℕ). x + k) (sym (here .1 .0)),
+      )

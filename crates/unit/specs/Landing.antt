@@ -10,32 +10,51 @@ use Rattle.geometry.specs.declared.VolumeNumber.{VolumeNumber}
 use Rattle.geometry.specs.Drive.{S, volumeSectors}
 use Rattle.geometry.specs.Sectors.{address, addressOf, numbered, onDrive?, placeOf}
 use Rattle.unit.specs.declared.Landing.{Landing}
-use Rattle.unit.specs.declared.Record.{Record}
+use Rattle.spares.specs.declared.Served.{Served}
+use Rattle.spares.specs.declared.Served.the-variants.{Itself, By}
+use Rattle.spares.specs.Table.{servedAt}
 use Rattle.unit.specs.declared.Spot.{Spot}
+use Rattle.unit.specs.Standing.{UnitRecord, geometry, pairs, table}
 pub mod Behind
 
 -- A sector of the drive: its cylinder, its "place in the image", and the sectors from it to the end of its track.
 pub spotAt : Geometry → Address → Spot
 spotAt g a = record { cylinder = a .cylinder; place = placeOf g a; rest = S g - a .sector }
 
+-- Where an address lands: "Every later command that lands on a bad track works on its spare" (02, K5). The sector stays.
+abbrev pub onto : Served → Address → Address
+onto Itself a = a
+onto (By k) a = address (k .cylinder) (k .head) (a .sector)
+
+pub landed : UnitRecord → Address → Address
+landed u a = onto (servedAt (geometry u) (pairs u) (table u) (a .cylinder) (a .head)) a
+
 -- The sector with a number in a volume.
-pub spotOf : Record → VolumeNumber → ℕ → Spot
-spotOf u v n = spotAt (u .geometry) (addressOf (u .geometry) v n)
+pub spotOf : UnitRecord → VolumeNumber → ℕ → Spot
+spotOf u v n = spotAt (geometry u) (landed u (addressOf (geometry u) v n))
 
 -- The first sector of a track, its head "counted over the whole drive" (01, One run, 8C).
-pub trackOf : Record → ℕ → ℕ → Spot
-trackOf u c h = spotAt (u .geometry) (address c h 0)
+pub trackOf : UnitRecord → ℕ → ℕ → Spot
+trackOf u c h = spotAt (geometry u) (landed u (address c h 0))
 
--- What the functions answer: the spot, or that the drive has none.
-unfoldable pub landingAt : Geometry → Address → Landing
-landingAt g a = ite (onDrive? g a) (Landing.At (spotAt g a)) Landing.Outside
+-- What the functions answer: the spot, or that the drive has none. That goes by the address named, and not by where it lands.
+unfoldable pub spotted : Geometry → Address → Landing
+spotted g a = ite (onDrive? g a) (Landing.At (spotAt g a)) Landing.Outside
 
-unfoldable pub landing : Record → VolumeNumber → ℕ → Landing
-landing u v n = ite (decLt n (volumeSectors (u .geometry) v)) (Landing.At (spotOf u v n)) Landing.Outside
+-- Of an address that the drive has, by what serves its track: its own spot, or that of the spare, which is on the drive.
+abbrev pub servedLanding : Geometry → Address → Served → Landing
+servedLanding g a Itself = Landing.At (spotAt g a)
+servedLanding g a (By k) = spotted g (address (k .cylinder) (k .head) (a .sector))
 
-unfoldable pub trackLanding : Record → ℕ → ℕ → Landing
-trackLanding u c h = ite (onDrive? (u .geometry) (address c h 0)) (Landing.At (trackOf u c h)) Landing.Outside
+unfoldable pub landingAt : UnitRecord → Address → Landing
+landingAt u a = ite (onDrive? (geometry u) a) (Landing.At (spotAt (geometry u) (landed u a))) Landing.Outside
 
--- The number in a volume of a physical address on this unit.
-unfoldable pub numberOn : Record → VolumeNumber → ℕ → ℕ → ℕ → Number
-numberOn u v c h s = numbered (u .geometry) v c h s
+unfoldable pub landing : UnitRecord → VolumeNumber → ℕ → Landing
+landing u v n = ite (decLt n (volumeSectors (geometry u) v)) (Landing.At (spotOf u v n)) Landing.Outside
+
+unfoldable pub trackLanding : UnitRecord → ℕ → ℕ → Landing
+trackLanding u c h = ite (onDrive? (geometry u) (address c h 0)) (Landing.At (trackOf u c h)) Landing.Outside
+
+-- The number in a volume of a physical address, which goes by the shape of the drive alone.
+unfoldable pub numberOn : Geometry → VolumeNumber → ℕ → ℕ → ℕ → Number
+numberOn g v c h s = numbered g v c h s

@@ -1,44 +1,84 @@
--- The unit record and when it counts as initialized (01, Geometry).
-use Prim.Native.Nat.{ℕ, _<_}
+-- The unit record and when it counts as initialized (01, Geometry; 02, K5).
+use Prim.Native.Nat.{ℕ, _+_, _<_}
 use mathlib.Core.Bool.{Bool, false, true}
+use mathlib.Core.List.{List, []}
 use mathlib.Core.Path.{_≡_}
+use lib.ListN.{replicate}
 use Rattle.geometry.specs.declared.Geometry.{Geometry}
 use Rattle.geometry.specs.Drive.{C, geometryOf, volumeOf}
 use Rattle.geometry.specs.Limits.{Within}
+use Rattle.spares.specs.Table.{Good}
 use Rattle.unit.specs.declared.Record.{Record}
 
--- A unit's record: "whether the unit is initialized, its geometry and its cylinder". Whoever stands above takes one apart and makes one by
--- the names that follow and by no other, so that a record can come to hold more.
-abbrev pub UnitRecord : Type 0
-UnitRecord = Record
+-- A unit's record: "whether the unit is initialized, its geometry and its cylinder", and "a table of 32 pairs" (02, K5), of which so many count.
+-- Whoever stands above takes one apart and makes one by the names that follow and by no other, so that a record can come to hold more.
+pub record UnitRecord : Type 0 where
+  pub held : Record
+  pub tracks : List ℕ
 
 abbrev pub initialized : UnitRecord → Bool
-initialized u = u .initialized
+initialized u = u .held .initialized
 
 abbrev pub geometry : UnitRecord → Geometry
-geometry u = u .geometry
+geometry u = u .held .geometry
 
 abbrev pub cylinder : UnitRecord → ℕ
-cylinder u = u .cylinder
+cylinder u = u .held .cylinder
+
+-- How many pairs of the table count, and its tracks.
+abbrev pub pairs : UnitRecord → ℕ
+pairs u = u .held .pairs
+
+abbrev pub table : UnitRecord → List ℕ
+table u = u .tracks
+
+-- A record in two parts, as the code has it: what goes by value, and the table, which is lent.
+abbrev pub unitOf : Record → List ℕ → UnitRecord
+unitOf r ts = record { held = r; tracks = ts }
+
+abbrev pub byValue : UnitRecord → Record
+byValue u = u .held
+
+-- What goes by value alone, for whoever asks it what no table tells.
+abbrev pub bare : Record → UnitRecord
+bare r = unitOf r []
 
 -- A record from what it is to say, as a caller hands one in.
-abbrev pub recordOf : Bool → Geometry → ℕ → UnitRecord
-recordOf initialized geometry cylinder = record { initialized = initialized; geometry = geometry; cylinder = cylinder }
+abbrev pub heldOf : Bool → Geometry → ℕ → ℕ → Record
+heldOf initialized geometry cylinder pairs =
+    record { initialized = initialized; geometry = geometry; cylinder = cylinder; pairs = pairs }
 
--- A unit that has just been initialized: "cylinder 0" (01, One run, 87).
-abbrev pub fresh : Geometry → UnitRecord
-fresh g = recordOf true g 0
+abbrev pub recordOf : Bool → Geometry → ℕ → ℕ → List ℕ → UnitRecord
+recordOf initialized geometry cylinder pairs ts = unitOf (heldOf initialized geometry cylinder pairs) ts
+
+-- A unit that has just been initialized: "cylinder 0" (01, One run, 87), and "A successful 87 clears the table": no pair of it counts.
+abbrev pub freshly : Geometry → Record
+freshly g = heldOf true g 0 0
+
+abbrev pub fresh : Geometry → List ℕ → UnitRecord
+fresh g ts = unitOf (freshly g) ts
 
 -- The same unit with its heads on a cylinder.
+abbrev pub headsOn : Record → ℕ → Record
+headsOn r c = heldOf (r .initialized) (r .geometry) c (r .pairs)
+
 abbrev pub movedTo : UnitRecord → ℕ → UnitRecord
-movedTo u c = recordOf (u .initialized) (u .geometry) c
+movedTo u c = unitOf (headsOn (u .held) c) (u .tracks)
 
 -- A unit of which nothing is said.
-abbrev pub blank : UnitRecord
-blank = recordOf false (geometryOf 0 0 0 (volumeOf 0 0) (volumeOf 0 0)) 0
+abbrev pub noTracks : List ℕ
+noTracks = replicate 64 0
 
--- A record that says so counts as initialized, but not "with a geometry outside the limits, or a cylinder of C or more".
+abbrev pub nothingSaid : Record
+nothingSaid = heldOf false (geometryOf 0 0 0 (volumeOf 0 0) (volumeOf 0 0)) 0 0
+
+abbrev pub blank : UnitRecord
+blank = unitOf nothingSaid noTracks
+
+-- A record that says so counts as initialized, but not "with a geometry outside the limits, or a cylinder of C or more", nor with a table that is
+-- not good (02, K5).
 pub record CountsAsInitialized (u : UnitRecord) : Type 0 where
   pub said : initialized u ≡ true
   pub within : Within (geometry u)
   pub cylinder : cylinder u < C (geometry u)
+  pub good : Good (geometry u) (pairs u) (table u)

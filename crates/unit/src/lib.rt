@@ -8,18 +8,22 @@ use geometry::Number;
 use geometry::Place;
 use geometry::Volume;
 use geometry::VolumeNumber;
+use spares::Served;
 ghost use mathlib.Core.Path.{_≡_};
 ghost use Prim.Native.Nat.{_<_};
 ghost use Rattle.geometry.specs.Drive.{C};
-ghost use Rattle.unit.specs.Landing.{landing, landingAt, numberOn, trackLanding};
-ghost use Rattle.unit.specs.Standing.{CountsAsInitialized, blank, cylinder, fresh, geometry, initialized, movedTo, recordOf};
+ghost use Rattle.spares.specs.Table.{Good, servedAt};
+ghost use Rattle.unit.specs.Landing.{landing, landingAt, numberOn, servedLanding, spotAt, spotted, trackLanding};
+ghost use Rattle.unit.specs.Standing.{CountsAsInitialized, bare, cylinder, freshly, geometry, headsOn, heldOf, initialized, nothingSaid, pairs, unitOf};
 ghost use Rattle.wire.specs.Promise.{Says};
 
-// A unit's record, of any contents: what it says of itself is judged by `counts_as_initialized`.
+// A unit's record, of any contents: what it says of itself is judged by `counts_as_initialized`. Its table of bad tracks is lent beside it; here
+// is how many pairs of that count.
 pub struct Record {
     initialized: bool,
     geometry: Geometry,
     cylinder: u16,
+    pairs: u16,
 }
 
 // Where a sector stands: its cylinder, its place in the image, and how many sectors there are from it to the end of its
@@ -44,68 +48,79 @@ pub enum Landing {
 }
 
 impl Record {
-    pub fn new(initialized: bool, geometry: Geometry, cylinder: u16) -> Record
-        ensures { λ r. ⌜ r ≡ recordOf initialized geometry cylinder ⌝ }
+    pub fn new(initialized: bool, geometry: Geometry, cylinder: u16, pairs: u16) -> Record
+        ensures { λ r. ⌜ r ≡ heldOf initialized geometry cylinder pairs ⌝ }
     {
         Record {
             initialized,
             geometry,
             cylinder,
+            pairs,
         }
     }
 
     // A unit that has just been initialized.
     pub fn fresh(g: Geometry) -> Record
-        ensures { λ r. ⌜ r ≡ fresh g ⌝ }
+        ensures { λ r. ⌜ r ≡ freshly g ⌝ }
     {
         Record {
             initialized: true,
             geometry: g,
             cylinder: 0,
+            pairs: 0,
         }
     }
 
     // A unit of which nothing is said.
     pub fn blank() -> Record
-        ensures { λ r. ⌜ r ≡ blank ⌝ }
+        ensures { λ r. ⌜ r ≡ nothingSaid ⌝ }
     {
         let none = Volume::new(0, 0);
         Record {
             initialized: false,
             geometry: Geometry::new(0, 0, 0, none, none),
             cylinder: 0,
+            pairs: 0,
         }
     }
 
     // What the record says of itself.
     pub fn initialized(self) -> bool
-        ensures { λ r. ⌜ r ≡ initialized self ⌝ }
+        ensures { λ r. ⌜ r ≡ initialized (bare self) ⌝ }
     {
         self.initialized
     }
 
     pub fn geometry(self) -> Geometry
-        ensures { λ r. ⌜ r ≡ geometry self ⌝ }
+        ensures { λ r. ⌜ r ≡ geometry (bare self) ⌝ }
     {
         self.geometry
     }
 
     // The cylinder that the heads stand on.
     pub fn cylinder(self) -> u16
-        ensures { λ r. ⌜ r ≡ cylinder self ⌝ }
+        ensures { λ r. ⌜ r ≡ cylinder (bare self) ⌝ }
     {
         self.cylinder
     }
 
+    // How many pairs of its table count.
+    pub fn pairs(self) -> u16
+        ensures { λ r. ⌜ r ≡ pairs (bare self) ⌝ }
+    {
+        self.pairs
+    }
+
     // The record once its heads stand on another cylinder.
     pub fn moved_to(self, to: u16) -> Record
-        ensures { λ r. ⌜ r ≡ movedTo self to ⌝ }
+        ensures { λ r. ⌜ r ≡ headsOn self to ⌝ }
     {
         let geometry = self.geometry;
         Record {
             initialized: self.initialized,
             geometry,
             cylinder: to,
+            pairs: self.pairs,
         }
     }
 
@@ -116,6 +131,9 @@ impl Record {
         if self.cylinder != other.cylinder {
             return false;
         }
+        if self.pairs != other.pairs {
+            return false;
+        }
         if !self.geometry.same(other.geometry) {
             return false;
         }
@@ -123,8 +141,8 @@ impl Record {
     }
 
     // Whether it counts as initialized.
-    pub fn counts_as_initialized(self) -> bool
-        ensures { λ r. ⌜ Says r (CountsAsInitialized self) ⌝ }
+    pub fn counts_as_initialized(self, table: &[u32; 64]) -> bool
+        ensures { λ r. ⌜ Says r (CountsAsInitialized (unitOf self (now (table .entry)))) ⌝ }
     {
         if !self.initialized {
             return false;
@@ -132,46 +150,85 @@ impl Record {
         if !self.geometry.is_within() {
             return false;
         }
-        self.heads_are_on_the_drive()
+        if !self.heads_are_on_the_drive() {
+            return false;
+        }
+        self.table_is_good(table)
+    }
+
+    // Whether its table is good, which is the long part of the question.
+    pub fn table_is_good(self, table: &[u32; 64]) -> bool
+        ensures { λ r. ⌜ Says r (Good (geometry (bare self)) (pairs (bare self)) (now (table .entry))) ⌝ }
+    {
+        spares::is_good(table, self.pairs, self.geometry)
     }
 
     // Whether the heads stand on a cylinder that the drive has.
     fn heads_are_on_the_drive(self) -> bool
-        ensures { λ r. ⌜ Says r (cylinder self < C (geometry self)) ⌝ }
+        ensures { λ r. ⌜ Says r (cylinder (bare self) < C (geometry (bare self))) ⌝ }
     {
         self.cylinder < self.geometry.cylinders()
     }
 
     // The number in a volume of a physical address, whose head is counted from the volume's start head.
     pub fn number(self, v: VolumeNumber, cylinder: u16, head: u16, sector: u16) -> Number
-        ensures { λ r. ⌜ r ≡ numberOn self v cylinder head sector ⌝ }
+        ensures { λ r. ⌜ r ≡ numberOn (geometry (bare self)) v cylinder head sector ⌝ }
     {
         self.geometry.number(v, cylinder, head, sector)
     }
 
     // Where the sector with a number in a volume lands.
-    pub fn land(self, v: VolumeNumber, number: u64) -> Landing
-        ensures { λ r. ⌜ r ≡ landing self v number ⌝ }
+    pub fn land(self, table: &[u32; 64], v: VolumeNumber, number: u64) -> Landing
+        ensures { λ r. ⌜ r ≡ landing (unitOf self (now (table .entry))) v number ⌝ }
     {
         match self.geometry.address(v, number) {
-            Found::At(a) => self.land_at(a),
+            Found::At(a) => self.land_at(table, a),
             Found::Outside => Landing::Outside,
         }
     }
 
     // Where the first sector of a track lands, its head counted over the whole drive.
-    pub fn land_track(self, cylinder: u16, head: u16) -> Landing
-        ensures { λ r. ⌜ r ≡ trackLanding self cylinder head ⌝ }
+    pub fn land_track(self, table: &[u32; 64], cylinder: u16, head: u16) -> Landing
+        ensures { λ r. ⌜ r ≡ trackLanding (unitOf self (now (table .entry))) cylinder head ⌝ }
     {
-        self.land_at(Address {
-            cylinder,
-            head,
-            sector: 0,
-        })
+        self.land_at(
+            table,
+            Address {
+                cylinder,
+                head,
+                sector: 0,
+            },
+        )
     }
 
-    fn land_at(self, a: Address) -> Landing
-        ensures { λ r. ⌜ r ≡ landingAt (self .geometry) a ⌝ }
+    // Where an address lands, if the drive has the address named.
+    fn land_at(self, table: &[u32; 64], a: Address) -> Landing
+        ensures { λ r. ⌜ r ≡ landingAt (unitOf self (now (table .entry))) a ⌝ }
+    {
+        match self.spot(a) {
+            Landing::At(spot) => self.serve(table, a, spot),
+            Landing::Outside => Landing::Outside,
+        }
+    }
+
+    // Where an address of the drive lands, whose own spot is known: there, or on the spare of its track.
+    fn serve(self, table: &[u32; 64], a: Address, own: Spot) -> Landing
+        requires { ⌜ own ≡ spotAt (geometry (bare self)) a ⌝ }
+        ensures { λ r. ⌜ r ≡ servedLanding (geometry (bare self)) a (servedAt (geometry (bare self)) (pairs (bare self)) (now (table .entry)) (a .cylinder) (a .head)) ⌝ }
+    {
+        match spares::serving(table, self.pairs, self.geometry, a.cylinder, a.head) {
+            Served::Itself => Landing::At(own),
+            Served::By(k) => self.spot(Address {
+                cylinder: k.cylinder,
+                head: k.head,
+                sector: a.sector,
+            }),
+        }
+    }
+
+    // The spot of an address itself.
+    fn spot(self, a: Address) -> Landing
+        ensures { λ r. ⌜ r ≡ spotted (geometry (bare self)) a ⌝ }
     {
         match self.geometry.place(a) {
             Place::At(place) => Landing::At(Spot {

@@ -10,9 +10,11 @@ use Rattle.geometry.specs.Drive.Inside.{driveHeads-is, driveSectors-is, marksAt
 use Rattle.geometry.specs.Limits.{Has, Present}
 use Rattle.geometry.specs.Sectors.Inside.{addressOf-is, placeOf-is}
 use Rattle.geometry.proofs.Ends.{end-present}
+use Rattle.spares.proofs.Laws.{empty-is-good}
+use Rattle.unit.proofs.Laws.{no-pairs-lands-there}
 use Rattle.unit.specs.Landing.{spotOf}
 use Rattle.unit.specs.Landing.Behind.{spotAt-is, spotOf-is}
-use Rattle.unit.specs.Standing.{CountsAsInitialized}
+use Rattle.unit.specs.Standing.{CountsAsInitialized, noTracks}
 use Rattle.worked.specs.SmallDrive.{drive, unit}
 
 pub counts : CountsAsInitialized unit
@@ -31,6 +33,7 @@ counts =
                 };
           };
       cylinder = omega arith;
+      good = empty-is-good drive noTracks;
     }
 
 pub present : Present (volume drive Zero)
@@ -55,4 +58,4 @@ abbrev pub place : VolumeNumber → ℕ → ℕ
 place v n = (n / (4 * N (volume drive v)) * 3 + (start (volume drive v) + n / 4 % N (volume drive v))) * 4 + n % 4
 
 pub place-is : (v : VolumeNumber) (n : ℕ) → spotOf unit v n .place ≡ place v n
-place-is v n = rw (spotOf-is, spotAt-is, placeOf-is, addressOf-is, heads-3)
+place-is v n = rw (spotOf-is, no-pairs-lands-there unit refl, spotAt-is, placeOf-is, addressOf-is, heads-3)

@@ -33,14 +33,16 @@ use Rattle.request.specs.declared.Task.{Task}
 use Rattle.request.specs.declared.Track.{Track}
 use Rattle.transfer.specs.Data.{progressOn}
 use Rattle.transfer.specs.Progress.{Progress, progress, stopsAt}
+use Rattle.spares.proofs.Laws.{empty-is-good}
+use Rattle.unit.proofs.Laws.{no-pairs-lands-there}
 use Rattle.unit.specs.Landing.{spotOf}
 use Rattle.unit.specs.Landing.Behind.{spotAt-is, spotOf-is}
-use Rattle.unit.specs.Standing.{CountsAsInitialized, UnitRecord, fresh, movedTo}
+use Rattle.unit.specs.Standing.{CountsAsInitialized, UnitRecord, byValue, fresh, movedTo, noTracks}
 use Rattle.worked.specs.TwoChains.{tiny}
 
 -- With its heads on a cylinder.
 abbrev pub unit : ℕ → UnitRecord
-unit cylinder = movedTo (fresh tiny) cylinder
+unit cylinder = movedTo (fresh tiny noTracks) cylinder
 
 pub counts : (c : ℕ) → c < 2 → CountsAsInitialized (unit c)
 unfolding Has Present
@@ -58,6 +60,7 @@ counts c less =
                 };
           };
       cylinder = less;
+      good = empty-is-good tiny noTracks;
     }
 
 pub present : Present (volume tiny Zero)
@@ -84,12 +87,12 @@ need-130 = omega (arith, need-is tiny, marksAt-is tiny, driveSectors-is tiny, he
 
 -- Sector n stands at place n.
 pub place-is : (c n : ℕ) → spotOf (unit c) Zero n .place ≡ n
-place-is c n = rw (spotOf-is, spotAt-is, placeOf-is, addressOf-is, heads-1) (omega arith)
+place-is c n = rw (spotOf-is, no-pairs-lands-there (unit c) refl, spotAt-is, placeOf-is, addressOf-is, heads-1) (omega arith)
 
 -- ---- what passes
 
 abbrev pub standing : ℕ → ℕ → Standing
-standing c image = record { «record» = unit c; image = image }
+standing c image = record { «record» = byValue (unit c); image = image }
 
 abbrev target : ℕ → Target
 target n = record { volume = Zero; start = Start.Logical n }
@@ -101,15 +104,15 @@ moveOf to-host n count at =
 module _ (host : List ℕ) (c : ℕ) (heads : c < 2) where
   pub move-passes :
       (to-host : Bool) (n count at : ℕ) → 0 < count → n + count ≤ 2 → InMemory host at (count * 64) →
-      verdict (asked (Task.Move (moveOf to-host n count at)) (standing c 130) host) ≡
+      verdict (asked (Task.Move (moveOf to-host n count at)) (standing c 130) noTracks host) ≡
       Verdict.Do (carrying (jobOf (moveOf to-host n count at) n))
   move-passes to-host n count at some fits held =
       let m = moveOf to-host n count at in
       let s = standing c 130 in
-      own s host _ never ∙
-      move-on s host m (counts c heads) present (λ none. omega arith) ∙
-      span-on s host m (span-covers s host m n refl some (omega (arith, sectors-2))) (omega (arith, need-130)) ∙
-      piece-done s host m at refl n refl held
+      own s noTracks host _ never ∙
+      move-on s noTracks host m (counts c heads) present (λ none. omega arith) ∙
+      span-on s noTracks host m (span-covers s noTracks host m n refl some (omega (arith, sectors-2))) (omega (arith, need-130)) ∙
+      piece-done s noTracks host m at refl n refl held
 
 -- A format of the first track, with its data at 256.
 abbrev pub track : Track
@@ -117,13 +120,13 @@ track = record { cylinder = 0; head = 0; buffer = 256 }
 
 pub format-passes :
     (host : List ℕ) → InMemory host 256 64 →
-    verdict (asked (Task.Format track) (standing 0 130) host) ≡ Verdict.Do (planOf (unit 0) (Task.Format track))
+    verdict (asked (Task.Format track) (standing 0 130) noTracks host) ≡ Verdict.Do (planOf (unit 0) (Task.Format track))
 format-passes host held =
     let s = standing 0 130 in
-    own s host _ never ∙
-    format-on s host track (counts 0 (omega arith))
+    own s noTracks host _ never ∙
+    format-on s noTracks host track (counts 0 (omega arith))
     (record { cylinder = omega arith; head = omega (arith, heads-1); sector = omega arith })
-    (omega (arith, need-130)) ∙ data-done s host track held
+    (omega (arith, need-130)) ∙ data-done s noTracks host track held
 
 -- ---- what stops a transfer
 

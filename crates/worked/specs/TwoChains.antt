@@ -11,7 +11,7 @@ use Rattle.answers.specs.declared.RunAnswer.{RunAnswer}
 use Rattle.block.specs.World.{Drive}
 use Rattle.geometry.specs.declared.Geometry.{Geometry}
 use Rattle.geometry.specs.Drive.{geometryOf, volumeOf}
-use Rattle.unit.specs.Standing.{fresh, recordOf}
+use Rattle.unit.specs.Standing.{fresh, noTracks, recordOf}
 use Rattle.independence.specs.Chains.{Both, Chain, First, HostReads, HostWrites, Second, Told, runOf, worldFor}
 use Rattle.independence.specs.Demand3.{EitherWay, Independent, NoUnitInCommon, NoByteReadByOther, NoByteWrittenByBoth}
 
@@ -21,11 +21,11 @@ tiny = geometryOf 2 1 64 (volumeOf 0 1) (volumeOf 0 0)
 
 -- A drive with the heads on cylinder 0, whose data bytes are all alike, with the mark of its second sector.
 abbrev pub driveWith : ℕ → ℕ → Drive
-driveWith byte mark = record { unit = fresh tiny; image = replicate 128 byte ++ (0 ∷ mark ∷ []) }
+driveWith byte mark = record { unit = fresh tiny noTracks; image = replicate 128 byte ++ (0 ∷ mark ∷ []) }
 
 -- One that is not initialized.
 abbrev pub newDrive : Drive
-newDrive = record { unit = recordOf false tiny 0; image = [] }
+newDrive = record { unit = recordOf false tiny 0 0 noTracks; image = [] }
 
 -- A block without link or interrupt: its command and options, the logical number of its first sector, its count, and the address of its
 -- buffer or its UIB. Options 10 are XL, and 80 is UN.

@@ -32,13 +32,13 @@ image-number-requires c κs = search needs
 
 returns-3 : tie.Need-returns-3
 returns-3 c =
-    let a = c .before .before .before .before .before .before .before .before .args in
+    let a = c .before .before .before .before .before .before .before .before .before .before .args in
     rw (
       inspection-made (now (a .record0)) (now (a .record1)) (a .long0) (a .long1) (a .unit) (a .place) (now (a .image)) (now (a .at)) (now (a .bytes)) (omega arith) (omega arith),
       c .image-number .ensures,
       c .before .part-of .ensures,
-      c .before .before .record2 .ensures,
-      c .before .before .before .record .ensures,
+      c .before .before .before .before .record2 .ensures,
+      c .before .before .before .before .before .record .ensures,
     )
 
 pub vsmd-inspect-spec : {M : Type 1} → statement M

@@ -4,6 +4,7 @@ use Prim.Native.Nat.{_+_}
 use mathlib.Core.List.{[], _∷_}
 use mathlib.Core.Path.{refl}
 use lib.ListN.{length}
+use Rattle.unit.specs.Standing.{bare, unitOf}
 use Rattle.transfer.specs.Data.{formatting}
 use Rattle.transfer.specs.Progress.{progress}
 use Rattle.transfer.specs.Runs.{pieceByte}
@@ -44,7 +45,7 @@ returns c =
     rw (c .enum-told .given .1)
     (record {
       result = refl;
-      stored = rw (c .before .before .before .before .put-status .ensures) (nothing-made (a .u) (a .at) (a .host .now) (a .image .now) (pieceByte (a .lengths .now) (a .addresses .now)));
+      stored = rw (c .before .before .before .before .put-status .ensures) (nothing-made (unitOf (a .u) (a .table .now)) (a .at) (a .host .now) (a .image .now) (pieceByte (a .lengths .now) (a .addresses .now)));
     })
 
 same-length-2 : tie.Need-same-length-2
@@ -60,9 +61,9 @@ returns-2 c =
     let is = c .before .before .before .before .before .before .before .before .before .moving .given .1 in
     let marked = c .before .before .before .before .before .before .before .before .before .before .before .before .before .put-status in
     let made = c .before .before .before .before .move-sectors in
-    let t = spanTransfer (a .u) (j .span) (j .«to_host») (j .«past_marks») (a .lengths .now) (a .addresses .now) in
+    let t = spanTransfer (unitOf (a .u) (a .table .now)) (j .span) (j .«to_host») (j .«past_marks») (a .lengths .now) (a .addresses .now) in
     let fit =
-    sectors-fit (length (marked .last .0)) (a .image .now) (a .u) (j .span) (j .«to_host») (j .«past_marks») (a .lengths .now) (a .addresses .now)
+    sectors-fit (length (marked .last .0)) (a .image .now) (unitOf (a .u) (a .table .now)) (j .span) (j .«to_host») (j .«past_marks») (a .lengths .now) (a .addresses .now)
     (rw (marked .kept .0) (rw is at (c .before .before .before .before .before .before .before .before .before .before .before .before .before .before .before .before .before .before .before .pre .1))) in
     rw is
     (record {
@@ -85,14 +86,14 @@ returns-3 c =
     let marked = c .before .before .before .before .before .before .before .before .before .before .put-status in
     let made = c .before .before .format-track in
     let fit =
-    track-fit (a .image .now) (a .u) spot buffer (length (marked .last .0))
+    track-fit (a .image .now) (bare (a .u)) spot buffer (length (marked .last .0))
     (rw (marked .kept .0) (rw is at (c .before .before .before .before .before .before .before .before .before .before .before .before .before .before .before .before .pre .1))) in
     rw is
     (record {
       result = rw fit at (made .ensures .0);
       stored =
           rw (marked .ensures)
-          (begun-made (formatting (a .u) spot buffer) (a .at) (a .host .now) (a .image .now)
+          (begun-made (formatting (unitOf (a .u) (a .table .now)) spot buffer) (a .at) (a .host .now) (a .image .now)
           (written (a .host .now) (a .at + 2) (0x81 ∷ 0x00 ∷ [])) (made .last .1 .0) (rw (fit, marked .ensures) at (made .ensures .1)));
     })
 

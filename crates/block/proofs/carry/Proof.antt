@@ -1,5 +1,6 @@
 -- What is moved has its own way; nothing, and a track, need no pieces.
 use lib.ListN.{length}
+use Rattle.unit.specs.Standing.{unitOf}
 use Rattle.block.proofs.Gathered.{track-fits}
 use borrow.Author.Needs.{needs}
 use Rattle.block.proofs.carry.Statement.{statement}
@@ -24,7 +25,7 @@ without-pieces-requires-2 : tie.Need-without-pieces-requires-2
 without-pieces-requires-2 c κs =
     let a = c .before .before .before .before .before .before .args in
     let is = c .before .before .enum-told2 .given .1 in
-    (c .before .before .before .before .before .before .pre .0, rw is (track-fits (a .host .now) (length (a .image .now)) (a .u) _ _ (rw is at (c .before .before .before .before .before .before .pre .1))))
+    (c .before .before .before .before .before .before .pre .0, rw is (track-fits (a .host .now) (length (a .image .now)) (unitOf (a .u) (a .table .now)) _ _ (rw is at (c .before .before .before .before .before .before .pre .1))))
 
 same-length : tie.Need-same-length
 same-length c = search needs

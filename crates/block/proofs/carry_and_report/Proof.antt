@@ -3,6 +3,7 @@
 use Prim.Native.Nat.{ℕ, _+_}
 use mathlib.Core.Path.{sym, ap, _∙_}
 use mathlib.Core.List.{List, _++_}
+use Rattle.unit.specs.Standing.{unitOf}
 use Rattle.transfer.specs.Data.{dataOn}
 use Rattle.block.specs.Steps.{three}
 use Rattle.block.specs.Block.{begun, reported, transferOf, wordsOf}
@@ -27,7 +28,7 @@ returns : tie.Need-returns
 returns c =
     let a = c .before .before .before .before .before .before .before .before .before .before .before .before .before .args in
     let r = a .plan .report in
-    let t = transferOf (a .host .now) (a .u) (a .plan .moving) in
+    let t = transferOf (a .host .now) (unitOf (a .u) (a .table .now)) (a .plan .moving) in
     let carried = c .before .before .before .before .before .before .before .before .carry in
     record {
       result = carried .ensures .result;

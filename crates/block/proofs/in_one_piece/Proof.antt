@@ -1,6 +1,7 @@
 -- The one piece fits, and its bytes are the block's data.
 use mathlib.Core.List.{[], _∷_}
 use mathlib.Core.Path.{sym, ap, _∙_}
+use Rattle.unit.specs.Standing.{unitOf}
 use Rattle.transfer.specs.Runs.{pieceByte}
 use Rattle.block.specs.Block.{dataByte}
 use Rattle.block.proofs.Gathered.{made-same, one-piece-byte, piece-fits}
@@ -21,7 +22,7 @@ begin-requires : tie.Need-begin-requires
 begin-requires c κs =
     let a = c .before .before .before .before .before .before .before .before .args in
     let pre = c .before .before .before .before .before .before .before .before .pre in
-    (pre .0, rw (c .before .before .before .before .job-bytes .ensures) (piece-fits (a .host .now) (a .image .now) (a .u) (a .job) (pre .1 .1) (a .address) (pre .1 .0)))
+    (pre .0, rw (c .before .before .before .before .job-bytes .ensures) (piece-fits (a .host .now) (a .image .now) (unitOf (a .u) (a .table .now)) (a .job) (pre .1 .1) (a .address) (pre .1 .0)))
 
 same-length : tie.Need-same-length
 same-length c = search needs
@@ -34,7 +35,7 @@ returns c =
     let a = c .before .before .before .before .before .before .before .before .before .before .before .before .before .args in
     let pre = c .before .before .before .before .before .before .before .before .before .before .before .before .before .pre in
     let bytes = c .before .before .before .before .before .before .before .before .before .job-bytes in
-    made-same (a .image .now) (a .u) (a .job) (pieceByte (bytes .result ∷ []) (a .address ∷ [])) (dataByte (a .host .now) (a .job .buffer))
+    made-same (a .image .now) (unitOf (a .u) (a .table .now)) (a .job) (pieceByte (bytes .result ∷ []) (a .address ∷ [])) (dataByte (a .host .now) (a .job .buffer))
     (λ k h.
     one-piece-byte (a .host .now) (a .address) (bytes .result) k (rw (bytes .ensures) h)
     ∙ ap (λ x. dataByte (a .host .now) x k) (sym (pre .1 .0)))

@@ -2,6 +2,7 @@
 use Prim.Native.Nat.{_+_}
 use mathlib.Core.Path.{sym, ap, _∙_}
 use native.Mathlib.Omega.{arith}
+use Rattle.unit.specs.Standing.{unitOf}
 use Rattle.transfer.specs.Progress.{lastTried}
 use Rattle.unit.proofs.Answers.{at-landing, no-landing}
 use Rattle.unit.specs.declared.Spot.{Spot}
@@ -42,14 +43,14 @@ returns : tie.Need-returns
 returns c =
     let a = c .before .before .before .before .before .before .before .before .args in
     let n = a .span .first + lastTried (a .sectors) (a .span .count) in
-    let past = no-landing (a .u) (a .span .volume) n (sym (rw (c .before .before .before .before .lesser .ensures) at (c .before .before .land .ensures)) ∙ c .enum-told .given .1) in
+    let past = no-landing (unitOf (a .u) (a .table .now)) (a .span .volume) n (sym (rw (c .before .before .before .before .lesser .ensures) at (c .before .before .land .ensures)) ∙ c .enum-told .given .1) in
     absurd (omega (arith, past, c .before .before .before .before .before .before .before .before .pre .inside, c .before .before .before .before .before .before .before .before .pre .some))
 
 returns-2 : tie.Need-returns-2
 returns-2 c =
     let a = c .before .before .before .before .before .before .before .before .before .args in
     let n = a .span .first + lastTried (a .sectors) (a .span .count) in
-    let landed = at-landing (a .u) (a .span .volume) n (c .before .spot .given .0 .0) (sym (rw (c .before .before .before .before .before .lesser .ensures) at (c .before .before .before .land .ensures)) ∙ c .before .spot .given .1) in
+    let landed = at-landing (unitOf (a .u) (a .table .now)) (a .span .volume) n (c .before .spot .given .0 .0) (sym (rw (c .before .before .before .before .before .lesser .ensures) at (c .before .before .before .land .ensures)) ∙ c .before .spot .given .1) in
     ap (λ (x : Spot). x .cylinder) (landed .1)
 
 pub last-tried-spec : {M : Type 1} → statement M

@@ -1,7 +1,8 @@
 -- What is stored is the plan's, and the record and the travel are as they are defined.
-use mathlib.Core.Path.{refl}
+use mathlib.Core.Path.{refl, sym}
 use mir.Syntax.{w32}
 use mir.ValLaws.{toZ-ofZ}
+use Rattle.block.proofs.Effects.{left-table}
 use borrow.Author.Needs.{needs}
 use Rattle.block.proofs.perform.Statement.{statement}
 use Rattle.block.proofs.perform.Tie as tie
@@ -23,10 +24,11 @@ same-length-2 c = search needs
 
 returns : tie.Need-returns
 returns c =
-    let carried = c .before .before .before .before .before .before .carry-and-report .ensures in
+    let carried = c .before .before .before .before .before .before .before .carry-and-report .ensures in
     record {
       result =
           rw (toZ-ofZ w32 (c .gone .result) (record { sfits = c .gone .ok }), c .gone .ensures, c .before .left .ensures, carried .result) refl;
+      table = sym (left-table _ _ (c .before .before .before .before .before .before .before .before .before .before .before .before .before .args .plan .leaving));
       stored = carried .stored;
     }
 

@@ -1,6 +1,7 @@
 -- The verdict is that on the block's request. A refused block is only finished; an accepted one is performed first.
-use mathlib.Core.Path.{_≡_, sym, _∙_}
+use mathlib.Core.Path.{_≡_, refl, sym, _∙_}
 use native.Mathlib.Omega.{arith}
+use Rattle.unit.specs.Standing.{unitOf}
 use Rattle.iopb.specs.Ask.{taskOf}
 use Rattle.judge.specs.declared.Verdict.{Verdict}
 use Rattle.judge.specs.Verdict.{verdict}
@@ -34,19 +35,19 @@ enum-known-plan c = search needs
 judgement :
     (c : tie.After-judge) →
     c .judge .result ≡
-    verdict (asking (taskOf (c .before .before .before .before .before .before .before .args .host .now) (c .before .before .before .before .before .before .before .args .b)) (driveWith (c .before .before .before .before .before .before .before .args .u) (c .before .before .before .before .before .before .before .args .image .now)) (c .before .before .before .before .before .before .before .args .host .now))
-judgement c = rw (c .before .before .request .ensures) at (c .judge .ensures)
+    verdict (asking (taskOf (c .before .before .before .before .before .before .before .before .args .host .now) (c .before .before .before .before .before .before .before .before .args .b)) (driveWith (unitOf (c .before .before .before .before .before .before .before .before .args .u) (c .before .before .before .before .before .before .before .before .args .table .now)) (c .before .before .before .before .before .before .before .before .args .image .now)) (c .before .before .before .before .before .before .before .before .args .host .now))
+judgement c = rw (c .before .before .before .request .ensures) at (c .judge .ensures)
 
 perform-requires : tie.Need-perform-requires
 perform-requires c κs =
-    let a = c .before .before .before .before .before .before .before .before .before .before .before .before .args in (
-      c .before .before .before .before .before .before .before .before .before .before .before .before .pre .0 .block,
-      plan-fits (asking (taskOf (a .host .now) (a .b)) (driveWith (a .u) (a .image .now)) (a .host .now)) _
-          (sym (judgement (c .before .before .before .before .before)) ∙ c .before .before .before .plan .given .1),
+    let a = c .before .before .before .before .before .before .before .before .before .before .before .before .before .before .args in (
+      c .before .before .before .before .before .before .before .before .before .before .before .before .before .before .pre .0 .block,
+      plan-fits (asking (taskOf (a .host .now) (a .b)) (driveWith (unitOf (a .u) (a .table .now)) (a .image .now)) (a .host .now)) _
+          (sym (judgement (c .before .before .before .before .before .before)) ∙ c .before .before .before .before .plan .given .1),
     )
 
 finish-requires-2 : tie.Need-finish-requires-2
-finish-requires-2 c κs = record { block = omega (arith, c .before .before .before .before .before .before .before .before .before .before .before .before .before .before .before .before .before .before .before .pre .0 .block, c .before .before .before .before .before .before .perform .kept .0); entry = c .before .before .before .before .before .before .before .before .before .before .before .before .before .before .before .before .before .before .before .pre .0 .entry }
+finish-requires-2 c κs = record { block = omega (arith, c .before .before .before .before .before .before .before .before .before .before .before .before .before .before .before .before .before .before .before .before .before .pre .0 .block, c .before .before .before .before .before .before .perform .kept .0); entry = c .before .before .before .before .before .before .before .before .before .before .before .before .before .before .before .before .before .before .before .before .before .pre .0 .entry }
 
 same-length : tie.Need-same-length
 same-length c = search needs
@@ -56,13 +57,14 @@ same-length-2 c = search needs
 
 returns : tie.Need-returns
 returns c =
-    let a = c .before .before .before .before .before .before .before .before .before .before .before .before .before .before .before .before .before .before .args in
+    let a = c .before .before .before .before .before .before .before .before .before .before .before .before .before .before .before .before .before .before .before .args in
     let r = c .before .before .before .before .before .before .before .before .before .r .given .0 .0 in
     let f = c .before .before .before .before .finish in
     let is = c .before .before .before .before .before .refuse .ensures in
-    rw (effect-judged (a .host .now) (driveWith (a .u) (a .image .now)) (a .at) (a .i) (a .b) (Verdict.Refused r) (c .before .before .before .before .before .before .before .before .before .before .before .before .before .before .before .before .before .before .pre .1) (sym (judgement (c .before .before .before .before .before .before .before .before .before .before .before)) ∙ c .before .before .before .before .before .before .before .before .before .r .given .1))
+    rw (effect-judged (a .host .now) (driveWith (unitOf (a .u) (a .table .now)) (a .image .now)) (a .at) (a .i) (a .b) (Verdict.Refused r) (c .before .before .before .before .before .before .before .before .before .before .before .before .before .before .before .before .before .before .before .pre .1) (sym (judgement (c .before .before .before .before .before .before .before .before .before .before .before)) ∙ c .before .before .before .before .before .before .before .before .before .r .given .1))
     (record {
       result = rw is at (f .ensures .0);
+      table = refl;
       stored = rw is at (f .ensures .1 (a .image .now));
     })
 
@@ -77,16 +79,17 @@ same-length-5 c = search needs
 
 returns-2 : tie.Need-returns-2
 returns-2 c =
-    let a = c .before .before .before .before .before .before .before .before .before .before .before .before .before .before .before .before .before .before .before .before .before .before .before .before .args in
-    let plan = c .before .before .before .before .before .before .before .before .before .before .before .before .before .before .before .plan .given .0 .0 in
+    let a = c .before .before .before .before .before .before .before .before .before .before .before .before .before .before .before .before .before .before .before .before .before .before .before .before .before .before .args in
+    let plan = c .before .before .before .before .before .before .before .before .before .before .before .before .before .before .before .before .plan .given .0 .0 in
     let f = c .before .before .before .before .finish2 in
     let p = c .before .before .before .before .before .before .before .before .before .before .before .perform in
     let is = p .ensures .result in
-    let d = driveWith (a .u) (a .image .now) in
+    let d = driveWith (unitOf (a .u) (a .table .now)) (a .image .now) in
     let q = judged (a .host .now) d (a .at) (Verdict.Do plan) in
-    rw (effect-judged (a .host .now) d (a .at) (a .i) (a .b) (Verdict.Do plan) (c .before .before .before .before .before .before .before .before .before .before .before .before .before .before .before .before .before .before .before .before .before .before .before .before .pre .1) (sym (judgement (c .before .before .before .before .before .before .before .before .before .before .before .before .before .before .before .before .before)) ∙ c .before .before .before .before .before .before .before .before .before .before .before .before .before .before .before .plan .given .1))
+    rw (effect-judged (a .host .now) d (a .at) (a .i) (a .b) (Verdict.Do plan) (c .before .before .before .before .before .before .before .before .before .before .before .before .before .before .before .before .before .before .before .before .before .before .before .before .before .before .pre .1) (sym (judgement (c .before .before .before .before .before .before .before .before .before .before .before .before .before .before .before .before .before .before)) ∙ c .before .before .before .before .before .before .before .before .before .before .before .before .before .before .before .before .plan .given .1))
     (record {
       result = rw is at (f .ensures .0);
+      table = p .ensures .table;
       stored =
           then-made (q .stores) (finish (a .b) (a .at) (a .i) (q .answer) (q .travel)) _ _ _ (p .ensures .stored (a .events .now))
           (rw is at (f .ensures .1 (p .last .1 .0)));

@@ -6,7 +6,7 @@ use native.Mathlib.Omega.{arith}
 use borrow.Author.Needs.{needs}
 use Rattle.wire.proofs.Promises.{says-leb}
 use Rattle.geometry.specs.Drive.{need}
-use Rattle.unit.specs.Standing.{geometry}
+use Rattle.unit.specs.Standing.{bare, geometry}
 use Rattle.judge.proofs.is_short.Statement.{statement}
 use Rattle.judge.proofs.is_short.Tie as tie
 
@@ -19,8 +19,8 @@ need-requires c κs = search needs
 returns : tie.Need-returns
 returns c =
     let s = c .before .before .before .args .s in
-    let all : c .need .result ≡ need (geometry (s .record)) = rw (c .before .geometry .ensures) at (c .need .ensures) in
-    says-leb (suc (s .image)) (c .need .result) (s .image < need (geometry (s .record))) (λ h. omega arith) (λ h k. omega arith)
+    let all : c .need .result ≡ need (geometry (bare (s .record))) = rw (c .before .geometry .ensures) at (c .need .ensures) in
+    says-leb (suc (s .image)) (c .need .result) (s .image < need (geometry (bare (s .record)))) (λ h. omega arith) (λ h k. omega arith)
 
 pub is-short-spec : {M : Type 1} → statement M
 is-short-spec = tie.close (tie.spec geometry-requires need-requires returns)

@@ -44,25 +44,25 @@ judge-format-requires : tie.Need-judge-format-requires
 judge-format-requires c κs = search needs
 
 returns : tie.Need-returns
-returns c = rw (c .enum-told .given .1) (sym (unknown _ _))
+returns c = rw (c .enum-told .given .1) (sym (unknown _ _ _))
 
 returns-2 : tie.Need-returns-2
-returns-2 c = rw (c .before .before .task .given .1) (c .judge-move .ensures ∙ sym (own _ _ _ never))
+returns-2 c = rw (c .before .before .task .given .1) (c .judge-move .ensures ∙ sym (own _ _ _ _ never))
 
 returns-3 : tie.Need-returns-3
-returns-3 c = rw (c .enum-told2 .given .1) (sym (handshake _ _))
+returns-3 c = rw (c .enum-told2 .given .1) (sym (handshake _ _ _))
 
 returns-4 : tie.Need-returns-4
-returns-4 c = rw (c .before .before .task2 .given .1) (c .judge-shape .ensures _ _ ∙ sym (own _ _ _ never))
+returns-4 c = rw (c .before .before .task2 .given .1) (c .judge-shape .ensures _ _ _ ∙ sym (own _ _ _ _ never))
 
 returns-5 : tie.Need-returns-5
-returns-5 c = rw (c .before .enum-told3 .given .1) (c .judge-restore .ensures _ ∙ sym (own _ _ _ never))
+returns-5 c = rw (c .before .enum-told3 .given .1) (c .judge-restore .ensures _ ∙ sym (own _ _ _ _ never))
 
 returns-6 : tie.Need-returns-6
-returns-6 c = rw (c .before .before .task3 .given .1) (c .judge-seek .ensures _ ∙ sym (own _ _ _ never))
+returns-6 c = rw (c .before .before .task3 .given .1) (c .judge-seek .ensures _ ∙ sym (own _ _ _ _ never))
 
 returns-7 : tie.Need-returns-7
-returns-7 c = rw (c .before .before .task4 .given .1) (c .judge-format .ensures ∙ sym (own _ _ _ never))
+returns-7 c = rw (c .before .before .task4 .given .1) (c .judge-format .ensures ∙ sym (own _ _ _ _ never))
 
 pub judge-spec : {M : Type 1} → statement M
 judge-spec =

@@ -15,7 +15,7 @@ counts-as-initialized-requires c κs = search needs
 returns : tie.Need-returns
 returns c =
     let u = c .before .counts-as-initialized in
-    sym (format-11 _ _ _ (denied (u .result) _ (c .if1 .taken) (u .ensures)))
+    sym (format-11 _ _ _ _ (denied (u .result) _ (c .if1 .taken) (u .ensures)))
 
 land-track-requires : tie.Need-land-track-requires
 land-track-requires c κs = search needs
@@ -33,7 +33,7 @@ returns-2 c =
     let spot = c .before .before .before .spot .given in
     let on = at-track _ _ _ _ (sym (c .before .before .before .before .before .land-track .ensures) ∙ spot .1) in
     sym
-    (format-17 _ _ _ (granted (u .result) _ (c .before .before .before .before .before .before .if1 .left) (u .ensures)) (on .0)
+    (format-17 _ _ _ _ (granted (u .result) _ (c .before .before .before .before .before .before .if1 .left) (u .ensures)) (on .0)
     (says-yes (short .result) _ (c .if2 .taken) (short .ensures)))
 
 judge-data-requires : tie.Need-judge-data-requires
@@ -54,14 +54,14 @@ returns-3 c =
     let on = at-track _ _ _ _ (sym (b .before .before .before .before .before .land-track .ensures) ∙ spot .1) in
     c .judge-data .ensures
     ∙ sym
-    (format-on _ _ _ (granted (u .result) _ (b .before .before .before .before .before .before .if1 .left) (u .ensures)) (on .0)
+    (format-on _ _ _ _ (granted (u .result) _ (b .before .before .before .before .before .before .if1 .left) (u .ensures)) (on .0)
     (omega arith))
 
 returns-4 : tie.Need-returns-4
 returns-4 c =
     let u = c .before .before .before .before .counts-as-initialized in
     sym
-    (format-16 _ _ _ (granted (u .result) _ (c .before .before .before .if1 .left) (u .ensures))
+    (format-16 _ _ _ _ (granted (u .result) _ (c .before .before .before .if1 .left) (u .ensures))
     (no-track _ _ _ (sym (c .before .before .land-track .ensures) ∙ c .enum-told .given .1)))
 
 pub judge-format-spec : {M : Type 1} → statement M

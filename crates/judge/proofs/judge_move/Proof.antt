@@ -13,7 +13,7 @@ counts-as-initialized-requires c κs = search needs
 returns : tie.Need-returns
 returns c =
     let u = c .before .counts-as-initialized in
-    sym (move-11 _ _ _ (denied (u .result) _ (c .if1 .taken) (u .ensures)))
+    sym (move-11 _ _ _ _ (denied (u .result) _ (c .if1 .taken) (u .ensures)))
 
 has-volume-requires : tie.Need-has-volume-requires
 has-volume-requires c κs = search needs
@@ -22,14 +22,14 @@ returns-2 : tie.Need-returns-2
 returns-2 c =
     let u = c .before .before .before .counts-as-initialized in
     let v = c .before .has-volume in
-    sym (move-14 _ _ _ (granted (u .result) _ (c .before .before .if1 .left) (u .ensures)) (denied (v .result) _ (c .if2 .taken) (v .ensures)))
+    sym (move-14 _ _ _ _ (granted (u .result) _ (c .before .before .if1 .left) (u .ensures)) (denied (v .result) _ (c .if2 .taken) (v .ensures)))
 
 returns-3 : tie.Need-returns-3
 returns-3 c =
     let u = c .before .before .before .before .before .counts-as-initialized in
     let v = c .before .before .before .has-volume in
     sym
-    (move-15 _ _ _ (granted (u .result) _ (c .before .before .before .before .if1 .left) (u .ensures)) (granted (v .result) _ (c .before .before .if2 .left) (v .ensures))
+    (move-15 _ _ _ _ (granted (u .result) _ (c .before .before .before .before .if1 .left) (u .ensures)) (granted (v .result) _ (c .before .before .if2 .left) (v .ensures))
     (c .if3 .taken))
 
 judge-start-requires : tie.Need-judge-start-requires
@@ -42,7 +42,7 @@ returns-4 c =
     let v = b .before .before .before .has-volume in
     c .judge-start .ensures
     ∙ sym
-    (move-on _ _ _ (granted (u .result) _ (b .before .before .before .before .if1 .left) (u .ensures)) (granted (v .result) _ (b .before .before .if2 .left) (v .ensures))
+    (move-on _ _ _ _ (granted (u .result) _ (b .before .before .before .before .if1 .left) (u .ensures)) (granted (v .result) _ (b .before .before .if2 .left) (v .ensures))
     (b .if3 .left))
 
 pub judge-move-spec : {M : Type 1} → statement M

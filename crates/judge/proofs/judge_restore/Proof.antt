@@ -16,12 +16,12 @@ restored-requires c κs = search needs
 returns : tie.Need-returns
 returns c host =
     let u = c .before .before .counts-as-initialized in
-    c .restored .ensures ∙ sym (restore-done _ host (says-yes (u .result) _ (c .before .if1 .taken) (u .ensures)))
+    c .restored .ensures ∙ sym (restore-done _ _ host (says-yes (u .result) _ (c .before .if1 .taken) (u .ensures)))
 
 returns-2 : tie.Need-returns-2
 returns-2 c host =
     let u = c .before .counts-as-initialized in
-    sym (restore-refused _ host (says-no (u .result) _ (c .if1 .left) (u .ensures)))
+    sym (restore-refused _ _ host (says-no (u .result) _ (c .if1 .left) (u .ensures)))
 
 pub judge-restore-spec : {M : Type 1} → statement M
 judge-restore-spec =

@@ -13,7 +13,7 @@ sectors-of-requires c κs = search needs
 returns : tie.Need-returns
 returns c =
     let begins = c .before .before .before .before .before .pre in
-    sym (span-first _ _ _ _ (begins .starts) (omega arith))
+    sym (span-first _ _ _ _ _ (begins .starts) (omega arith))
 
 sub-if2 : tie.Need-sub-if2
 sub-if2 c = search needs
@@ -24,7 +24,7 @@ cast-if2 c = search needs
 returns-2 : tie.Need-returns-2
 returns-2 c =
     let begins = c .before .before .before .before .before .before .before .pre in
-    sym (span-last _ _ _ _ (begins .starts) (begins .some) (omega arith))
+    sym (span-last _ _ _ _ _ (begins .starts) (begins .some) (omega arith))
 
 judge-image-requires : tie.Need-judge-image-requires
 judge-image-requires c κs = search needs
@@ -33,8 +33,8 @@ returns-3 : tie.Need-returns-3
 returns-3 c =
     let a = c .before .before .before .before .before .before .before .before .args in
     let begins = c .before .before .before .before .before .before .before .before .pre in
-    let covers = span-covers (a .standing) (a .host .now) (a .m) (a .n) (begins .starts) (begins .some) (omega arith) in
-    c .judge-image .ensures ∙ sym (span-inside _ _ _ covers)
+    let covers = span-covers (a .standing) (a .table .now) (a .host .now) (a .m) (a .n) (begins .starts) (begins .some) (omega arith) in
+    c .judge-image .ensures ∙ sym (span-inside _ _ _ _ covers)
 
 pub judge-span-spec : {M : Type 1} → statement M
 judge-span-spec =

@@ -8,11 +8,11 @@ use Rattle.session.proofs.main.Statement.{statement}
 use Rattle.session.proofs.main.Tie as tie
 
 abbrev Inv-loop : tie.InvT-loop
-Inv-loop field₀ host₀ image0₀ image1₀ text₀ next₀ turns₀ field host image0 image1 text next turns =
+Inv-loop field₀ host₀ image0₀ image1₀ text₀ map0₀ map1₀ next₀ turns₀ field host image0 image1 text map0 map1 next turns =
     (16387 ≡ length field) × ((16384 ≡ length host) × ((16384 ≡ length image0) × ((16384 ≡ length image1) × (8192 ≡ length text))))
 
 abbrev μ-loop : tie.MeasureT-loop
-μ-loop field₀ host₀ image0₀ image1₀ text₀ next₀ turns₀ field host image0 image1 text next turns = turns
+μ-loop field₀ host₀ image0₀ image1₀ text₀ map0₀ map1₀ next₀ turns₀ field host image0 image1 text map0 map1 next turns = turns
 
 start-requires : tie.Need-start-requires Inv-loop μ-loop
 start-requires c κs = search needs
@@ -49,7 +49,7 @@ loop-less c = omega arith
 
 loop-again : tie.Need-loop-again Inv-loop μ-loop
 loop-again c =
-    let i = c .before .before .before .before .before .before .before .before .before .before .before .before .before .before .loop .inv in
+    let i = c .before .before .before .before .before .before .before .before .before .before .before .before .before .before .before .before .loop .inv in
     let t = c .before .before .before .before .before .turn .kept in
     (i .0 ∙ sym (t .0), (i .1 .0 ∙ sym (t .1 .0), (i .1 .1 .0 ∙ sym (t .1 .1 .0), (i .1 .1 .1 .0 ∙ sym (t .1 .1 .1 .0), i .1 .1 .1 .1 ∙ sym (t .1 .1 .1 .1 .0)))))
 

@@ -1,4 +1,5 @@
 -- Each buffer in its turn, then the text and the place: the first that fails refuses.
+use mathlib.Core.List.{[]}
 use native.Mathlib.Omega.{arith}
 use Rattle.transcript.specs.Steps.{Room, lentOf}
 use Rattle.wire.proofs.Promises.{denied, granted, says-leb}
@@ -33,7 +34,7 @@ returns-5 c =
     let second = third .before .before in
     let first = second .before .before in
     let a = first .before .before .before .before .before .before .args in
-    let l = lentOf (a .host .now) (a .image0 .now) (a .image1 .now) (a .text .now) in
+    let l = lentOf (a .host .now) (a .image0 .now) (a .image1 .now) (a .text .now) [] [] in
     says-leb (a .s .at) _ (Room (a .s) l)
     (λ early.
     record {

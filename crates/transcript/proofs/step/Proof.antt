@@ -1,4 +1,5 @@
 -- The checks in their order, each by its law; a good field is heard.
+use mathlib.Core.List.{[]}
 use mathlib.Core.Path.{refl, sym, _∙_}
 use native.Mathlib.Omega.{arith}
 use Rattle.transcript.specs.Steps.{Lent, Room, lentOf, saidOf, spokenOf}
@@ -6,7 +7,7 @@ use Rattle.transcript.specs.Session.{Field}
 use Rattle.transcript.specs.declared.Next.{Next}
 use Rattle.transcript.proofs.Plays.{said-over}
 use Rattle.transcript.proofs.Texts.{refusal-line-short}
-use Rattle.transcript.proofs.Speaks.{at-the-end, no-room, refused, went-on}
+use Rattle.transcript.proofs.Speaks.{at-the-end, no-room, refused, room-with, went-on}
 use Rattle.wire.proofs.Promises.{denied, granted}
 use borrow.Author.Needs.{needs}
 use Rattle.transcript.proofs.step.Statement.{statement}
@@ -14,7 +15,7 @@ use Rattle.transcript.proofs.step.Tie as tie
 
 -- What is lent, as it came.
 abbrev lent : tie.Start → Lent
-lent start = lentOf (start .args .host .now) (start .args .image0 .now) (start .args .image1 .now) (start .args .text .now)
+lent start = lentOf (start .args .host .now) (start .args .image0 .now) (start .args .image1 .now) (start .args .text .now) (start .args .map0 .now) (start .args .map1 .now)
 
 has-room-requires : tie.Need-has-room-requires
 has-room-requires c κs = search needs
@@ -36,14 +37,14 @@ returns c =
     let start = c .before .before .before .before .before .before .before .before .before .before .before in
     sym
     (no-room (start .args .field .now) (start .args .s) (lent start)
-    (denied (c .before .has-room .result) _ (c .if1 .taken) (c .before .has-room .ensures)))
+    (λ r. denied (c .before .has-room .result) _ (c .if1 .taken) (c .before .has-room .ensures) (room-with _ _ [] [] r)))
 
 -- Past the first check there is room, and past the last a field.
 room :
     (c : tie.Else1) →
     let start = c .before .before .before .before .before .before .before .before .before .before .before in
     Room (start .args .s) (lent start)
-room c = granted (c .before .has-room .result) _ (c .if1 .left) (c .before .has-room .ensures)
+room c = room-with [] [] _ _ (granted (c .before .has-room .result) _ (c .if1 .left) (c .before .has-room .ensures))
 
 good :
     (c : tie.Else3) →
@@ -95,13 +96,13 @@ returns-3 c =
     let l = lent start in
     let line = refusal-line-short (start .args .s .at) (omega (arith, room .at)) in
     let said = said-over (c .before .before .put-refusal .ensures) (omega (arith, room .text)) in
-    (λ t. spokenOf (saidOf Next.Over (said .1 t)) (lentOf (l .host) (l .image0) (l .image1) (said .0 t))) ∙
+    (λ t. spokenOf (saidOf Next.Over (said .1 t)) (lentOf (l .host) (l .image0) (l .image1) (said .0 t) (l .tracks0) (l .tracks1))) ∙
     sym
     (refused (start .args .field .now) (start .args .s) (lent start) room (asked .before .if2 .left)
     (denied (asked .is-field .result) _ (c .before .before .before .before .if3 .taken) (asked .is-field .ensures)))
 
 hear-requires : tie.Need-hear-requires
-hear-requires c κs = (room (c .before .before .before .before .before .before .before), good (c .before .before .before .before))
+hear-requires c κs = (room (c .before .before .before .before .before .before .before .before .before), good (c .before .before .before .before .before .before))
 
 same-length-13 : tie.Need-same-length-13
 same-length-13 c = c .before .before .before .before .before .before .before .before .hear .kept .1 .0
@@ -118,7 +119,7 @@ same-length-16 c = c .before .before .before .before .before .before .before .be
 returns-4 : tie.Need-returns-4
 returns-4 c =
     let heard = c .before .before .before .before .before .before .before .before in
-    let last = heard .before .before .before .before .before in
+    let last = heard .before .before .before .before .before .before .before in
     let first = last .before .before .before in
     let start = first .before .before .before .before .before .before .before .before .before .before .before in
     heard .hear .ensures ∙ sym (went-on (start .args .field .now) (start .args .s) (lent start) (room first) (good last))

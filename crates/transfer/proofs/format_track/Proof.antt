@@ -15,7 +15,7 @@ use Rattle.transfer.proofs.Filling.{track-fit, track-room, track-stores
 use borrow.Author.Needs.{needs}
 use Rattle.transfer.proofs.format_track.Statement.{statement}
 use Rattle.transfer.proofs.format_track.Tie as tie
-use Rattle.unit.specs.Standing.{geometry}
+use Rattle.unit.specs.Standing.{bare, geometry}
 
 track-fits-requires : tie.Need-track-fits-requires
 track-fits-requires c κs = search needs
@@ -24,7 +24,7 @@ idle-requires : tie.Need-idle-requires
 idle-requires c κs = search needs
 
 -- After the test the request fits, and what is asked of the geometry is the unit's.
-fits : (c : tie.Else1) → TrackFits (c .before .before .before .before .args .u) (c .before .before .before .before .args .spot) (c .before .before .before .before .args .at) (length (c .before .before .before .before .args .host .now)) (length (c .before .before .before .before .args .image .now))
+fits : (c : tie.Else1) → TrackFits (geometry (bare (c .before .before .before .before .args .u))) (c .before .before .before .before .args .spot) (c .before .before .before .before .args .at) (length (c .before .before .before .before .args .host .now)) (length (c .before .before .before .before .args .image .now))
 fits c = granted (c .before .track-fits .result) _ (c .if1 .left) (c .before .track-fits .ensures)
 
 returns : tie.Need-returns
@@ -32,7 +32,7 @@ unfolding after
 returns c =
     let a = c .before .before .before .before .before .args in
     rw
-    (track-unfit (a .image .now) (a .u) (a .spot) (a .at) (length (a .host .now))
+    (track-unfit (a .image .now) (bare (a .u)) (a .spot) (a .at) (length (a .host .now))
     (denied (c .before .before .track-fits .result) _ (c .before .if1 .taken) (c .before .before .track-fits .ensures)))
     (c .idle .ensures, refl)
 
@@ -56,7 +56,7 @@ returns-2 c =
     let a = c .before .before .before .before .before .before .before .before .before .args in
     absurd
     (omega
-    (arith, no-sector (geometry (a .u)) (a .spot .place) (sym (rw (c .before .before .before .before .geometry .ensures) at (c .before .before .before .sector .ensures)) ∙ c .before .enum-told .given .1), fits (c .before .before .before .before .before)))
+    (arith, no-sector (geometry (bare (a .u))) (a .spot .place) (sym (rw (c .before .before .before .before .geometry .ensures) at (c .before .before .before .sector .ensures)) ∙ c .before .enum-told .given .1), fits (c .before .before .before .before .before)))
 
 sectors-a-track-requires : tie.Need-sectors-a-track-requires
 sectors-a-track-requires c κs = search needs
@@ -78,14 +78,14 @@ cast-fill-2 c = search needs
 -- What is known before the track is filled: where it begins, how long a sector is, how far the track comes.
 known :
     (c : tie.After-struct-known) →
-    (c .before .before .before .before .before .before .before .first .given .0 .0 ≡ firstByte (geometry (c .before .before .before .before .before .before .before .before .before .before .before .before .before .before .before .args .u)) (c .before .before .before .before .before .before .before .before .before .before .before .before .before .before .before .args .spot .place)) ×
-    ((c .before .bytes-a-sector .result ≡ B (geometry (c .before .before .before .before .before .before .before .before .before .before .before .before .before .before .before .args .u))) ×
-    (c .before .before .before .reach .result ≡ reached (progressOn (c .before .before .before .before .before .before .before .before .before .before .before .before .before .before .before .args .image .now) (formatting (c .before .before .before .before .before .before .before .before .before .before .before .before .before .before .before .args .u) (c .before .before .before .before .before .before .before .before .before .before .before .before .before .before .before .args .spot) (c .before .before .before .before .before .before .before .before .before .before .before .before .before .before .before .args .at)))))
+    (c .before .before .before .before .before .before .before .first .given .0 .0 ≡ firstByte (geometry (bare (c .before .before .before .before .before .before .before .before .before .before .before .before .before .before .before .args .u))) (c .before .before .before .before .before .before .before .before .before .before .before .before .before .before .before .args .spot .place)) ×
+    ((c .before .bytes-a-sector .result ≡ B (geometry (bare (c .before .before .before .before .before .before .before .before .before .before .before .before .before .before .before .args .u)))) ×
+    (c .before .before .before .reach .result ≡ reached (progressOn (c .before .before .before .before .before .before .before .before .before .before .before .before .before .before .before .args .image .now) (formatting (bare (c .before .before .before .before .before .before .before .before .before .before .before .before .before .before .before .args .u)) (c .before .before .before .before .before .before .before .before .before .before .before .before .before .before .before .args .spot) (c .before .before .before .before .before .before .before .before .before .before .before .before .before .before .before .args .at)))))
 known c =
     let a = c .before .before .before .before .before .before .before .before .before .before .before .before .before .before .before .args in
     let is = c .before .before .before .before .before .before .before .before .before .before .geometry .ensures in
     let sector = c .before .before .before .before .before .before .before .first .given in (
-      at-sector (geometry (a .u)) (a .spot .place) (sector .0 .0) (sector .0 .1 .0) (sym (rw is at (c .before .before .before .before .before .before .before .before .before .sector .ensures)) ∙ sector .1) .1 .0,
+      at-sector (geometry (bare (a .u))) (a .spot .place) (sector .0 .0) (sector .0 .1 .0) (sym (rw is at (c .before .before .before .before .before .before .before .before .before .sector .ensures)) ∙ sector .1) .1 .0,
       (
         rw is at (c .before .bytes-a-sector .ensures),
         rw (c .before .before .before .before .sectors-a-track .ensures, is) at (c .before .before .before .reach .ensures),
@@ -96,7 +96,7 @@ fill-requires : tie.Need-fill-requires
 fill-requires c κs =
     let a = c .before .before .before .before .before .before .before .before .before .before .before .before .before .before .before .args in
     let k = known c in
-    rw (k .0, k .1 .0, k .1 .1) (fits (c .before .before .before .before .before .before .before .before .before .before .before) .memory, track-room (a .image .now) (a .u) (a .spot) (a .at) (fits (c .before .before .before .before .before .before .before .before .before .before .before) .inside) (fits (c .before .before .before .before .before .before .before .before .before .before .before) .held))
+    rw (k .0, k .1 .0, k .1 .1) (fits (c .before .before .before .before .before .before .before .before .before .before .before) .memory, track-room (a .image .now) (bare (a .u)) (a .spot) (a .at) (fits (c .before .before .before .before .before .before .before .before .before .before .before) .inside) (fits (c .before .before .before .before .before .before .before .before .before .before .before) .held))
 
 same-length : tie.Need-same-length
 same-length c = search needs
@@ -105,8 +105,8 @@ returns-3 : tie.Need-returns-3
 returns-3 c =
     let a = c .before .before .before .before .before .before .before .before .before .before .before .before .before .before .before .before .before .before .args in
     let k = known (c .before .before .before) in
-    rw (track-fit (a .image .now) (a .u) (a .spot) (a .at) (length (a .host .now)) (fits (c .before .before .before .before .before .before .before .before .before .before .before .before .before .before)), k .1 .1)
-    (refl, rw (track-stores (a .image .now) (a .u) (a .spot) (a .at)) (rw (k .0, k .1 .0, k .1 .1) at (c .before .before .fill .ensures)))
+    rw (track-fit (a .image .now) (bare (a .u)) (a .spot) (a .at) (length (a .host .now)) (fits (c .before .before .before .before .before .before .before .before .before .before .before .before .before .before)), k .1 .1)
+    (refl, rw (track-stores (a .image .now) (bare (a .u)) (a .spot) (a .at)) (rw (k .0, k .1 .0, k .1 .1) at (c .before .before .fill .ensures)))
 
 pub format-track-spec : {M : Type 1} → statement M
 format-track-spec =

@@ -3,7 +3,7 @@ use Prim.Native.Nat.{_≤_}
 use mathlib.Core.Path.{_≡_}
 use native.Mathlib.Omega.{arith}
 use Rattle.geometry.specs.Drive.{need}
-use Rattle.unit.specs.Standing.{geometry}
+use Rattle.unit.specs.Standing.{bare, geometry}
 use Rattle.wire.proofs.Promises.{says-leb}
 use borrow.Author.Needs.{needs}
 use Rattle.transfer.proofs.holds_drive.Statement.{statement}
@@ -18,8 +18,8 @@ need-requires c κs = search needs
 returns : tie.Need-returns
 returns c =
     let a = c .before .before .args in
-    let all : c .need .result ≡ need (geometry (a .u)) = rw (c .before .geometry .ensures) at (c .need .ensures) in
-    says-leb (c .need .result) (a .image) (need (geometry (a .u)) ≤ a .image) (λ fits. omega arith) (λ short h. omega arith)
+    let all : c .need .result ≡ need (geometry (bare (a .u))) = rw (c .before .geometry .ensures) at (c .need .ensures) in
+    says-leb (c .need .result) (a .image) (need (geometry (bare (a .u))) ≤ a .image) (λ fits. omega arith) (λ short h. omega arith)
 
 pub holds-drive-spec : {M : Type 1} → statement M
 holds-drive-spec = tie.close (tie.spec geometry-requires need-requires returns)

@@ -3,6 +3,7 @@
 use mathlib.Core.Path.{refl}
 use native.Mathlib.Omega.{arith}
 use lib.ListN.{length}
+use Rattle.unit.specs.Standing.{geometry, unitOf}
 use Rattle.wire.proofs.Promises.{denied, granted}
 use Rattle.transfer.specs.Data.{dataOn}
 use Rattle.transfer.specs.Runs.{Spans}
@@ -22,10 +23,10 @@ idle-requires c κs = search needs
 -- After the test the request fits, and its numbers can be counted in 64 bits.
 fits :
     (c : tie.Else1) →
-    SectorsFit (c .before .before .before .before .before .before .args .u) (c .before .before .before .before .before .before .args .span) (c .before .before .before .before .before .before .args .lengths .now) (c .before .before .before .before .before .before .args .addresses .now) (length (c .before .before .before .before .before .before .args .host .now)) (length (c .before .before .before .before .before .before .args .image .now))
+    SectorsFit (geometry (unitOf (c .before .before .before .before .before .before .args .u) (c .before .before .before .before .before .before .args .table .now))) (c .before .before .before .before .before .before .args .span) (c .before .before .before .before .before .before .args .lengths .now) (c .before .before .before .before .before .before .args .addresses .now) (length (c .before .before .before .before .before .before .args .host .now)) (length (c .before .before .before .before .before .before .args .image .now))
 fits c = granted (c .before .sectors-fit .result) _ (c .if1 .left) (c .before .sectors-fit .ensures .0)
 
-spans : (c : tie.Else1) → Spans (c .before .before .before .before .before .before .args .u) (c .before .before .before .before .before .before .args .span)
+spans : (c : tie.Else1) → Spans (unitOf (c .before .before .before .before .before .before .args .u) (c .before .before .before .before .before .before .args .table .now)) (c .before .before .before .before .before .before .args .span)
 spans c = record { inside = fits c .inside; small = omega (arith, fits c .inside, c .before .sectors-fit .ensures .1) }
 
 returns : tie.Need-returns
@@ -33,7 +34,7 @@ unfolding after
 returns c =
     let a = c .before .before .before .before .before .before .before .args in
     rw
-    (sectors-unfit (length (a .host .now)) (a .image .now) (a .u) (a .span) (a .to-host) (a .past-marks) (a .lengths .now) (a .addresses .now)
+    (sectors-unfit (length (a .host .now)) (a .image .now) (unitOf (a .u) (a .table .now)) (a .span) (a .to-host) (a .past-marks) (a .lengths .now) (a .addresses .now)
     (denied (c .before .before .sectors-fit .result) _ (c .before .if1 .taken) (c .before .before .sectors-fit .ensures .0)))
     (c .idle .ensures, refl)
 
@@ -52,10 +53,10 @@ carry-requires c κs =
     let heeds = c .before .before .before .before .heeds .result in
     let fit = c .before .before .before .before .before .before in
     rw (c .before .before .first-sectors .ensures, c .before .before .before .survey .ensures) (
-      reached-spans (a .image .now) (a .u) (a .span) heeds (spans fit),
+      reached-spans (a .image .now) (unitOf (a .u) (a .table .now)) (a .span) heeds (spans fit),
       (
-        reached-held (a .image .now) (a .u) (a .span) heeds (spans fit) (fits fit .held),
-        reached-pieces (a .image .now) (a .u) (a .span) heeds (length (a .host .now)) (a .lengths .now) (a .addresses .now) (fits fit .pieces),
+        reached-held (a .image .now) (unitOf (a .u) (a .table .now)) (a .span) heeds (spans fit) (fits fit .held),
+        reached-pieces (a .image .now) (unitOf (a .u) (a .table .now)) (a .span) heeds (length (a .host .now)) (a .lengths .now) (a .addresses .now) (fits fit .pieces),
       ),
     )
 
@@ -72,7 +73,7 @@ returns-2 c =
     let first = c .before .before .before .before .before .before .before .first-sectors .ensures in
     let a = c .before .before .before .before .before .before .before .before .before .before .before .before .before .before .before .before .before .args in
     rw
-    (sectors-fit (length (a .host .now)) (a .image .now) (a .u) (a .span) (a .to-host) (a .past-marks) (a .lengths .now) (a .addresses .now)
+    (sectors-fit (length (a .host .now)) (a .image .now) (unitOf (a .u) (a .table .now)) (a .span) (a .to-host) (a .past-marks) (a .lengths .now) (a .addresses .now)
     (fits (c .before .before .before .before .before .before .before .before .before .before .before)))
     (surveyed, rw (first, surveyed) at (c .before .before .before .before .carry .ensures))
 

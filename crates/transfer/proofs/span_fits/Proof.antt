@@ -8,7 +8,7 @@ use Rattle.wire.proofs.Promises.{says-leb}
 use borrow.Author.Needs.{needs}
 use Rattle.transfer.proofs.span_fits.Statement.{statement}
 use Rattle.transfer.proofs.span_fits.Tie as tie
-use Rattle.unit.specs.Standing.{geometry}
+use Rattle.unit.specs.Standing.{bare, geometry}
 
 geometry-requires : tie.Need-geometry-requires
 geometry-requires c κs = search needs
@@ -19,8 +19,8 @@ volume-sectors-requires c κs = search needs
 -- How many sectors the volume has, and that they can be counted in 64 bits.
 sectors :
     (c : tie.After-volume-sectors) →
-    (c .volume-sectors .result ≡ volumeSectors (geometry (c .before .before .args .u)) (c .before .before .args .span .volume)) ×
-    (volumeSectors (geometry (c .before .before .args .u)) (c .before .before .args .span .volume) < 2 ^ 64)
+    (c .volume-sectors .result ≡ volumeSectors (geometry (bare (c .before .before .args .u))) (c .before .before .args .span .volume)) ×
+    (volumeSectors (geometry (bare (c .before .before .args .u))) (c .before .before .args .span .volume) < 2 ^ 64)
 sectors c =
     let is = rw (c .before .geometry .ensures) at (c .volume-sectors .ensures) in
     (is, omega (arith, is, c .volume-sectors .ok))

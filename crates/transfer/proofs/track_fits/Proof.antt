@@ -8,7 +8,7 @@ use Rattle.wire.proofs.Promises.{denied, granted, says-leb}
 use borrow.Author.Needs.{needs}
 use Rattle.transfer.proofs.track_fits.Statement.{statement}
 use Rattle.transfer.proofs.track_fits.Tie as tie
-use Rattle.unit.specs.Standing.{geometry}
+use Rattle.unit.specs.Standing.{bare, geometry}
 
 geometry-requires : tie.Need-geometry-requires
 geometry-requires c κs = search needs
@@ -47,7 +47,7 @@ returns-3 c =
     let on = rw is at (granted (there .result) _ (c .before .before .before .if1 .left) (there .ensures)) in
     let held = c .before .before .holds-drive in
     let long = granted (held .result) _ (c .before .if2 .left) (held .ensures) in
-    let bytes : c .bytes-a-sector .result ≡ B (geometry (a .u)) = rw is at (c .bytes-a-sector .ensures) in
+    let bytes : c .bytes-a-sector .result ≡ B (geometry (bare (a .u))) = rw is at (c .bytes-a-sector .ensures) in
     says-leb (a .at + c .bytes-a-sector .result) (a .long) _
     (λ fits. record { some = on .0; inside = on .1; memory = omega arith; held = long })
     (λ over f. omega (arith, f .memory))

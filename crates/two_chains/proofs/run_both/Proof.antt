@@ -35,7 +35,7 @@ same-length-5 : tie.Need-same-length-5
 same-length-5 c = c .before .before .before .before .before .before .before .before .before .before .in-turn .kept .1 .1 .1 .1 .0
 
 returns : tie.Need-returns
-returns c = rw (c .before .before .before .before .before .before .before .before .before .before .before .before .before .before .before .before .enum-told .given .1) (c .before .before .before .before .before .before .before .before .before .before .in-turn .ensures)
+returns c = rw (c .before .before .before .before .before .before .before .before .before .before .before .before .before .before .before .before .before .before .enum-told .given .1) (c .before .before .before .before .before .before .before .before .before .before .in-turn .ensures)
 
 same-length-6 : tie.Need-same-length-6
 same-length-6 c = c .before .before .before .before .before .before .before .before .before .before .before .before .before .in-turn2 .kept .0
@@ -54,12 +54,12 @@ same-length-10 c = c .before .before .before .before .before .before .before .be
 
 returns-2 : tie.Need-returns-2
 returns-2 c =
-    let x = c .before .before .before .before .before .before .before .before .before .before .before .before .before .before .before .before .before .before .before .before .before .before .before .before .before .before .args in
+    let x = c .before .before .before .before .before .before .before .before .before .before .before .before .before .before .before .before .before .before .before .before .before .before .before .before .before .before .before .before .args in
     let y = c .before .before .before .before .before .before .before .before .before .before .before .before .before .in-turn2 in
-    rw (c .before .before .before .before .before .before .before .before .before .before .before .before .before .before .before .before .before .before .before .enum-told2 .given .1)
+    rw (c .before .before .before .before .before .before .before .before .before .before .before .before .before .before .before .before .before .before .before .before .before .enum-told2 .given .1)
     (exchanged (chainOf (x .first1) (x .allowance1)) (chainOf (x .first2) (x .allowance2)) (now (x .host)) (now (x .image0)) (now (x .image1))
-    (now (x .events1)) (now (x .events2)) (x .units) (y .result) (y .last .0) (y .last .1 .0) (y .last .1 .1 .0)
-    (y .last .1 .1 .1 .1 .0) (y .last .1 .1 .1 .0) (y .ensures))
+    (now (x .events1)) (now (x .events2)) (now (x .map0)) (now (x .map1)) (x .units) (y .result) (y .last .0) (y .last .1 .0) (y .last .1 .1 .0)
+    (y .last .1 .1 .1 .1 .0) (y .last .1 .1 .1 .0) (y .last .1 .1 .1 .1 .1 .0) (y .last .1 .1 .1 .1 .1 .1 .0) (y .ensures))
 
 pub run-both-spec : {M : Type 1} → statement M
 run-both-spec =

@@ -6,18 +6,25 @@ use Rattle.geometry.specs.declared.Geometry.{Geometry}
 use Rattle.geometry.specs.declared.VolumeNumber.{VolumeNumber}
 use Rattle.geometry.specs.Drive.{S}
 use Rattle.geometry.specs.Sectors.{address, addressOf, placeOf}
-use Rattle.unit.specs.declared.Record.{Record}
-use Rattle.unit.specs.Landing.{spotAt, spotOf, trackOf}
+use Rattle.spares.specs.Table.{servedAt}
+use Rattle.unit.specs.Landing.{landed, onto, spotAt, spotOf, trackOf}
+use Rattle.unit.specs.Standing.{UnitRecord, geometry, pairs, table}
 
 pub spotAt-is :
     (g : Geometry) (a : Address) → spotAt g a ≡ record { cylinder = a .cylinder; place = placeOf g a; rest = S g - a .sector }
 unfolding spotAt
 spotAt-is g a = refl
 
-pub spotOf-is : (u : Record) (v : VolumeNumber) (n : ℕ) → spotOf u v n ≡ spotAt (u .geometry) (addressOf (u .geometry) v n)
+pub landed-is :
+    (u : UnitRecord) (a : Address) →
+    landed u a ≡ onto (servedAt (geometry u) (pairs u) (table u) (a .cylinder) (a .head)) a
+unfolding landed
+landed-is u a = refl
+
+pub spotOf-is : (u : UnitRecord) (v : VolumeNumber) (n : ℕ) → spotOf u v n ≡ spotAt (geometry u) (landed u (addressOf (geometry u) v n))
 unfolding spotOf
 spotOf-is u v n = refl
 
-pub trackOf-is : (u : Record) (c h : ℕ) → trackOf u c h ≡ spotAt (u .geometry) (address c h 0)
+pub trackOf-is : (u : UnitRecord) (c h : ℕ) → trackOf u c h ≡ spotAt (geometry u) (landed u (address c h 0))
 unfolding trackOf
 trackOf-is u c h = refl

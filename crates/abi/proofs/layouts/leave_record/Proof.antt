@@ -4,6 +4,7 @@ use Rattle.abi.proofs.Left.{left-anew, left-as-it-came}
 use Rattle.wire.proofs.Promises.{denied, granted}
 use denote.Ref.{now}
 use mathlib.Core.Path.{sym, _∙_}
+use Rattle.unit.specs.Standing.{noTracks, unitOf}
 use borrow.Author.Needs.{needs}
 use Rattle.abi.proofs.layouts.leave_record.Statement.{statement}
 use Rattle.abi.proofs.layouts.leave_record.Tie as tie
@@ -25,7 +26,7 @@ returns c =
     let a = c .before .before .before .before .before .before .before .before .before .args in
     c .before .before .put-record .ensures ∙
     sym
-    (left-anew (now (a .bytes)) (a .u)
+    (left-anew (now (a .bytes)) (unitOf (a .u) noTracks)
     (λ e. denied (c .before .before .before .before .before .same .result) _ (c .before .before .before .before .if1 .taken) (c .before .before .before .before .before .same .ensures) (c .before .before .before .before .before .before .record .ensures ∙ e)))
 
 same-length-2 : tie.Need-same-length-2
@@ -35,7 +36,7 @@ returns-2 : tie.Need-returns-2
 returns-2 c =
     let a = c .before .before .before .before .before .args in
     sym
-    (left-as-it-came (now (a .bytes)) (a .u)
+    (left-as-it-came (now (a .bytes)) (unitOf (a .u) noTracks)
     (sym (c .before .before .record .ensures) ∙ granted (c .before .same .result) _ (c .if1 .left) (c .before .same .ensures)))
 
 pub leave-record-spec : {M : Type 1} → statement M

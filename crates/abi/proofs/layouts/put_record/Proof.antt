@@ -5,7 +5,7 @@ use Rattle.abi.proofs.Stored.{record-stored}
 use borrow.Author.Needs.{needs}
 use Rattle.abi.proofs.layouts.put_record.Statement.{statement}
 use Rattle.abi.proofs.layouts.put_record.Tie as tie
-use Rattle.unit.specs.Standing.{cylinder, geometry, initialized}
+use Rattle.unit.specs.Standing.{bare, cylinder, geometry, initialized}
 
 initialized-requires : tie.Need-initialized-requires
 initialized-requires c κs = search needs
@@ -41,7 +41,7 @@ returns c =
       third .before .cylinder .ensures,
       second .before .geometry .ensures,
       first .before .initialized .ensures,
-    ) (record-stored (now (a .bytes)) (initialized (a .u)) (geometry (a .u)) (cylinder (a .u)))
+    ) (record-stored (now (a .bytes)) (initialized (bare (a .u))) (geometry (bare (a .u))) (cylinder (bare (a .u))))
 
 pub put-record-spec : {M : Type 1} → statement M
 put-record-spec =

@@ -27,23 +27,23 @@ use Rattle.board.proofs.chain.holds_block.Reads as holds-block-reads
 use Rattle.board.proofs.chain.+execute+fetch.{statement}
 use Rattle.board.proofs.chain.+execute+fetch.Tie.{close}
 
-abbrev μ-execute : Measures 4 execute-kinds.ps ℕ
-μ-execute κs a = 2 * a .1 .1 .1 .1 .1 .1 .0 + 1
+abbrev μ-execute : Measures 6 execute-kinds.ps ℕ
+μ-execute κs a = 2 * a .1 .1 .1 .1 .1 .1 .1 .1 .0 + 1
 
-abbrev μ-fetch : Measures 4 fetch-kinds.ps ℕ
-μ-fetch κs a = 2 * a .1 .1 .1 .1 .1 .1 .0
+abbrev μ-fetch : Measures 6 fetch-kinds.ps ℕ
+μ-fetch κs a = 2 * a .1 .1 .1 .1 .1 .1 .1 .1 .0
 
-abbrev execute-at : ℕ → In 4 execute-kinds.ps
-execute-at t = and 4 execute-kinds.ps (is 4 execute-kinds.ps μ-execute t) execute.Pre
+abbrev execute-at : ℕ → In 6 execute-kinds.ps
+execute-at t = and 6 execute-kinds.ps (is 6 execute-kinds.ps μ-execute t) execute.Pre
 
-abbrev execute-below : ℕ → In 4 execute-kinds.ps
-execute-below t = and 4 execute-kinds.ps (falls 4 execute-kinds.ps _<_ μ-execute t) execute.Pre
+abbrev execute-below : ℕ → In 6 execute-kinds.ps
+execute-below t = and 6 execute-kinds.ps (falls 6 execute-kinds.ps _<_ μ-execute t) execute.Pre
 
-abbrev fetch-at : ℕ → In 4 fetch-kinds.ps
-fetch-at t = and 4 fetch-kinds.ps (is 4 fetch-kinds.ps μ-fetch t) fetch.Pre
+abbrev fetch-at : ℕ → In 6 fetch-kinds.ps
+fetch-at t = and 6 fetch-kinds.ps (is 6 fetch-kinds.ps μ-fetch t) fetch.Pre
 
-abbrev fetch-below : ℕ → In 4 fetch-kinds.ps
-fetch-below t = and 4 fetch-kinds.ps (falls 4 fetch-kinds.ps _<_ μ-fetch t) fetch.Pre
+abbrev fetch-below : ℕ → In 6 fetch-kinds.ps
+fetch-below t = and 6 fetch-kinds.ps (falls 6 fetch-kinds.ps _<_ μ-fetch t) fetch.Pre
 
 module _ (t : ℕ) where
   execute-cast-step : execute-lts.Need-cast-step (step-reads.Asked, step-reads.Learnt, counted-reads.Asked, counted-reads.Learnt, failed-reads.Asked, failed-reads.Learnt, fetch-below t, fetch.Post, ended-reads.Asked, ended-reads.Learnt) (execute-at t) execute.Post
@@ -54,7 +54,7 @@ module _ (t : ℕ) where
 
   execute-counted-requires : execute-lts.Need-counted-requires (step-reads.Asked, step-reads.Learnt, counted-reads.Asked, counted-reads.Learnt, failed-reads.Asked, failed-reads.Learnt, fetch-below t, fetch.Post, ended-reads.Asked, ended-reads.Learnt) (execute-at t) execute.Post
   execute-counted-requires c κs =
-      let spare = c .before .before .before .before .before .before .before .before .before .before .before .before .before .before .before .before .before .before .before .pre .1 .1 in
+      let spare = c .before .before .before .before .before .before .before .before .before .before .before .before .before .before .before .before .before .before .before .before .before .pre .1 .1 in
       (omega (arith, spare .blocks), spare .sectors)
 
   execute-enum-known-answer : execute-lts.Need-enum-known-answer (step-reads.Asked, step-reads.Learnt, counted-reads.Asked, counted-reads.Learnt, failed-reads.Asked, failed-reads.Learnt, fetch-below t, fetch.Post, ended-reads.Asked, ended-reads.Learnt) (execute-at t) execute.Post
@@ -68,11 +68,11 @@ module _ (t : ℕ) where
 
   execute-fetch-requires : execute-lts.Need-fetch-requires (step-reads.Asked, step-reads.Learnt, counted-reads.Asked, counted-reads.Learnt, failed-reads.Asked, failed-reads.Learnt, fetch-below t, fetch.Post, ended-reads.Asked, ended-reads.Learnt) (execute-at t) execute.Post
   execute-fetch-requires c κs =
-      let a = c .before .before .before .before .before .before .before .before .before .before .before .before .before .before .before .before .before .before .before .before .before .before .before .before .before .before .before .args in
-      let pre = c .before .before .before .before .before .before .before .before .before .before .before .before .before .before .before .before .before .before .before .before .before .before .before .before .before .before .before .pre in
-      let s = c .before .before .before .before .before .before .before .before .before .before .before .before .before .before .before .before .before .step in (
+      let a = c .before .before .before .before .before .before .before .before .before .before .before .before .before .before .before .before .before .before .before .before .before .before .before .before .before .before .before .before .before .before .before .args in
+      let pre = c .before .before .before .before .before .before .before .before .before .before .before .before .before .before .before .before .before .before .before .before .before .before .before .before .before .before .before .before .before .before .before .pre in
+      let s = c .before .before .before .before .before .before .before .before .before .before .before .before .before .before .before .before .before .before .before .step in (
         omega (arith, pre .0),
-        rw (c .before .before .before .before .before .before .before .counted .ensures)
+        rw (c .before .before .before .before .before .before .before .before .before .counted .ensures)
             (spare-less (s .last .1 .1 .1 .0) (a .left) (a .count) (s .result .sectors) (omega arith)
             (spare-kept (a .events .now) (s .last .1 .1 .1 .0) (a .left + 1) (tallyOf (a .count)) (s .kept .1 .1 .1 .0) (pre .1 .1))),
       )
@@ -94,35 +94,35 @@ module _ (t : ℕ) where
 
   execute-returns : execute-lts.Need-returns (step-reads.Asked, step-reads.Learnt, counted-reads.Asked, counted-reads.Learnt, failed-reads.Asked, failed-reads.Learnt, fetch-below t, fetch.Post, ended-reads.Asked, ended-reads.Learnt) (execute-at t) execute.Post
   execute-returns c =
-      let a = c .before .before .before .before .before .before .before .before .before .before .before .before .before .before .before .before .before .before .before .before .before .before .before .before .args in
+      let a = c .before .before .before .before .before .before .before .before .before .before .before .before .before .before .before .before .before .before .before .before .before .before .before .before .before .before .args in
       let s = c .before .before .before .before .before .before .before .before .before .before .before .before .before .before .step in
-      let w = (worldOf (a .host .now) (a .image0 .now) (a .image1 .now) (a .events .now) (a .units)) in
+      let w = (worldOf (a .host .now) (a .image0 .now) (a .image1 .now) (a .events .now) (a .map0 .now) (a .map1 .now) (a .units)) in
       let r = c .before .before .answer .given .0 .0 in
       rw (c .failed .ensures, c .before .before .before .before .counted .ensures)
-      (came-to RunAnswer.BlockFailed (refusalNumber r) (countedOf (a .count) (s .result .sectors)) (s .result .units) (s .last .0) (s .last .1 .0) (s .last .1 .1 .0) (s .last .1 .1 .1 .0) _
-      (executed-failed (fetched (a .left)) (a .count) (a .at) w (worldOf (s .last .0) (s .last .1 .0) (s .last .1 .1 .0) (s .last .1 .1 .1 .0) (s .result .units)) (s .result) (s .ensures) r (c .before .before .answer .given .1)))
+      (came-to RunAnswer.BlockFailed (refusalNumber r) (countedOf (a .count) (s .result .sectors)) (s .result .units) (s .last .0) (s .last .1 .0) (s .last .1 .1 .0) (s .last .1 .1 .1 .0) (s .last .1 .1 .1 .1 .0) (s .last .1 .1 .1 .1 .1 .0) _
+      (executed-failed (fetched (a .left)) (a .count) (a .at) w (worldOf (s .last .0) (s .last .1 .0) (s .last .1 .1 .0) (s .last .1 .1 .1 .0) (s .last .1 .1 .1 .1 .0) (s .last .1 .1 .1 .1 .1 .0) (s .result .units)) (s .result) (s .ensures) r (c .before .before .answer .given .1)))
 
   execute-same-length-5 : execute-lts.Need-same-length-5 (step-reads.Asked, step-reads.Learnt, counted-reads.Asked, counted-reads.Learnt, failed-reads.Asked, failed-reads.Learnt, fetch-below t, fetch.Post, ended-reads.Asked, ended-reads.Learnt) (execute-at t) execute.Post
-  execute-same-length-5 c = c .before .before .before .before .before .before .before .before .fetch .kept .0 ∙ c .before .before .before .before .before .before .before .before .before .before .before .before .before .before .before .before .before .before .before .before .before .before .before .before .before .before .step .kept .0
+  execute-same-length-5 c = c .before .before .before .before .before .before .before .before .fetch .kept .0 ∙ c .before .before .before .before .before .before .before .before .before .before .before .before .before .before .before .before .before .before .before .before .before .before .before .before .before .before .before .before .step .kept .0
 
   execute-same-length-6 : execute-lts.Need-same-length-6 (step-reads.Asked, step-reads.Learnt, counted-reads.Asked, counted-reads.Learnt, failed-reads.Asked, failed-reads.Learnt, fetch-below t, fetch.Post, ended-reads.Asked, ended-reads.Learnt) (execute-at t) execute.Post
-  execute-same-length-6 c = c .before .before .before .before .before .before .before .before .fetch .kept .1 .0 ∙ c .before .before .before .before .before .before .before .before .before .before .before .before .before .before .before .before .before .before .before .before .before .before .before .before .before .before .step .kept .1 .0
+  execute-same-length-6 c = c .before .before .before .before .before .before .before .before .fetch .kept .1 .0 ∙ c .before .before .before .before .before .before .before .before .before .before .before .before .before .before .before .before .before .before .before .before .before .before .before .before .before .before .before .before .step .kept .1 .0
 
   execute-same-length-7 : execute-lts.Need-same-length-7 (step-reads.Asked, step-reads.Learnt, counted-reads.Asked, counted-reads.Learnt, failed-reads.Asked, failed-reads.Learnt, fetch-below t, fetch.Post, ended-reads.Asked, ended-reads.Learnt) (execute-at t) execute.Post
-  execute-same-length-7 c = c .before .before .before .before .before .before .before .before .fetch .kept .1 .1 .0 ∙ c .before .before .before .before .before .before .before .before .before .before .before .before .before .before .before .before .before .before .before .before .before .before .before .before .before .before .step .kept .1 .1 .0
+  execute-same-length-7 c = c .before .before .before .before .before .before .before .before .fetch .kept .1 .1 .0 ∙ c .before .before .before .before .before .before .before .before .before .before .before .before .before .before .before .before .before .before .before .before .before .before .before .before .before .before .before .before .step .kept .1 .1 .0
 
   execute-same-length-8 : execute-lts.Need-same-length-8 (step-reads.Asked, step-reads.Learnt, counted-reads.Asked, counted-reads.Learnt, failed-reads.Asked, failed-reads.Learnt, fetch-below t, fetch.Post, ended-reads.Asked, ended-reads.Learnt) (execute-at t) execute.Post
-  execute-same-length-8 c = c .before .before .before .before .before .before .before .before .fetch .kept .1 .1 .1 .0 ∙ c .before .before .before .before .before .before .before .before .before .before .before .before .before .before .before .before .before .before .before .before .before .before .before .before .before .before .step .kept .1 .1 .1 .0
+  execute-same-length-8 c = c .before .before .before .before .before .before .before .before .fetch .kept .1 .1 .1 .0 ∙ c .before .before .before .before .before .before .before .before .before .before .before .before .before .before .before .before .before .before .before .before .before .before .before .before .before .before .before .before .step .kept .1 .1 .1 .0
 
   execute-returns-2 : execute-lts.Need-returns-2 (step-reads.Asked, step-reads.Learnt, counted-reads.Asked, counted-reads.Learnt, failed-reads.Asked, failed-reads.Learnt, fetch-below t, fetch.Post, ended-reads.Asked, ended-reads.Learnt) (execute-at t) execute.Post
   execute-returns-2 c =
-      let a = c .before .before .before .before .before .before .before .before .before .before .before .before .before .before .before .before .before .before .before .before .before .before .before .before .before .before .before .before .before .before .before .before .before .before .before .before .args in
-      let s = c .before .before .before .before .before .before .before .before .before .before .before .before .before .before .before .before .before .before .before .before .before .before .before .before .before .before .step in
-      let w = (worldOf (a .host .now) (a .image0 .now) (a .image1 .now) (a .events .now) (a .units)) in
+      let a = c .before .before .before .before .before .before .before .before .before .before .before .before .before .before .before .before .before .before .before .before .before .before .before .before .before .before .before .before .before .before .before .before .before .before .before .before .before .before .before .before .args in
+      let s = c .before .before .before .before .before .before .before .before .before .before .before .before .before .before .before .before .before .before .before .before .before .before .before .before .before .before .before .before .step in
+      let w = (worldOf (a .host .now) (a .image0 .now) (a .image1 .now) (a .events .now) (a .map0 .now) (a .map1 .now) (a .units)) in
       let f = c .before .before .before .before .before .before .before .before .fetch in
       came-the-same _ _ _ (f .result)
-      (executed-on (fetched (a .left)) (a .count) (a .at) w (worldOf (s .last .0) (s .last .1 .0) (s .last .1 .1 .0) (s .last .1 .1 .1 .0) (s .result .units)) (s .result) (s .ensures) (c .before .before .before .before .before .before .before .before .before .before .before .before .before .before .enum-told .given .1) (c .before .before .before .before .before .before .before .before .before .before .before .before .before .if1 .taken))
-      (rw (c .before .before .before .before .before .before .before .before .before .before .before .before .before .before .before .before .counted .ensures) at (f .ensures))
+      (executed-on (fetched (a .left)) (a .count) (a .at) w (worldOf (s .last .0) (s .last .1 .0) (s .last .1 .1 .0) (s .last .1 .1 .1 .0) (s .last .1 .1 .1 .1 .0) (s .last .1 .1 .1 .1 .1 .0) (s .result .units)) (s .result) (s .ensures) (c .before .before .before .before .before .before .before .before .before .before .before .before .before .before .before .before .enum-told .given .1) (c .before .before .before .before .before .before .before .before .before .before .before .before .before .before .before .if1 .taken))
+      (rw (c .before .before .before .before .before .before .before .before .before .before .before .before .before .before .before .before .before .before .counted .ensures) at (f .ensures))
 
   execute-same-length-9 : execute-lts.Need-same-length-9 (step-reads.Asked, step-reads.Learnt, counted-reads.Asked, counted-reads.Learnt, failed-reads.Asked, failed-reads.Learnt, fetch-below t, fetch.Post, ended-reads.Asked, ended-reads.Learnt) (execute-at t) execute.Post
   execute-same-length-9 c = c .before .before .before .before .before .before .before .before .before .before .before .before .before .before .step .kept .0
@@ -138,12 +138,12 @@ module _ (t : ℕ) where
 
   execute-returns-3 : execute-lts.Need-returns-3 (step-reads.Asked, step-reads.Learnt, counted-reads.Asked, counted-reads.Learnt, failed-reads.Asked, failed-reads.Learnt, fetch-below t, fetch.Post, ended-reads.Asked, ended-reads.Learnt) (execute-at t) execute.Post
   execute-returns-3 c =
-      let a = c .before .before .before .before .before .before .before .before .before .before .before .before .before .before .before .before .before .before .before .before .before .before .before .before .args in
+      let a = c .before .before .before .before .before .before .before .before .before .before .before .before .before .before .before .before .before .before .before .before .before .before .before .before .before .before .args in
       let s = c .before .before .before .before .before .before .before .before .before .before .before .before .before .before .step in
-      let w = (worldOf (a .host .now) (a .image0 .now) (a .image1 .now) (a .events .now) (a .units)) in
+      let w = (worldOf (a .host .now) (a .image0 .now) (a .image1 .now) (a .events .now) (a .map0 .now) (a .map1 .now) (a .units)) in
       rw (c .ended .ensures, c .before .before .before .before .counted .ensures)
-      (came-to RunAnswer.Done 0 (countedOf (a .count) (s .result .sectors)) (s .result .units) (s .last .0) (s .last .1 .0) (s .last .1 .1 .0) (s .last .1 .1 .1 .0) _
-      (executed-done (fetched (a .left)) (a .count) (a .at) w (worldOf (s .last .0) (s .last .1 .0) (s .last .1 .1 .0) (s .last .1 .1 .1 .0) (s .result .units)) (s .result) (s .ensures) (c .before .before .enum-told .given .1) (c .before .if1 .left)))
+      (came-to RunAnswer.Done 0 (countedOf (a .count) (s .result .sectors)) (s .result .units) (s .last .0) (s .last .1 .0) (s .last .1 .1 .0) (s .last .1 .1 .1 .0) (s .last .1 .1 .1 .1 .0) (s .last .1 .1 .1 .1 .1 .0) _
+      (executed-done (fetched (a .left)) (a .count) (a .at) w (worldOf (s .last .0) (s .last .1 .0) (s .last .1 .1 .0) (s .last .1 .1 .1 .0) (s .last .1 .1 .1 .1 .0) (s .last .1 .1 .1 .1 .1 .0) (s .result .units)) (s .result) (s .ensures) (c .before .before .enum-told .given .1) (c .before .if1 .left)))
 
   fetch-ended-requires : fetch-lts.Need-ended-requires (ended-reads.Asked, ended-reads.Learnt, holds-block-reads.Asked, holds-block-reads.Learnt, execute-below t, execute.Post) (fetch-at t) fetch.Post
   fetch-ended-requires c κs = search needs
@@ -152,8 +152,8 @@ module _ (t : ℕ) where
   fetch-returns c =
       let a = c .before .before .before .before .before .before .args in
       rw (c .ended .ensures)
-      (came-to RunAnswer.AllowanceSpent 0 (a .count) (a .units) (a .host .now) (a .image0 .now) (a .image1 .now) (a .events .now) _
-      (fetched-spent (a .left) (tallyOf (a .count)) (a .at) (worldOf (a .host .now) (a .image0 .now) (a .image1 .now) (a .events .now) (a .units)) (c .before .if1 .taken)))
+      (came-to RunAnswer.AllowanceSpent 0 (a .count) (a .units) (a .host .now) (a .image0 .now) (a .image1 .now) (a .events .now) (a .map0 .now) (a .map1 .now) _
+      (fetched-spent (a .left) (tallyOf (a .count)) (a .at) (worldOf (a .host .now) (a .image0 .now) (a .image1 .now) (a .events .now) (a .map0 .now) (a .map1 .now) (a .units)) (c .before .if1 .taken)))
 
   fetch-holds-block-requires : fetch-lts.Need-holds-block-requires (ended-reads.Asked, ended-reads.Learnt, holds-block-reads.Asked, holds-block-reads.Learnt, execute-below t, execute.Post) (fetch-at t) fetch.Post
   fetch-holds-block-requires c κs = search needs
@@ -169,19 +169,19 @@ module _ (t : ℕ) where
       let a = c .before .before .before .before .before .before .before .before .before .args in
       let held = c .before .before .holds-block in
       rw (c .ended2 .ensures)
-      (came-to RunAnswer.LinkBad 0 (a .count) (a .units) (a .host .now) (a .image0 .now) (a .image1 .now) (a .events .now) _
-      (fetched-bad (a .left) (tallyOf (a .count)) (a .at) (worldOf (a .host .now) (a .image0 .now) (a .image1 .now) (a .events .now) (a .units)) (omega arith) (denied (held .result) _ (c .before .if2 .taken) (held .ensures))))
+      (came-to RunAnswer.LinkBad 0 (a .count) (a .units) (a .host .now) (a .image0 .now) (a .image1 .now) (a .events .now) (a .map0 .now) (a .map1 .now) _
+      (fetched-bad (a .left) (tallyOf (a .count)) (a .at) (worldOf (a .host .now) (a .image0 .now) (a .image1 .now) (a .events .now) (a .map0 .now) (a .map1 .now) (a .units)) (omega arith) (denied (held .result) _ (c .before .if2 .taken) (held .ensures))))
 
   fetch-sub-execute : fetch-lts.Need-sub-execute (ended-reads.Asked, ended-reads.Learnt, holds-block-reads.Asked, holds-block-reads.Learnt, execute-below t, execute.Post) (fetch-at t) fetch.Post
   fetch-sub-execute c = search needs
 
   fetch-execute-requires : fetch-lts.Need-execute-requires (ended-reads.Asked, ended-reads.Learnt, holds-block-reads.Asked, holds-block-reads.Learnt, execute-below t, execute.Post) (fetch-at t) fetch.Post
   fetch-execute-requires c κs =
-      let a = c .before .before .before .before .before .before .before .before .before .before .before .before .args in
-      let pre = c .before .before .before .before .before .before .before .before .before .before .before .before .pre in
-      let held = c .before .before .before .before .before .holds-block in
+      let a = c .before .before .before .before .before .before .before .before .before .before .before .before .before .before .args in
+      let pre = c .before .before .before .before .before .before .before .before .before .before .before .before .before .before .pre in
+      let held = c .before .before .before .before .before .before .before .holds-block in
       let one : a .left - 1 + 1 ≡ a .left = omega arith in
-      (omega (arith, pre .0), (granted (held .result) _ (c .before .before .before .before .if2 .left) (held .ensures), rw one (pre .1)))
+      (omega (arith, pre .0), (granted (held .result) _ (c .before .before .before .before .before .before .if2 .left) (held .ensures), rw one (pre .1)))
 
   fetch-same-length-2 : fetch-lts.Need-same-length-2 (ended-reads.Asked, ended-reads.Learnt, holds-block-reads.Asked, holds-block-reads.Learnt, execute-below t, execute.Post) (fetch-at t) fetch.Post
   fetch-same-length-2 c = search needs
@@ -197,11 +197,11 @@ module _ (t : ℕ) where
 
   fetch-returns-3 : fetch-lts.Need-returns-3 (ended-reads.Asked, ended-reads.Learnt, holds-block-reads.Asked, holds-block-reads.Learnt, execute-below t, execute.Post) (fetch-at t) fetch.Post
   fetch-returns-3 c =
-      let a = c .before .before .before .before .before .before .before .before .before .before .before .before .before .before .before .before .before .before .before .before .before .args in
-      let held = c .before .before .before .before .before .before .before .before .before .before .before .before .before .before .holds-block in
+      let a = c .before .before .before .before .before .before .before .before .before .before .before .before .before .before .before .before .before .before .before .before .before .before .before .args in
+      let held = c .before .before .before .before .before .before .before .before .before .before .before .before .before .before .before .before .holds-block in
       let e = c .before .before .before .before .before .before .before .before .execute in
       came-the-same _ _ _ (e .result)
-      (fetched-on (a .left) (tallyOf (a .count)) (a .at) (worldOf (a .host .now) (a .image0 .now) (a .image1 .now) (a .events .now) (a .units)) (omega (arith, c .before .before .before .before .before .before .before .before .before .before .before .before .before .before .before .before .if1 .left)) (granted (held .result) _ (c .before .before .before .before .before .before .before .before .before .before .before .before .before .if2 .left) (held .ensures)))
+      (fetched-on (a .left) (tallyOf (a .count)) (a .at) (worldOf (a .host .now) (a .image0 .now) (a .image1 .now) (a .events .now) (a .map0 .now) (a .map1 .now) (a .units)) (omega (arith, c .before .before .before .before .before .before .before .before .before .before .before .before .before .before .before .before .before .before .if1 .left)) (granted (held .result) _ (c .before .before .before .before .before .before .before .before .before .before .before .before .before .before .before .if2 .left) (held .ensures)))
       (e .ensures)
 
 pub +execute+fetch-spec : {M : Type 1} → statement M

@@ -28,8 +28,8 @@ returns c =
     let room = c .before .before .before .holds-entries in
     let none = denied (room .result) _ (c .before .before .if1 .taken) (room .ensures) in
     rw (c .ended .ensures, c .before .nothing .ensures)
-    (came-to RunAnswer.EventsShort 0 nothingCounted (a .units) (a .host .now) (a .image0 .now) (a .image1 .now) (a .events .now) _
-    (ran-events-short (a .first) (a .allowance) (worldOf (a .host .now) (a .image0 .now) (a .image1 .now) (a .events .now) (a .units)) (omega arith)))
+    (came-to RunAnswer.EventsShort 0 nothingCounted (a .units) (a .host .now) (a .image0 .now) (a .image1 .now) (a .events .now) (a .map0 .now) (a .map1 .now) _
+    (ran-events-short (a .first) (a .allowance) (worldOf (a .host .now) (a .image0 .now) (a .image1 .now) (a .events .now) (a .map0 .now) (a .map1 .now) (a .units)) (omega arith)))
 
 is-allowance-requires : tie.Need-is-allowance-requires
 is-allowance-requires c κs = search needs
@@ -49,8 +49,8 @@ returns-2 c =
     let room = c .before .before .before .before .before .holds-entries in
     let allowed = c .before .before .before .is-allowance in
     rw (c .ended2 .ensures, c .before .nothing2 .ensures)
-    (came-to RunAnswer.AllowanceBad 0 nothingCounted (a .units) (a .host .now) (a .image0 .now) (a .image1 .now) (a .events .now) _
-    (ran-allowance-bad (a .first) (a .allowance) (worldOf (a .host .now) (a .image0 .now) (a .image1 .now) (a .events .now) (a .units))
+    (came-to RunAnswer.AllowanceBad 0 nothingCounted (a .units) (a .host .now) (a .image0 .now) (a .image1 .now) (a .events .now) (a .map0 .now) (a .map1 .now) _
+    (ran-allowance-bad (a .first) (a .allowance) (worldOf (a .host .now) (a .image0 .now) (a .image1 .now) (a .events .now) (a .map0 .now) (a .map1 .now) (a .units))
     (granted (room .result) _ (c .before .before .before .before .if1 .left) (room .ensures))
     (denied (allowed .result) _ (c .before .before .if2 .taken) (allowed .ensures))))
 
@@ -76,8 +76,8 @@ returns-3 c =
     let allowed = c .before .before .before .before .before .before .is-allowance in
     let held = c .before .before .before .holds-block in
     rw (c .ended3 .ensures, c .before .nothing3 .ensures)
-    (came-to RunAnswer.FirstBad 0 nothingCounted (a .units) (a .host .now) (a .image0 .now) (a .image1 .now) (a .events .now) _
-    (ran-first-bad (a .first) (a .allowance) (worldOf (a .host .now) (a .image0 .now) (a .image1 .now) (a .events .now) (a .units))
+    (came-to RunAnswer.FirstBad 0 nothingCounted (a .units) (a .host .now) (a .image0 .now) (a .image1 .now) (a .events .now) (a .map0 .now) (a .map1 .now) _
+    (ran-first-bad (a .first) (a .allowance) (worldOf (a .host .now) (a .image0 .now) (a .image1 .now) (a .events .now) (a .map0 .now) (a .map1 .now) (a .units))
     (granted (room .result) _ (c .before .before .before .before .before .before .before .if1 .left) (room .ensures))
     (granted (allowed .result) _ (c .before .before .before .before .before .if2 .left) (allowed .ensures))
     (denied (held .result) _ (c .before .before .if3 .taken) (held .ensures))))
@@ -87,10 +87,10 @@ nothing-requires-4 c κs = search needs
 
 fetch-requires : tie.Need-fetch-requires
 fetch-requires c κs =
-    let room = c .before .before .before .before .before .before .before .before .before .before .before .holds-entries in
-    let allowed = c .before .before .before .before .before .before .before .before .before .is-allowance in
-    let long = granted (room .result) _ (c .before .before .before .before .before .before .before .before .before .before .if1 .left) (room .ensures) in
-    let few = granted (allowed .result) _ (c .before .before .before .before .before .before .before .before .if2 .left) (allowed .ensures) in
+    let room = c .before .before .before .before .before .before .before .before .before .before .before .before .before .holds-entries in
+    let allowed = c .before .before .before .before .before .before .before .before .before .before .before .is-allowance in
+    let long = granted (room .result) _ (c .before .before .before .before .before .before .before .before .before .before .before .before .if1 .left) (room .ensures) in
+    let few = granted (allowed .result) _ (c .before .before .before .before .before .before .before .before .before .before .if2 .left) (allowed .ensures) in
     rw (c .nothing4 .ensures) (record { entries = omega arith; blocks = omega arith; sectors = omega arith })
 
 same-length-5 : tie.Need-same-length-5
@@ -107,16 +107,16 @@ same-length-8 c = search needs
 
 returns-4 : tie.Need-returns-4
 returns-4 c =
-    let a = c .before .before .before .before .before .before .before .before .before .before .before .before .before .before .before .before .before .before .before .before .before .before .before .before .before .before .args in
-    let room = c .before .before .before .before .before .before .before .before .before .before .before .before .before .before .before .before .before .before .before .before .holds-entries in
-    let allowed = c .before .before .before .before .before .before .before .before .before .before .before .before .before .before .before .before .before .before .is-allowance in
-    let held = c .before .before .before .before .before .before .before .before .before .before .before .before .before .before .before .holds-block in
+    let a = c .before .before .before .before .before .before .before .before .before .before .before .before .before .before .before .before .before .before .before .before .before .before .before .before .before .before .before .before .args in
+    let room = c .before .before .before .before .before .before .before .before .before .before .before .before .before .before .before .before .before .before .before .before .before .before .holds-entries in
+    let allowed = c .before .before .before .before .before .before .before .before .before .before .before .before .before .before .before .before .before .before .before .before .is-allowance in
+    let held = c .before .before .before .before .before .before .before .before .before .before .before .before .before .before .before .before .before .holds-block in
     let f = c .before .before .before .before .before .before .before .before .fetch in
     came-the-same _ _ _ (f .result)
-    (ran-chain (a .first) (a .allowance) (worldOf (a .host .now) (a .image0 .now) (a .image1 .now) (a .events .now) (a .units))
-    (granted (room .result) _ (c .before .before .before .before .before .before .before .before .before .before .before .before .before .before .before .before .before .before .before .if1 .left) (room .ensures))
-    (granted (allowed .result) _ (c .before .before .before .before .before .before .before .before .before .before .before .before .before .before .before .before .before .if2 .left) (allowed .ensures))
-    (granted (held .result) _ (c .before .before .before .before .before .before .before .before .before .before .before .before .before .before .if3 .left) (held .ensures)))
+    (ran-chain (a .first) (a .allowance) (worldOf (a .host .now) (a .image0 .now) (a .image1 .now) (a .events .now) (a .map0 .now) (a .map1 .now) (a .units))
+    (granted (room .result) _ (c .before .before .before .before .before .before .before .before .before .before .before .before .before .before .before .before .before .before .before .before .before .if1 .left) (room .ensures))
+    (granted (allowed .result) _ (c .before .before .before .before .before .before .before .before .before .before .before .before .before .before .before .before .before .before .before .if2 .left) (allowed .ensures))
+    (granted (held .result) _ (c .before .before .before .before .before .before .before .before .before .before .before .before .before .before .before .before .if3 .left) (held .ensures)))
     (rw (c .before .before .before .before .before .before .before .before .before .nothing4 .ensures) at (f .ensures))
 
 pub run-spec : {M : Type 1} → statement M

@@ -31,8 +31,8 @@ returns-2 c = search needs
 
 step-requires : tie.Need-step-requires
 step-requires c κs =
-    let held = c .before .before .before .before .before .before .holds-block in
-    let place = granted (held .result) _ (c .before .before .before .before .before .if1 .left) (held .ensures) in
+    let held = c .before .before .before .before .before .before .before .before .holds-block in
+    let place = granted (held .result) _ (c .before .before .before .before .before .before .before .if1 .left) (held .ensures) in
     record { block = place .inside; entry = omega arith }
 
 same-length-3 : tie.Need-same-length-3
@@ -49,8 +49,8 @@ same-length-6 c = search needs
 
 returns-3 : tie.Need-returns-3
 returns-3 c =
-    let held = c .before .before .before .before .before .before .before .before .before .before .before .before .before .before .before .holds-block in
-    (record { place = granted (held .result) _ (c .before .before .before .before .before .before .before .before .before .before .before .before .before .before .if1 .left) (held .ensures); entry = omega (arith, c .before .before .before .before .before .before .before .before .before .before .before .before .before .if2 .left) }, c .before .before .before .before .before .before .before .before .step .ensures)
+    let held = c .before .before .before .before .before .before .before .before .before .before .before .before .before .before .before .before .before .holds-block in
+    (record { place = granted (held .result) _ (c .before .before .before .before .before .before .before .before .before .before .before .before .before .before .before .before .if1 .left) (held .ensures); entry = omega (arith, c .before .before .before .before .before .before .before .before .before .before .before .before .before .before .before .if2 .left) }, c .before .before .before .before .before .before .before .before .step .ensures)
 
 pub run-one-spec : {M : Type 1} → statement M
 run-one-spec =

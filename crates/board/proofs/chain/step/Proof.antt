@@ -37,13 +37,13 @@ same-length-3 c = search needs
 
 returns : tie.Need-returns
 returns c =
-    let a = c .before .before .before .before .before .before .before .before .before .before .before .before .before .before .before .before .before .before .before .before .before .before .before .args in
+    let a = c .before .before .before .before .before .before .before .before .before .before .before .before .before .before .before .before .before .before .before .before .before .before .before .before .args in
     let done = c .before .before .before .before .before .before .before .run-block in
-    step-by (worldOf (a .host .now) (a .image0 .now) (a .image1 .now) (a .events .now) (a .units)) (a .at) (a .i) _ _ UnitNumber.Zero
-    (c .before .before .before .before .before .before .before .before .before .before .before .before .before .before .before .before .before .read .ensures)
-    (c .before .before .before .before .before .before .before .before .before .before .before .before .before .unit .ensures)
-    (c .before .before .before .before .before .before .before .before .before .before .before .enum-told .given .1)
-    (three (done .last .0) (done .last .1 .0) (done .last .1 .1 .0)) (done .result) _ (done .ensures)
+    step-by (worldOf (a .host .now) (a .image0 .now) (a .image1 .now) (a .events .now) (a .map0 .now) (a .map1 .now) (a .units)) (a .at) (a .i) _ _ UnitNumber.Zero
+    (c .before .before .before .before .before .before .before .before .before .before .before .before .before .before .before .before .before .before .read .ensures)
+    (c .before .before .before .before .before .before .before .before .before .before .before .before .before .before .unit .ensures)
+    (c .before .before .before .before .before .before .before .before .before .before .before .before .enum-told .given .1)
+    (three (done .last .0) (done .last .1 .0) (done .last .1 .1 .0)) (done .last .1 .1 .1 .1 .0) (done .result) _ (done .ensures)
 
 same-length-4 : tie.Need-same-length-4
 same-length-4 c = search needs
@@ -56,13 +56,13 @@ same-length-6 c = search needs
 
 returns-2 : tie.Need-returns-2
 returns-2 c =
-    let a = c .before .before .before .before .before .before .before .before .before .before .before .before .before .before .before .before .before .before .before .before .before .before .before .args in
+    let a = c .before .before .before .before .before .before .before .before .before .before .before .before .before .before .before .before .before .before .before .before .before .before .before .before .args in
     let done = c .before .before .before .before .before .before .before .run-block2 in
-    step-by (worldOf (a .host .now) (a .image0 .now) (a .image1 .now) (a .events .now) (a .units)) (a .at) (a .i) _ _ UnitNumber.One
-    (c .before .before .before .before .before .before .before .before .before .before .before .before .before .before .before .before .before .read .ensures)
-    (c .before .before .before .before .before .before .before .before .before .before .before .before .before .unit .ensures)
-    (c .before .before .before .before .before .before .before .before .before .before .before .enum-told2 .given .1)
-    (three (done .last .0) (done .last .1 .0) (done .last .1 .1 .0)) (done .result) _ (done .ensures)
+    step-by (worldOf (a .host .now) (a .image0 .now) (a .image1 .now) (a .events .now) (a .map0 .now) (a .map1 .now) (a .units)) (a .at) (a .i) _ _ UnitNumber.One
+    (c .before .before .before .before .before .before .before .before .before .before .before .before .before .before .before .before .before .before .read .ensures)
+    (c .before .before .before .before .before .before .before .before .before .before .before .before .before .before .unit .ensures)
+    (c .before .before .before .before .before .before .before .before .before .before .before .before .enum-told2 .given .1)
+    (three (done .last .0) (done .last .1 .0) (done .last .1 .1 .0)) (done .last .1 .1 .1 .1 .0) (done .result) _ (done .ensures)
 
 pub step-spec : {M : Type 1} → statement M
 step-spec =

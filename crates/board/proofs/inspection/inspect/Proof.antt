@@ -6,6 +6,7 @@ use borrow.Author.Needs.{needs}
 use denote.Ref.{now}
 use Rattle.request.specs.declared.UnitNumber.the-variants.{Zero, One}
 use Rattle.board.proofs.Parts.{InItsImage, image-below, part-cut, part-lies}
+use Rattle.unit.specs.Standing.{unitOf}
 use Rattle.board.proofs.inspection.inspect.Statement.{statement}
 use Rattle.board.proofs.inspection.inspect.Tie as tie
 
@@ -15,7 +16,7 @@ lies :
 lies c =
     let a = c .before .before .before .args in
     rw (c .part-of .ensures)
-    (part-lies (now (a .image0)) (now (a .image1)) (a .units .zero) (a .units .one) (a .unit) (a .place))
+    (part-lies (now (a .image0)) (now (a .image1)) (unitOf (a .units .zero) (now (a .map0))) (unitOf (a .units .one) (now (a .map1))) (a .unit) (a .place))
 
 part-of-requires : tie.Need-part-of-requires
 part-of-requires c κs = search needs

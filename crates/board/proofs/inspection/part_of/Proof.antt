@@ -2,7 +2,9 @@
 -- Each is a law of Parts, met at the number that the code's match has found.
 use mathlib.Core.Path.{sym, _∙_}
 use borrow.Author.Needs.{needs}
+use denote.Ref.{now}
 use Rattle.board.proofs.Parts.{of-no-unit, of-unit-one, of-unit-zero}
+use Rattle.unit.specs.Standing.{unitOf}
 use Rattle.board.proofs.inspection.part_of.Statement.{statement}
 use Rattle.board.proofs.inspection.part_of.Tie as tie
 
@@ -19,13 +21,13 @@ returns : tie.Need-returns
 returns c =
     let a = c .before .before .args in
     rw (c .before .match .keys1)
-    (c .sector-part .ensures ∙ sym (of-unit-zero (a .units .zero) (a .units .one) (a .long0) (a .long1) (a .place)))
+    (c .sector-part .ensures ∙ sym (of-unit-zero (unitOf (a .units .zero) (now (a .map0))) (unitOf (a .units .one) (now (a .map1))) (a .long0) (a .long1) (a .place)))
 
 returns-2 : tie.Need-returns-2
 returns-2 c =
     let a = c .before .before .args in
     rw (c .before .match .keys2)
-    (c .sector-part2 .ensures ∙ sym (of-unit-one (a .units .zero) (a .units .one) (a .long0) (a .long1) (a .place)))
+    (c .sector-part2 .ensures ∙ sym (of-unit-one (unitOf (a .units .zero) (now (a .map0))) (unitOf (a .units .one) (now (a .map1))) (a .long0) (a .long1) (a .place)))
 
 returns-3 : tie.Need-returns-3
 returns-3 c =

@@ -3,6 +3,7 @@
 use mathlib.Core.Path.{_≡_, sym, _∙_}
 use native.Mathlib.Omega.{arith}
 use borrow.Author.Needs.{needs}
+use denote.Ref.{now}
 use Rattle.wire.proofs.Promises.{denied, granted}
 use Rattle.geometry.specs.Drive.{need}
 use Rattle.geometry.proofs.Answers.{at-sector, no-sector}
@@ -10,7 +11,7 @@ use Rattle.board.specs.Inspection.{Inspectable}
 use Rattle.board.proofs.Parts.{sector-not-there, sector-there}
 use Rattle.board.proofs.inspection.sector_part.Statement.{statement}
 use Rattle.board.proofs.inspection.sector_part.Tie as tie
-use Rattle.unit.specs.Standing.{geometry}
+use Rattle.unit.specs.Standing.{geometry, unitOf}
 
 counts-as-initialized-requires : tie.Need-counts-as-initialized-requires
 counts-as-initialized-requires c κs = search needs
@@ -37,7 +38,7 @@ returns-2 : tie.Need-returns-2
 returns-2 c =
     let a = c .before .before .before .before .before .before .args in
     let all = c .before .before .need in
-    let needed : all .result ≡ need (geometry (a .u)) = rw (c .before .before .before .geometry .ensures) at (all .ensures) in
+    let needed : all .result ≡ need (geometry (unitOf (a .u) (now (a .table)))) = rw (c .before .before .before .geometry .ensures) at (all .ensures) in
     c .no-part2 .ensures ∙ sym (sector-not-there _ _ _ _ (λ there. omega (arith, there .image)))
 
 sector-requires : tie.Need-sector-requires
@@ -64,25 +65,25 @@ returns-3 c =
     let u = c .before .before .before .before .before .before .before .before .before .counts-as-initialized in
     let g = c .before .before .before .before .before .before .before .geometry in
     let all = c .before .before .before .before .before .before .need in
-    let needed : all .result ≡ need (geometry (a .u)) = rw (g .ensures) at (all .ensures) in
+    let needed : all .result ≡ need (geometry (unitOf (a .u) (now (a .table)))) = rw (g .ensures) at (all .ensures) in
     let sector = c .before .before .first .given in
     let found =
-    at-sector (geometry (a .u)) (a .place) (sector .0 .0) (sector .0 .1 .0)
+    at-sector (geometry (unitOf (a .u) (now (a .table)))) (a .place) (sector .0 .0) (sector .0 .1 .0)
     (sym (rw (g .ensures) at (c .before .before .before .before .sector .ensures)) ∙ sector .1) in
-    let there : Inspectable (a .u) (a .long) (a .place) =
+    let there : Inspectable (unitOf (a .u) (now (a .table))) (a .long) (a .place) =
     record {
       initialized = granted (u .result) _ (c .before .before .before .before .before .before .before .before .if1 .left) (u .ensures);
       inside = found .0;
       image = omega arith;
     } in
-    rw (found .1 .0, c .bytes-a-sector .ensures, g .ensures) (sym (sector-there (a .unit) (a .u) (a .long) (a .place) there))
+    rw (found .1 .0, c .bytes-a-sector .ensures, g .ensures) (sym (sector-there (a .unit) (unitOf (a .u) (now (a .table))) (a .long) (a .place) there))
 
 returns-4 : tie.Need-returns-4
 returns-4 c =
     let a = c .before .before .before .before .before .before .before .before .before .args in
     let g = c .before .before .before .before .before .before .geometry in
     let out =
-    no-sector (geometry (a .u)) (a .place)
+    no-sector (geometry (unitOf (a .u) (now (a .table)))) (a .place)
     (sym (rw (g .ensures) at (c .before .before .before .sector .ensures)) ∙ c .before .enum-told .given .1) in
     c .no-part3 .ensures ∙ sym (sector-not-there _ _ _ _ (λ there. omega (arith, there .inside)))
 

@@ -9,7 +9,7 @@ use Rattle.transcript.proofs.play.hear.Tie as tie
 
 -- What is lent, as it came.
 abbrev lent : tie.Start → Lent
-lent start = lentOf (start .args .host .now) (start .args .image0 .now) (start .args .image1 .now) (start .args .text .now)
+lent start = lentOf (start .args .host .now) (start .args .image0 .now) (start .args .image1 .now) (start .args .text .now) (start .args .map0 .now) (start .args .map1 .now)
 
 shared-slice-read-tag : tie.Need-shared-slice-read-tag
 shared-slice-read-tag c = search needs
@@ -46,8 +46,8 @@ on-requires-3 c κs = search needs
 
 run-requires : tie.Need-run-requires
 run-requires c κs =
-    let pre = c .before .before .before .before .before .before .before .before .before .before .before .before .before .pre in
-    let none = c .before .before .before .before .match .rest in
+    let pre = c .before .before .before .before .before .before .before .before .before .before .before .before .before .before .before .pre in
+    let none = c .before .before .before .before .before .before .match .rest in
     let good = pre .1 .good in
     let five = good .five (omega (arith, good .least, good .most, none .0 .0 .1, none .0 .1, none .1)) in
     (pre .0, (five, omega (arith, pre .1 .whole)))
@@ -97,7 +97,7 @@ same-length-7 c = c .before .before .before .before .before .before .before .bef
 returns-4 : tie.Need-returns-4
 returns-4 c =
     let run = c .before .before .before .before .before .before .before .before in
-    let rest = run .before .before .before .before .before in
+    let rest = run .before .before .before .before .before .before .before in
     let start = rest .before .before .before .before .before .before .before .before .before in
     let none = rest .match .rest in
     let field = start .args .field .now in

@@ -15,7 +15,7 @@ use Rattle.transcript.proofs.play.run.Tie as tie
 
 -- What is lent, as it came.
 abbrev lent : tie.Start → Lent
-lent start = lentOf (start .args .host .now) (start .args .image0 .now) (start .args .image1 .now) (start .args .text .now)
+lent start = lentOf (start .args .host .now) (start .args .image0 .now) (start .args .image1 .now) (start .args .text .now) (start .args .map0 .now) (start .args .map1 .now)
 
 be32-requires : tie.Need-be32-requires
 be32-requires c κs = search needs
@@ -58,7 +58,7 @@ run-requires c κs = search needs
 
 few : (c : tie.After-run) → c .run .result .blocks ≤ 64
 few c =
-    let read = c .before .before .before .before .before .before in
+    let read = c .before .before .before .before .before .before .before .before in
     let start = read .before .before .before .before .before .before in
     blocks-few (read .be32 .result) (getD (start .args .field .now) 7 0) (heldIn (start .args .s) (lent start)) (c .run .ensures)
 
@@ -66,7 +66,10 @@ number-requires : tie.Need-number-requires
 number-requires c κs = search needs
 
 put-run-requires : tie.Need-put-run-requires
-put-run-requires c κs = search needs
+put-run-requires c κs =
+    let ran = c .before .before .before .before .before .before .before .before .before in
+    let room = ran .before .before .before .before .before .before .before .before .before .before .before .before .before .before .pre .0 in
+    omega (arith, room .text)
 
 slice-aggregate-put-blocks : tie.Need-slice-aggregate-put-blocks
 slice-aggregate-put-blocks c = search needs
@@ -76,7 +79,7 @@ put-blocks-requires c κs =
     let put = c .before .before .before .before in
     let ran = put .before .before .before .before .before .before .before .before .before .before in
     let r = ran .run .result in
-    let room = ran .before .before .before .before .before .before .before .before .before .before .before .before .pre .0 in
+    let room = ran .before .before .before .before .before .before .before .before .before .before .before .before .before .before .pre .0 in
     let line = run-line-short (put .before .number .result) (r .blocks) (r .sectors) (omega arith) (omega arith) (omega (arith, ran .run .ok)) in (
       omega (arith, put .put-run .ensures .after, put .put-run .kept .0, few ran, line, room .text),
       omega (arith, few ran, ran .run .kept .1 .1 .1 .0),
@@ -98,13 +101,13 @@ returns : tie.Need-returns
 returns c =
     let put = c .before .before .before .before .before .before .before .before in
     let ran = put .before .before .before .before .before .before .before .before .before .before in
-    let read = ran .before .before .before .before .before .before in
+    let read = ran .before .before .before .before .before .before .before .before in
     let start = read .before .before .before .before .before .before in
     let a = start .args in
     let run = ran .run in
     let number = put .before .number in
     run-went (a .s) (lent start) (a .at) (start .pre .0) (run .last .0) (run .last .1 .0) (run .last .1 .1 .0) (run .last .1 .1 .1 .0)
-    (run .result) (run .ensures) (run .kept .0) (run .kept .1 .0) (run .kept .1 .1 .0) (number .ensures)
+    (run .last .1 .1 .1 .1 .0) (run .last .1 .1 .1 .1 .1 .0) (run .result) (run .ensures) (run .kept .0) (run .kept .1 .0) (run .kept .1 .1 .0) (number .ensures)
     (omega (arith, number .ok)) (few ran) (omega (arith, run .ok)) (put .put-run .ensures)
     (c .before .before .before .put-blocks .ensures) ∙
     ap (λ e. went (runHeard e) (a .at) (lent start))

@@ -5,6 +5,7 @@ use mathlib.Core.Path.{_≡_}
 use native.Mathlib.Omega.{arith}
 use borrow.Author.Needs.{needs}
 use lib.ListN.{getD, length}
+use Rattle.unit.specs.Standing.{unitOf}
 use Rattle.transfer.specs.Pieces.{sum}
 use Rattle.transfer.specs.Runs.{spanBytes}
 use Rattle.transfer.proofs.AllPieces.{Before, a-piece, before-first, piece-carried, piece-fits}
@@ -17,32 +18,32 @@ use Rattle.transfer.proofs.carry.lesser.Reads as lesser-reads
 use Rattle.transfer.proofs.carry.span_bytes.Reads as span-bytes-reads
 
 abbrev Inv-loop : tie.InvT-loop
-Inv-loop host₀ image₀ u span to-host lengths addresses all c₀ done₀ i₀ host image c done i = Before u span to-host lengths addresses host₀ image₀ i done host image c
+Inv-loop host₀ image₀ u table span to-host lengths addresses all c₀ done₀ i₀ host image c done i = Before (unitOf u table) span to-host lengths addresses host₀ image₀ i done host image c
 
 abbrev μ-loop : tie.MeasureT-loop
-μ-loop host₀ image₀ u span to-host lengths addresses all c₀ done₀ i₀ host image c done i = length lengths - i
+μ-loop host₀ image₀ u table span to-host lengths addresses all c₀ done₀ i₀ host image c done i = length lengths - i
 
 span-bytes-requires : tie.Need-span-bytes-requires Inv-loop μ-loop
 span-bytes-requires c κs = search needs
 
-left : (c : tie.In-loop Inv-loop μ-loop) → c .before .loop .done < spanBytes (c .before .before .before .before .before .before .before .args .u) (c .before .before .before .before .before .before .before .args .span)
+left : (c : tie.In-loop Inv-loop μ-loop) → c .before .loop .done < spanBytes (unitOf (c .before .before .before .before .before .before .before .args .u) (c .before .before .before .before .before .before .before .args .table .now)) (c .before .before .before .before .before .before .before .args .span)
 left c = rw (c .before .before .span-bytes .ensures) at (c .loop-test .taken)
 
 piece : (c : tie.In-loop Inv-loop μ-loop) → (c .before .loop .i < length (c .before .before .before .before .before .before .before .args .lengths .now)) × (c .before .loop .done ≡ sum (λ i. getD (c .before .before .before .before .before .before .before .args .lengths .now) i 0) (c .before .loop .i))
 piece c =
     let a = c .before .before .before .before .before .before .before .args in
     let now = c .before .loop in
-    a-piece (a .u) (a .span) (a .to-host) (a .lengths .now) (a .addresses .now) (a .host .now) (a .image .now) (c .before .before .before .before .before .before .before .pre .1 .1)
+    a-piece (unitOf (a .u) (a .table .now)) (a .span) (a .to-host) (a .lengths .now) (a .addresses .now) (a .host .now) (a .image .now) (c .before .before .before .before .before .before .before .pre .1 .1)
     (now .i) (now .done) (now .host) (now .image) (now .c) (now .inv) (left c)
 
 loop-holds : tie.Need-loop-holds Inv-loop μ-loop
 loop-holds c =
     let a = c .before .before .before .before .before .args in
-    before-first (a .u) (a .span) (a .to-host) (a .lengths .now) (a .addresses .now) (a .host .now) (a .image .now) _
+    before-first (unitOf (a .u) (a .table .now)) (a .span) (a .to-host) (a .lengths .now) (a .addresses .now) (a .host .now) (a .image .now) _
     (record { stands = record { whole = omega arith; run = λ i h. absurd (omega arith) }; here = omega arith; most = omega arith })
 
 mul-lesser : tie.Need-mul-lesser Inv-loop μ-loop
-mul-lesser c = omega (arith, piece c, c .before .before .before .before .before .before .before .good .1 .1 .1 .1 .1 .0)
+mul-lesser c = omega (arith, piece c, c .before .before .before .before .before .before .before .good .1 .1 .1 .1 .1 .1 .0)
 
 shared-slice-read-lesser : tie.Need-shared-slice-read-lesser Inv-loop μ-loop
 shared-slice-read-lesser c = piece (c .before) .0
@@ -57,7 +58,7 @@ lesser-requires : tie.Need-lesser-requires Inv-loop μ-loop
 lesser-requires c κs = tt
 
 mul-at : tie.Need-mul-at Inv-loop μ-loop
-mul-at c = omega (arith, piece (c .before .before), c .before .before .before .before .before .before .before .before .before .good .1 .1 .1 .1 .1 .0)
+mul-at c = omega (arith, piece (c .before .before), c .before .before .before .before .before .before .before .before .before .good .1 .1 .1 .1 .1 .1 .0)
 
 shared-slice-read-at : tie.Need-shared-slice-read-at Inv-loop μ-loop
 shared-slice-read-at c = omega (arith, piece (c .before .before .before), c .before .before .before .before .before .before .before .before .before .before .pre .1 .1 .pairs)
@@ -70,7 +71,7 @@ carry-piece-requires c κs =
     let a = c .before .before .before .before .before .before .before .before .before .before .before .before .args in
     let pre = c .before .before .before .before .before .before .before .before .before .before .before .before .pre in
     let now = c .before .before .before .before .before .before .loop in
-    piece-fits (a .u) (a .span) (a .to-host) (a .lengths .now) (a .addresses .now) (a .host .now) (a .image .now)
+    piece-fits (unitOf (a .u) (a .table .now)) (a .span) (a .to-host) (a .lengths .now) (a .addresses .now) (a .host .now) (a .image .now)
     (pre .1 .1) (now .i) (now .done) (now .host) (now .image) (now .c) (now .inv) (left (c .before .before .before .before .before)) (c .before .before .before .lesser .result)
     ((rw (c .before .before .before .before .before .before .before .span-bytes .ensures) at (c .before .before .before .lesser .ensures))) (pre .0) (pre .1 .0)
 
@@ -78,7 +79,7 @@ add-done : tie.Need-add-done Inv-loop μ-loop
 add-done c = omega arith
 
 add-i : tie.Need-add-i Inv-loop μ-loop
-add-i c = omega (arith, piece (c .before .before .before .before .before .before .before .before .before .before), c .before .before .before .before .before .before .before .before .before .before .before .before .before .before .before .before .before .good .1 .1 .1 .1 .1 .0)
+add-i c = omega (arith, piece (c .before .before .before .before .before .before .before .before .before .before), c .before .before .before .before .before .before .before .before .before .before .before .before .before .before .before .before .before .good .1 .1 .1 .1 .1 .1 .0)
 
 loop-less : tie.Need-loop-less Inv-loop μ-loop
 loop-less c = omega (arith, piece (c .before .before .before .before .before .before .before .before .before .before))
@@ -89,7 +90,7 @@ loop-again c =
     let pre = c .before .before .before .before .before .before .before .before .before .before .before .before .before .before .before .before .before .pre in
     let now = c .before .before .before .before .before .before .before .before .before .before .before .loop in
     let carried = c .before .before .before .before .carry-piece in
-    piece-carried (a .u) (a .span) (a .to-host) (a .lengths .now) (a .addresses .now) (a .host .now) (a .image .now)
+    piece-carried (unitOf (a .u) (a .table .now)) (a .span) (a .to-host) (a .lengths .now) (a .addresses .now) (a .host .now) (a .image .now)
     (pre .1 .1) (now .i) (now .done) (now .host) (now .image) (now .c) (now .inv) (left (c .before .before .before .before .before .before .before .before .before .before)) (c .before .before .before .before .before .before .before .before .lesser .result)
     (rw (c .before .before .before .before .before .before .before .before .before .before .before .before .span-bytes .ensures) at (c .before .before .before .before .before .before .before .before .lesser .ensures)) (carried .last .0) (carried .last .1 .0) (carried .result) (omega arith) (omega arith)
     (carried .ensures)

@@ -5,6 +5,7 @@ use mathlib.Core.Path.{_≡_, refl}
 use native.Mathlib.Omega.{arith}
 use borrow.Author.Needs.{needs}
 use lib.ListN.{length}
+use Rattle.unit.specs.Standing.{bare, unitOf}
 use Rattle.transfer.specs.Runs.{Carried, behind, lent}
 use Rattle.transfer.proofs.Stores.{copiedRun}
 use Rattle.transfer.proofs.Carrying.{carry-more, carry-none, on-here, run-held}
@@ -18,19 +19,19 @@ use Rattle.transfer.proofs.carry.lesser.Reads as lesser-reads
 use Rattle.transfer.proofs.carry.ready.Reads as ready-reads
 
 abbrev Inv-loop : tie.InvT-loop
-Inv-loop host₀ image₀ u span to-host at n c₀ done₀ host image c done =
+Inv-loop host₀ image₀ u table span to-host at n c₀ done₀ host image c done =
     (done ≤ n) ×
     ((length host ≡ length host₀) ×
-    ((length image ≡ length image₀) × Carried u span to-host (behind u c₀) at done (lent host₀ image₀) (lent host image) c))
+    ((length image ≡ length image₀) × Carried (unitOf u table) span to-host (behind (bare u) c₀) at done (lent host₀ image₀) (lent host image) c))
 
 abbrev μ-loop : tie.MeasureT-loop
-μ-loop host₀ image₀ u span to-host at n c₀ done₀ host image c done = n - done
+μ-loop host₀ image₀ u table span to-host at n c₀ done₀ host image c done = n - done
 
 loop-holds : tie.Need-loop-holds Inv-loop μ-loop
 loop-holds c =
     let a = c .before .before .args in
     let pre = c .before .before .pre in
-    (omega arith, (refl, (refl, carry-none (a .u) (a .span) (a .to-host) (behind (a .u) (a .from)) (a .at) _ (a .from) (pre .on))))
+    (omega arith, (refl, (refl, carry-none (unitOf (a .u) (a .table .now)) (a .span) (a .to-host) (behind (bare (a .u)) (a .from)) (a .at) _ (a .from) (pre .on))))
 
 ready-requires : tie.Need-ready-requires Inv-loop μ-loop
 ready-requires c κs =
@@ -38,7 +39,7 @@ ready-requires c κs =
     let pre = c .before .before .before .before .pre in
     let inv = c .before .loop .inv in
     let on = inv .1 .1 .1 .on in
-    (pre .spans, (on-here (a .u) (a .span) _ (c .before .loop .c) on, omega (arith, on .here, pre .bytes)))
+    (pre .spans, (on-here (unitOf (a .u) (a .table .now)) (a .span) _ (c .before .loop .c) on, omega (arith, on .here, pre .bytes)))
 
 sub-lesser : tie.Need-sub-lesser Inv-loop μ-loop
 sub-lesser c = omega arith
@@ -58,7 +59,7 @@ copy-run-requires c κs =
     let n = c .before .before .lesser in (
       omega (arith, pre .memory, inv),
       rw (← inv .1 .1 .0) at
-          (run-held (a .u) (a .span) (length (a .image .now)) _ (n .result) (r .result) (pre .held) (r .ensures) (omega arith) (omega (arith, r .ensures .some))),
+          (run-held (unitOf (a .u) (a .table .now)) (a .span) (length (a .image .now)) _ (n .result) (r .result) (pre .held) (r .ensures) (omega arith) (omega (arith, r .ensures .some))),
     )
 
 on-requires : tie.Need-on-requires Inv-loop μ-loop
@@ -68,7 +69,7 @@ on-requires c κs =
     let r = c .before .before .before .before .before .before .before .before .ready in
     let n = c .before .before .before .before .before .before .before .lesser in
     let held =
-    run-held (a .u) (a .span) (length (a .image .now)) _ (n .result) (r .result) (pre .held) (r .ensures) (omega arith)
+    run-held (unitOf (a .u) (a .table .now)) (a .span) (length (a .image .now)) _ (n .result) (r .result) (pre .held) (r .ensures) (omega arith)
     (omega (arith, r .ensures .some)) in
     (omega arith, omega (arith, c .before .before .before .before .before .before .before .before .before .before .before .before .before .good .1 .0 .0))
 
@@ -87,7 +88,7 @@ loop-again c =
     let n = c .before .before .before .before .before .before .before .before .lesser in
     let copied = c .before .before .before .before .before .copy-run in
     let held =
-    run-held (a .u) (a .span) (length (a .image .now)) _ (n .result) (r .result) (pre .held) (r .ensures) (omega arith)
+    run-held (unitOf (a .u) (a .table .now)) (a .span) (length (a .image .now)) _ (n .result) (r .result) (pre .held) (r .ensures) (omega arith)
     (omega (arith, r .ensures .some)) in
     let both : lent (copied .last .0) (copied .last .1 .1 .0) ≡ copiedRun (a .to-host) (lent (now .host) (now .image)) (r .result .at) (a .at + now .done) (n .result) =
     λ i. lent (copied .ensures .0 i) (copied .ensures .1 i) in (
@@ -97,7 +98,7 @@ loop-again c =
         (
           omega arith,
           rw (c .on .ensures, both)
-              (carry-more (a .u) (a .span) (a .to-host) (behind (a .u) (a .from)) (a .at) (lent (a .host .now) (a .image .now))
+              (carry-more (unitOf (a .u) (a .table .now)) (a .span) (a .to-host) (behind (bare (a .u)) (a .from)) (a .at) (lent (a .host .now) (a .image .now))
               (now .done) (n .result) (lent (now .host) (now .image)) (now .c) (r .result) (now .inv .1 .1 .1)
               (rw (now .inv .1 .1 .1 .on .here) at (r .ensures))
               (omega arith) (omega arith) (omega (arith, pre .memory))),

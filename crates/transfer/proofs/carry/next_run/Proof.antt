@@ -10,7 +10,7 @@ use Rattle.transfer.proofs.Tracks.{run-inside}
 use borrow.Author.Needs.{needs}
 use Rattle.transfer.proofs.carry.next_run.Statement.{statement}
 use Rattle.transfer.proofs.carry.next_run.Tie as tie
-use Rattle.unit.specs.Standing.{geometry}
+use Rattle.unit.specs.Standing.{geometry, unitOf}
 
 add-run-at : tie.Need-add-run-at
 add-run-at c = omega arith
@@ -40,13 +40,13 @@ returns c =
     absurd
     (omega (
       arith,
-      no-sector (geometry (a .u)) (run .result .place) (sym (rw (c .before .before .before .geometry .ensures) at (c .before .before .sector .ensures)) ∙ c .enum-told .given .1),
-      run-inside (a .u) (a .span .volume) _ _ (run .result) (omega arith) (run .ensures),
+      no-sector (geometry (unitOf (a .u) (a .table .now))) (run .result .place) (sym (rw (c .before .before .before .geometry .ensures) at (c .before .before .sector .ensures)) ∙ c .enum-told .given .1),
+      run-inside (unitOf (a .u) (a .table .now)) (a .span .volume) _ _ (run .result) (omega arith) (run .ensures),
       run .ensures,
     ))
 
-cast-t7 : tie.Need-cast-t7
-cast-t7 c = search needs
+cast-t8 : tie.Need-cast-t8
+cast-t8 c = search needs
 
 geometry-requires-2 : tie.Need-geometry-requires-2
 geometry-requires-2 c κs = search needs
@@ -54,14 +54,14 @@ geometry-requires-2 c κs = search needs
 bytes-a-sector-requires : tie.Need-bytes-a-sector-requires
 bytes-a-sector-requires c κs = search needs
 
-cast-t8 : tie.Need-cast-t8
-cast-t8 c = search needs
+cast-t9 : tie.Need-cast-t9
+cast-t9 c = search needs
 
-mul-t12 : tie.Need-mul-t12
-mul-t12 c = record { fits = product-below (c .before .before .before .before .before .before .before .before .run-at .result .sectors) (c .bytes-a-sector .result) 65535 65535 (2 ^ 64) (omega arith) (omega arith) tt }
+mul-t13 : tie.Need-mul-t13
+mul-t13 c = record { fits = product-below (c .before .before .before .before .before .before .before .before .run-at .result .sectors) (c .bytes-a-sector .result) 65535 65535 (2 ^ 64) (omega arith) (omega arith) tt }
 
-add-t13 : tie.Need-add-t13
-add-t13 c =
+add-t14 : tie.Need-add-t14
+add-t14 c =
     let run = c .before .before .before .before .before .before .before .before .before .run-at in
     omega (arith, run .ensures .asked, c .before .before .before .before .before .before .before .before .before .before .struct-known2 .given)
 
@@ -71,9 +71,9 @@ returns-2 c =
     let run = c .before .before .before .before .before .before .before .before .before .run-at in
     let pre = c .before .before .before .before .before .before .before .before .before .before .before .before .pre in
     let sector = c .before .before .before .before .before .first .given in
-    let at = at-sector (geometry (a .u)) (run .result .place) (sector .0 .0) (sector .0 .1 .0) (sym (rw (c .before .before .before .before .before .before .before .before .geometry .ensures) at (c .before .before .before .before .before .before .before .sector .ensures)) ∙ sector .1) in
+    let at = at-sector (geometry (unitOf (a .u) (a .table .now))) (run .result .place) (sector .0 .0) (sector .0 .1 .0) (sym (rw (c .before .before .before .before .before .before .before .before .geometry .ensures) at (c .before .before .before .before .before .before .before .sector .ensures)) ∙ sector .1) in
     rw (at .1 .0, c .before .bytes-a-sector .ensures, c .before .before .geometry2 .ensures)
-    (cursor-begins (a .u) (a .span) (a .next) (a .span .count - a .next) (run .result) (omega (arith, pre)) (run .ensures) (omega (arith, pre)) (omega (arith, pre)))
+    (cursor-begins (unitOf (a .u) (a .table .now)) (a .span) (a .next) (a .span .count - a .next) (run .result) (omega (arith, pre)) (run .ensures) (omega (arith, pre)) (omega (arith, pre)))
 
 pub next-run-spec : {M : Type 1} → statement M
 next-run-spec =
@@ -87,10 +87,10 @@ next-run-spec =
     enum-known-first
     enum-told
     returns
-    cast-t7
+    cast-t8
     geometry-requires-2
     bytes-a-sector-requires
-    cast-t8
-    mul-t12
-    add-t13
+    cast-t9
+    mul-t13
+    add-t14
     returns-2)

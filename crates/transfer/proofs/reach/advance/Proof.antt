@@ -1,6 +1,7 @@
 -- The run lies on the drive, so that it can be scanned.
 -- What its places in a row come to is what its sectors come to.
 use native.Mathlib.Omega.{arith}
+use Rattle.unit.specs.Standing.{unitOf}
 use Rattle.transfer.proofs.Tracks.{run-comes, run-inside}
 use borrow.Author.Needs.{needs}
 use Rattle.transfer.proofs.reach.advance.Statement.{statement}
@@ -16,7 +17,7 @@ reach-requires : tie.Need-reach-requires
 reach-requires c κs =
     let a = c .before .before .before .args in
     let run = c .before .run-at in
-    (run .ensures .some, rw (c .geometry .ensures) (run-inside (a .u) (a .v) (a .number) (a .most) (run .result) (omega arith) (run .ensures), c .before .before .before .pre .1 .1))
+    (run .ensures .some, rw (c .geometry .ensures) (run-inside (unitOf (a .u) (a .table .now)) (a .v) (a .number) (a .most) (run .result) (omega arith) (run .ensures), c .before .before .before .pre .1 .1))
 
 returns : tie.Need-returns
 returns c =
@@ -28,7 +29,7 @@ returns c =
       asked = run .ensures .asked;
       comes =
           rw (c .reach .ensures, c .before .geometry .ensures)
-          (run-comes (a .u) (a .v) (a .number) (a .most) (run .result) (omega arith) (run .ensures) (a .image .now) (a .heeds));
+          (run-comes (unitOf (a .u) (a .table .now)) (a .v) (a .number) (a .most) (run .result) (omega arith) (run .ensures) (a .image .now) (a .heeds));
     }
 
 pub advance-spec : {M : Type 1} → statement M

@@ -3,6 +3,7 @@
 use mathlib.Core.Path.{ap, sym, _∙_}
 use native.Mathlib.Omega.{arith}
 use borrow.Author.Needs.{needs}
+use Rattle.unit.specs.Standing.{unitOf}
 use Rattle.unit.specs.declared.Spot.{Spot}
 use Rattle.unit.proofs.Answers.{at-landing, no-landing}
 use Rattle.unit.proofs.Laws.{spot-inside}
@@ -25,7 +26,7 @@ enum-told c = search needs
 returns : tie.Need-returns
 returns c =
     let a = c .before .before .before .args in
-    absurd (omega (arith, no-landing (a .u) (a .v) (a .number) (sym (c .before .before .land .ensures) ∙ c .enum-told .given .1)))
+    absurd (omega (arith, no-landing (unitOf (a .u) (a .table .now)) (a .v) (a .number) (sym (c .before .before .land .ensures) ∙ c .enum-told .given .1)))
 
 lesser-requires : tie.Need-lesser-requires
 lesser-requires c κs = search needs
@@ -34,8 +35,8 @@ returns-2 : tie.Need-returns-2
 returns-2 c =
     let a = c .before .before .before .before .before .args in
     let spot = c .before .before .spot .given .0 .0 in
-    let landed = at-landing (a .u) (a .v) (a .number) spot (sym (c .before .before .before .before .land .ensures) ∙ c .before .before .spot .given .1) in
-    let inside = spot-inside (a .u) (a .v) (a .number) (omega arith) in
+    let landed = at-landing (unitOf (a .u) (a .table .now)) (a .v) (a .number) spot (sym (c .before .before .before .before .land .ensures) ∙ c .before .before .spot .given .1) in
+    let inside = spot-inside (unitOf (a .u) (a .table .now)) (a .v) (a .number) (omega arith) in
     let is = landed .1 in
     record {
       place = ap (λ (x : Spot). x .place) is;

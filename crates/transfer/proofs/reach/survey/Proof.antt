@@ -3,20 +3,21 @@
 use Prim.Native.Nat.{_-_}
 use native.Mathlib.Omega.{arith}
 use borrow.Author.Needs.{needs}
+use Rattle.unit.specs.Standing.{unitOf}
 use Rattle.transfer.proofs.Survey.{Surveying, advanced-most, survey-begins, survey-ends, survey-grows, survey-on, survey-stopped}
 use Rattle.transfer.proofs.reach.survey.Statement.{statement}
 use Rattle.transfer.proofs.reach.survey.Tie as tie
 
 abbrev Inv-loop : tie.InvT-loop
-Inv-loop image u span heeds volume done₀ done = Surveying image u (span .volume) (span .first) (span .count) heeds done
+Inv-loop image u table span heeds volume done₀ done = Surveying image (unitOf u table) (span .volume) (span .first) (span .count) heeds done
 
 abbrev μ-loop : tie.MeasureT-loop
-μ-loop image u span heeds volume done₀ done = span .count - done
+μ-loop image u table span heeds volume done₀ done = span .count - done
 
 loop-holds : tie.Need-loop-holds Inv-loop μ-loop
 loop-holds c =
     let a = c .before .args in
-    survey-begins (a .image .now) (a .u) (a .span .volume) (a .span .first) (a .span .count) (a .heeds)
+    survey-begins (a .image .now) (unitOf (a .u) (a .table .now)) (a .span .volume) (a .span .first) (a .span .count) (a .heeds)
 
 cast-advance : tie.Need-cast-advance Inv-loop μ-loop
 cast-advance c = search needs
@@ -35,7 +36,7 @@ add-done c =
     let a = c .before .before .before .before .before .before .before .before .args in
     let now = c .before .before .before .before .before .before .loop in
     let m = c .before .advance in
-    omega (arith, advanced-most (a .image .now) (a .u) (a .span .volume) (a .span .first) (a .span .count) (a .heeds) (now .done) (now .inv) (m .result) (m .ensures))
+    omega (arith, advanced-most (a .image .now) (unitOf (a .u) (a .table .now)) (a .span .volume) (a .span .first) (a .span .count) (a .heeds) (now .done) (now .inv) (m .result) (m .ensures))
 
 enum-known-answer : tie.Need-enum-known-answer Inv-loop μ-loop
 enum-known-answer c = search needs
@@ -45,7 +46,7 @@ returns c =
     let a = c .before .before .before .before .before .before .before .before .before .before .before .args in
     let now = c .before .before .before .before .before .before .before .before .before .loop in
     let m = c .before .before .before .before .advance in
-    survey-stopped (a .image .now) (a .u) (a .span .volume) (a .span .first) (a .span .count) (a .heeds) (now .done) (now .inv) (m .result) (m .ensures)
+    survey-stopped (a .image .now) (unitOf (a .u) (a .table .now)) (a .span .volume) (a .span .first) (a .span .count) (a .heeds) (now .done) (now .inv) (m .result) (m .ensures)
     (c .before .answer .given .0 .0) (c .before .answer .given .1)
 
 enum-told : tie.Need-enum-told Inv-loop μ-loop
@@ -56,20 +57,20 @@ loop-less c =
     let a = c .before .before .before .before .before .before .before .before .before .before .args in
     let now = c .before .before .before .before .before .before .before .before .loop in
     let m = c .before .before .before .advance in
-    omega (arith, survey-grows (a .image .now) (a .u) (a .span .volume) (a .span .first) (a .span .count) (a .heeds) (now .done) (now .inv) (m .result) (m .ensures) (c .enum-told .given .1))
+    omega (arith, survey-grows (a .image .now) (unitOf (a .u) (a .table .now)) (a .span .volume) (a .span .first) (a .span .count) (a .heeds) (now .done) (now .inv) (m .result) (m .ensures) (c .enum-told .given .1))
 
 loop-again : tie.Need-loop-again Inv-loop μ-loop
 loop-again c =
     let a = c .before .before .before .before .before .before .before .before .before .before .args in
     let now = c .before .before .before .before .before .before .before .before .loop in
     let m = c .before .before .before .advance in
-    survey-on (a .image .now) (a .u) (a .span .volume) (a .span .first) (a .span .count) (a .heeds) (now .done) (now .inv) (m .result) (m .ensures) (c .enum-told .given .1)
+    survey-on (a .image .now) (unitOf (a .u) (a .table .now)) (a .span .volume) (a .span .first) (a .span .count) (a .heeds) (now .done) (now .inv) (m .result) (m .ensures) (c .enum-told .given .1)
 
 returns-2 : tie.Need-returns-2 Inv-loop μ-loop
 returns-2 c =
     let a = c .before .before .before .before .args in
     let now = c .before .before .loop in
-    survey-ends (a .image .now) (a .u) (a .span .volume) (a .span .first) (a .span .count) (a .heeds) (now .done) (now .inv) (omega arith)
+    survey-ends (a .image .now) (unitOf (a .u) (a .table .now)) (a .span .volume) (a .span .first) (a .span .count) (a .heeds) (now .done) (now .inv) (omega arith)
 
 pub survey-spec : {M : Type 1} → statement M
 survey-spec =

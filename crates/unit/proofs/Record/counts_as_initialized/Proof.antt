@@ -1,11 +1,8 @@
 -- Each refusal denies one field of the statement.
--- Past both, the record counts exactly where its heads are on the drive.
-use Prim.Native.Nat.{_<_}
+-- Past all of them, the record counts exactly where its table is good.
 use mathlib.Core.Bool.{false≢true}
-use borrow.Author.Needs.{needs}
 use Rattle.wire.proofs.Promises.{denied, granted, says-same, says-set}
-use Rattle.geometry.specs.Drive.{C}
-use Rattle.unit.specs.Standing.{CountsAsInitialized}
+use borrow.Author.Needs.{needs}
 use Rattle.unit.proofs.Record.counts_as_initialized.Statement.{statement}
 use Rattle.unit.proofs.Record.counts_as_initialized.Tie as tie
 
@@ -23,18 +20,35 @@ heads-are-on-the-drive-requires c κs = search needs
 
 returns-3 : tie.Need-returns-3
 returns-3 c =
-    let u = c .before .before .before .before .before .args .self in
-    let within = c .before .before .is-within in
-    says-same (c .heads-are-on-the-drive .result) (u .cylinder < C (u .geometry)) (CountsAsInitialized u)
-    (λ below.
+    let asked = c .before .heads-are-on-the-drive in
+    λ w. denied (asked .result) _ (c .if3 .taken) (asked .ensures) (w .cylinder)
+
+table-is-good-requires : tie.Need-table-is-good-requires
+table-is-good-requires c κs = search needs
+
+returns-4 : tie.Need-returns-4
+returns-4 c =
+    let u = c .before .before .before .before .before .before .before .args .self in
+    let within = c .before .before .before .before .is-within in
+    let heads = c .before .before .heads-are-on-the-drive in
+    says-same (c .table-is-good .result) _ _
+    (λ good.
     record {
-      said = granted (u .initialized) _ (c .before .before .before .if1 .left) (says-set (u .initialized));
-      within = granted (within .result) _ (c .before .if2 .left) (within .ensures);
-      cylinder = below;
+      said = granted (u .initialized) _ (c .before .before .before .before .before .if1 .left) (says-set (u .initialized));
+      within = granted (within .result) _ (c .before .before .before .if2 .left) (within .ensures);
+      cylinder = granted (heads .result) _ (c .before .if3 .left) (heads .ensures);
+      good = good;
     })
-    (λ w. w .cylinder)
-    (c .heads-are-on-the-drive .ensures)
+    (λ w. w .good) (c .table-is-good .ensures)
 
 pub counts-as-initialized-spec : {M : Type 1} → statement M
 counts-as-initialized-spec =
-    tie.close (tie.spec returns is-within-requires returns-2 heads-are-on-the-drive-requires returns-3)
+    tie.close
+    (tie.spec
+    returns
+    is-within-requires
+    returns-2
+    heads-are-on-the-drive-requires
+    returns-3
+    table-is-good-requires
+    returns-4)

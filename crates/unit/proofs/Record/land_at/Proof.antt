@@ -1,43 +1,32 @@
--- The geometry's answer tells whether the address is on the drive.
--- If so, its sector is below S, and the spot is the definition's.
-use native.Mathlib.Omega.{arith}
+-- The address's own spot tells whether the drive has it.
+-- If so, it lands on the track that serves its own.
+use mathlib.Core.Path.{sym, _∙_}
+use Rattle.unit.specs.Standing.{unitOf}
+use Rattle.unit.proofs.Answers.{nowhere, own-spot, served-lands}
 use borrow.Author.Needs.{needs}
-use Rattle.geometry.proofs.Answers.{at-placed}
-use Rattle.unit.proofs.Answers.{landed, not-landed}
 use Rattle.unit.proofs.Record.land_at.Statement.{statement}
 use Rattle.unit.proofs.Record.land_at.Tie as tie
 
-place-requires : tie.Need-place-requires
-place-requires c κs = search needs
+spot-requires : tie.Need-spot-requires
+spot-requires c κs = search needs
 
-enum-known-place : tie.Need-enum-known-place
-enum-known-place c = search needs
+enum-known-spot : tie.Need-enum-known-spot
+enum-known-spot c = search needs
 
-sectors-a-track-requires : tie.Need-sectors-a-track-requires
-sectors-a-track-requires c κs = search needs
-
-sub-t7 : tie.Need-sub-t7
-sub-t7 c =
-    let a = c .before .before .before .before .before .before .args in
-    omega (arith, at-placed (a .self .geometry) (a .a) (c .before .before .before .place2 .given .0 .0) (cc))
+serve-requires : tie.Need-serve-requires
+serve-requires c κs = own-spot _ _ _ (sym (c .before .before .before .spot .ensures) ∙ c .before .spot2 .given .1) .1
 
 enum-told : tie.Need-enum-told
 enum-told c = search needs
 
 returns : tie.Need-returns
-returns c = rw (c .before .sectors-a-track .ensures) (landed _ _ _ (cc))
+returns c =
+    let a = c .before .before .before .before .before .args in
+    c .serve .ensures ∙ served-lands (unitOf (a .self) (a .table .now)) (a .a) (own-spot _ _ _ (sym (c .before .before .before .before .spot .ensures) ∙ c .before .before .spot2 .given .1) .0)
 
 returns-2 : tie.Need-returns-2
-returns-2 c = not-landed _ _ (cc)
+returns-2 c = nowhere _ _ (sym (c .before .before .spot .ensures) ∙ c .enum-told .given .1)
 
 pub land-at-spec : {M : Type 1} → statement M
 land-at-spec =
-    tie.close
-    (tie.spec
-    place-requires
-    enum-known-place
-    sectors-a-track-requires
-    sub-t7
-    enum-told
-    returns
-    returns-2)
+    tie.close (tie.spec spot-requires enum-known-spot serve-requires enum-told returns returns-2)

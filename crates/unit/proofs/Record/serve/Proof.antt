@@ -1,0 +1,34 @@
+-- A track that serves itself keeps the spot that was found, and a spare's is looked for.
+-- What serves is the table's own answer.
+use mathlib.Core.Path.{sym, ap, _∙_}
+use Rattle.unit.specs.declared.Landing.{Landing}
+use Rattle.unit.specs.Landing.{servedLanding}
+use borrow.Author.Needs.{needs}
+use Rattle.unit.proofs.Record.serve.Statement.{statement}
+use Rattle.unit.proofs.Record.serve.Tie as tie
+
+serving-requires : tie.Need-serving-requires
+serving-requires c κs = search needs
+
+enum-told : tie.Need-enum-told
+enum-told c = search needs
+
+enum-known-k : tie.Need-enum-known-k
+enum-known-k c = search needs
+
+spot-requires : tie.Need-spot-requires
+spot-requires c κs = search needs
+
+returns : tie.Need-returns
+returns c =
+    let a = c .before .before .before .args in
+    ap Landing.At (c .before .before .before .pre) ∙ ap (servedLanding (a .self .geometry) (a .a)) (sym (c .enum-told .given .1) ∙ c .before .before .serving .ensures)
+
+returns-2 : tie.Need-returns-2
+returns-2 c =
+    let a = c .before .before .before .before .before .args in
+    c .spot .ensures ∙ ap (servedLanding (a .self .geometry) (a .a)) (sym (c .before .before .k .given .1) ∙ c .before .before .before .before .serving .ensures)
+
+pub serve-spec : {M : Type 1} → statement M
+serve-spec =
+    tie.close (tie.spec serving-requires enum-told enum-known-k spot-requires returns returns-2)
