@@ -148,7 +148,7 @@ module _ (u : UnitRecord) (image : ℕ) (host : List ℕ) where
                     buffer = so (inMemory? host (k .buffer) (B (geometry u))) held;
                   };
               report = counts .within .sizes .sectors;
-              leaving = (counts, on .cylinder);
+              leaving = (counts, track-inside u (k .cylinder) (k .head) on .cylinder);
             };
         mover = (k, refl);
         report = ((k, refl), refl);

@@ -185,6 +185,8 @@ planOf u (Initialize s) = only (renewed s)
 -- "89 goes to cylinder 0", "8A goes to the address given"
 planOf u Restore = only (HeadsAt 0)
 planOf u (Seek t) = only (HeadsAt (spotOf u (t .volume) (found (beginsAt u t)) .cylinder))
--- 8C reports how many sectors the track has (02, K1). "The heads end on the named cylinder."
+-- 8C reports how many sectors the track has (02, K1). "The heads end on the named cylinder", but where the track is bad "the heads then stand
+-- on the spare's cylinder" (02, K5).
 planOf u (Format k) =
-    plan (Tracked (trackOf u (k .cylinder) (k .head)) (k .buffer)) (Formatted (S (geometry u))) (HeadsAt (k .cylinder))
+    let spot = trackOf u (k .cylinder) (k .head) in
+    plan (Tracked spot (k .buffer)) (Formatted (S (geometry u))) (HeadsAt (spot .cylinder))

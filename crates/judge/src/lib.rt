@@ -254,12 +254,12 @@ fn judge_data(k: Track, spot: Spot, standing: Standing, table: &[u32; 64], host:
 
 // The plan of 8C: it reports the sectors of the track, which are as many as every track has.
 fn formatted(k: Track, spot: Spot, u: Record) -> Verdict
-    ensures { λ v. ⌜ v ≡ Verdict.Do (plan (Moving.Track spot (k .buffer)) (Report.Formatted (S (geometry (bare u)))) (Leaving.HeadsAt (k .cylinder))) ⌝ }
+    ensures { λ v. ⌜ v ≡ Verdict.Do (plan (Moving.Track spot (k .buffer)) (Report.Formatted (S (geometry (bare u)))) (Leaving.HeadsAt (spot .cylinder))) ⌝ }
 {
     Verdict::Do(Plan {
         moving: Moving::Track(spot, k.buffer),
         report: Report::Formatted(u.geometry().sectors_a_track()),
-        leaving: Leaving::HeadsAt(k.cylinder),
+        leaving: Leaving::HeadsAt(spot.cylinder),
     })
 }
 

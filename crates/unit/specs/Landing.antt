@@ -37,7 +37,7 @@ spotOf u v n = spotAt (geometry u) (landed u (addressOf (geometry u) v n))
 pub trackOf : UnitRecord → ℕ → ℕ → Spot
 trackOf u c h = spotAt (geometry u) (landed u (address c h 0))
 
--- What the functions answer: the spot, or that the drive has none. That goes by the address named, and not by where it lands.
+-- What the functions answer: the spot of an address itself, or that the drive has none.
 unfoldable pub spotted : Geometry → Address → Landing
 spotted g a = ite (onDrive? g a) (Landing.At (spotAt g a)) Landing.Outside
 
@@ -46,6 +46,7 @@ abbrev pub servedLanding : Geometry → Address → Served → Landing
 servedLanding g a Itself = Landing.At (spotAt g a)
 servedLanding g a (By k) = spotted g (address (k .cylinder) (k .head) (a .sector))
 
+-- Where an address lands. Whether the drive has it goes by the address named, and not by where it lands.
 unfoldable pub landingAt : UnitRecord → Address → Landing
 landingAt u a = ite (onDrive? (geometry u) a) (Landing.At (spotAt (geometry u) (landed u a))) Landing.Outside
 

@@ -35,8 +35,8 @@ use Rattle.transfer.specs.Data.{progressOn}
 use Rattle.transfer.specs.Progress.{Progress, progress, stopsAt}
 use Rattle.spares.proofs.Laws.{empty-is-good}
 use Rattle.unit.proofs.Laws.{no-pairs-lands-there}
-use Rattle.unit.specs.Landing.{spotOf}
-use Rattle.unit.specs.Landing.Behind.{spotAt-is, spotOf-is}
+use Rattle.unit.specs.Landing.{spotOf, trackOf}
+use Rattle.unit.specs.Landing.Behind.{spotAt-is, spotOf-is, trackOf-is}
 use Rattle.unit.specs.Standing.{CountsAsInitialized, UnitRecord, byValue, fresh, movedTo, noTracks}
 use Rattle.worked.specs.TwoChains.{tiny}
 
@@ -117,6 +117,10 @@ module _ (host : List ℕ) (c : ℕ) (heads : c < 2) where
 -- A format of the first track, with its data at 256.
 abbrev pub track : Track
 track = record { cylinder = 0; head = 0; buffer = 256 }
+
+-- No track of it is bad, so the heads end on the cylinder named.
+pub heads-there : trackOf (unit 0) (track .cylinder) (track .head) .cylinder ≡ 0
+heads-there = rw (trackOf-is, no-pairs-lands-there (unit 0) refl, spotAt-is)
 
 pub format-passes :
     (host : List ℕ) → InMemory host 256 64 →

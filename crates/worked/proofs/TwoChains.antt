@@ -60,7 +60,7 @@ use Rattle.worked.specs.TwoChains.{adjacent, besideFormat, come, driveWi
 use Rattle.worked.proofs.Carried.{Alone, Carried, alone, came, comes-still, data-byte, differ, host-byte-is, idle, initialized, met, no-list, no-list-of-a-piece, no-uib, no-unit, no-way, none-read, none-twice, passes-at, read-carried, read-stopped-carried, silent, still, v, write-carried}
 use Rattle.worked.proofs.Formats.{format-alone, format-comes, format-judged-so, format-wrote}
 use Rattle.worked.proofs.OneBlock.{In, by-block, done, failed, leaves}
-use Rattle.worked.proofs.Tiny.{counts, moveOf, place-is, track, unit}
+use Rattle.worked.proofs.Tiny.{counts, heads-there, moveOf, place-is, track, unit}
 
 abbrev first-of : Both → Visit
 first-of s = record { at = 0; index = 0; world = worldFor First s }
@@ -499,9 +499,13 @@ format-first : Alone First 0 formatRead Zero ((0, 28) ∷ (256, 64) ∷ []) ((2,
 unfolding word taskOf
 format-first = format-alone formatRead (format-pass .0) 7 0 refl refl (omega arith)
 
-format-judged : verdictOf (first-of formatRead) ≡ Verdict.Do (planOf (unit 0) (Task.Format track))
+abbrev format-plan : ℕ → Plan
+format-plan c = let p = planOf (unit 0) (Task.Format track) in plan (p .moving) (p .report) (Leaving.HeadsAt c)
+
+format-judged : verdictOf (first-of formatRead) ≡ Verdict.Do (format-plan 0)
 unfolding word taskOf
-format-judged = format-judged-so formatRead (format-pass .0) 7 0 refl refl (omega arith)
+format-judged =
+    format-judged-so formatRead (format-pass .0) 7 0 refl refl (omega arith) ∙ ap (λ c. Verdict.Do (format-plan c)) heads-there
 
 -- Alone the UIB says that volume 0 has no heads.
 format-outside : verdictOf (second-of formatRead) ≡ Verdict.Refused Refusal.UibOutsideLimits
