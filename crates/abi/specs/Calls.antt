@@ -9,13 +9,12 @@ use Rattle.answers.specs.Numbers.{runNumber}
 use Rattle.request.specs.declared.UnitNumber.{UnitNumber}
 use Rattle.request.specs.declared.UnitNumber.the-variants.{Zero, One}
 use Rattle.unit.proofs.Decided.{same?}
-use Rattle.unit.specs.Standing.{UnitRecord, byValue, table}
+use Rattle.unit.specs.Standing.{UnitRecord, byValue}
 use Rattle.board.specs.declared.inspection.Part.{Part}
 use Rattle.board.specs.Chain.{Ending, ran}
 use Rattle.board.specs.Inspection.{partOf}
 use Rattle.block.specs.Steps.{written}
 use Rattle.block.specs.World.{World}
-use Rattle.board.specs.Lent.{worldOf}
 use Rattle.abi.specs.Layouts.{endingBytes, outcomeLength, recordBytes, recordIn, recordLength}
 
 -- All that a caller lends to a run, no two of them overlapping: what a caller in C has to see to.
@@ -61,10 +60,15 @@ outcomeShort = 0x1F3
 -- The world that the bytes stand for.
 abbrev pub worldIn : Lent → World
 worldIn l =
-    worldOf (l .host) (l .image0) (l .image1) (l .events) (table (recordIn (l .record0))) (table (recordIn (l .record1)))
-    (record { zero = byValue (recordIn (l .record0)); one = byValue (recordIn (l .record1)) })
+    record {
+      host = l .host;
+      drive0 = record { unit = recordIn (l .record0); image = l .image0 };
+      drive1 = record { unit = recordIn (l .record1); image = l .image1 };
+      events = l .events;
+    }
 
--- A record's bytes after a run: stored anew where the record is another, and else left as they came, byte for byte.
+-- A record's bytes after a run: stored anew where the record is another, its table aside, for which this version has no bytes; and else left
+-- as they came, byte for byte.
 unfoldable pub recordLeft : List ℕ → UnitRecord → List ℕ
 recordLeft bytes u = ite (same? (byValue (recordIn bytes)) (byValue u)) bytes (written bytes 0 (recordBytes u))
 

@@ -64,6 +64,7 @@ fn run(
 {
     let zero = layouts::record(record0);
     let one = layouts::record(record1);
+    // a record of this version has no table, and no pair counts
     let mut map0 = [0u32; 64];
     let mut map1 = [0u32; 64];
     let done = board::run(

@@ -30,7 +30,7 @@ ghost use Rattle.judge.specs.declared.Report.{Report};
 ghost use Rattle.judge.specs.Fits.{JobGood, LeavingFits, MovingFits, PlanFits, ReportFits, SpanGood};
 ghost use Rattle.request.specs.declared.Buffer.{Buffer};
 ghost use Rattle.block.specs.Block.{effectOn, finish, leftBy, performed, refused, transferOf, transferWith, travelled, wordsOf};
-ghost use Rattle.block.specs.Steps.{Carries, Did, Made, Performs, Ready, Room, Stores, driveWith, performedOf, three, written};
+ghost use Rattle.block.specs.Steps.{Carries, Did, Made, Performs, Ready, Room, driveWith, performedOf, three, written};
 ghost use Rattle.transfer.specs.Progress.{lastTried};
 ghost use Rattle.transfer.specs.Runs.{pieceByte};
 ghost use Rattle.transfer.specs.Stores.{after};

@@ -21,7 +21,7 @@ use Rattle.transfer.specs.Stores.{Buffers, Store, after, bytesFrom}
 use Rattle.transfer.proofs.Earlier.{host-has-byte}
 use Rattle.transfer.proofs.Stays.{host-bytes-stored, lengths-stay}
 use Rattle.transfer.proofs.Stores.{after-append}
-use Rattle.block.specs.Block.{begun, finish, judged, reported, transferOf, wordsOf}
+use Rattle.block.specs.Block.{begun, judged, reported, transferOf, wordsOf}
 use Rattle.block.specs.World.{buffersOf}
 use Rattle.demands.specs.Footprint.{HostData, WritesHost, askedOf, comes, movingOf, namedDrive, names, reportOf, transferBy, verdictOf, wordsBy}
 use Rattle.demands.specs.Footprint.HostWritten.{moved, report, status-word}

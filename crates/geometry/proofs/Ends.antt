@@ -1,6 +1,6 @@
 -- The ends of the volumes, and the limits told by them: what a program compares is an end, what the limits say is of heads.
 -- A volume that is present ends at start head plus heads and one that is absent at 0, and two intervals share no head where one ends before the other starts.
-use Prim.Native.Nat.{ℕ, _+_, _≤_, _<_, max}
+use Prim.Native.Nat.{_+_, _≤_, _<_, max}
 use mathlib.Core.Logic.{_⊎_, inl, inr, ⊎-elim, by-cases, if-pos, if-neg}
 use mathlib.Core.Path.{_≡_, _∙_}
 use native.Mathlib.Decide.{decLe, decLt}

@@ -5,23 +5,17 @@ use mathlib.Core.List.{List, List-discrete}
 use mathlib.Core.Logic.{Dec·and, by-cases}
 use mathlib.Core.Path.{_≡_, ap}
 use native.Mathlib.Decide.{map-dec, ℕ-discrete}
-use Rattle.unit.specs.Standing.{UnitRecord, byValue, table, unitOf}
-use Rattle.unit.proofs.Decided.{same?}
+use Rattle.unit.proofs.Decided.{same-with-table?}
 use Rattle.block.specs.World.{Drive}
 use Rattle.independence.specs.Local.{Stable}
 use Rattle.independence.specs.Worlds.{Cell, Holds, byte, disk, events, worlds}
 
 -- ---- what a cell may hold
 
-unit? : (u v : UnitRecord) → Dec (u ≡ v)
-unit? u v =
-    map-dec (λ p i. unitOf (p .0 i) (p .1 i)) (λ p. (ap (λ (x : UnitRecord). byValue x) p, ap (λ (x : UnitRecord). table x) p))
-    (Dec·and (same? (byValue u) (byValue v)) (List-discrete ℕ-discrete (table u) (table v)))
-
 drive? : (d e : Drive) → Dec (d ≡ e)
 drive? d e =
     map-dec (λ p i. record { unit = p .0 i; image = p .1 i }) (λ p. (ap (λ x. x .unit) p, ap (λ x. x .image) p))
-    (Dec·and (unit? (d .unit) (e .unit)) (List-discrete ℕ-discrete (d .image) (e .image)))
+    (Dec·and (same-with-table? (d .unit) (e .unit)) (List-discrete ℕ-discrete (d .image) (e .image)))
 
 certain : {A : Type 0} {x y : A} → Dec (x ≡ y) → ((x ≡ y → ⊥) → ⊥) → x ≡ y
 certain d not-not = by-cases d (λ same. same) (λ differ. absurd (not-not differ))

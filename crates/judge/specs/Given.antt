@@ -19,15 +19,15 @@ use Rattle.unit.specs.Landing.{numberOn}
 use Rattle.unit.specs.Standing.{UnitRecord, geometry, unitOf}
 use Rattle.judge.specs.declared.Standing.{Standing}
 
--- What is judged: a task, its unit's record and image length, and the host memory.
+-- What is judged: a task, its unit's record, table and all, the length of its image, and the host memory.
 pub record Asked : Type 0 where
   pub task : Task
   pub unit : UnitRecord
   pub image : ℕ
   pub host : List ℕ
 
-abbrev pub asked : Task → Standing → List ℕ → List ℕ → Asked
-asked t s ts host = record { task = t; unit = unitOf (s .record) ts; image = s .image; host = host }
+abbrev pub asked : Task → Standing → (tracks host : List ℕ) → Asked
+asked t s tracks host = record { task = t; unit = unitOf (s .record) tracks; image = s .image; host = host }
 
 -- The number at which a request begins: a logical number as it came, and a physical address's where the volume has it.
 abbrev pub numberOf : Geometry → VolumeNumber → Start → Number

@@ -94,8 +94,8 @@ commanded b command =
     }
 
 -- The answers of the checks that a block is asked where it has this command.
-abbrev pub answersTo : Block → Standing → List ℕ → List ℕ → ℕ → List Refusal
-answersTo b s ts host command = answersOf (checks (asked (taskOf host (commanded b command)) s ts host))
+abbrev pub answersTo : Block → Standing → (tracks host : List ℕ) → ℕ → List Refusal
+answersTo b s tracks host command = answersOf (checks (asked (taskOf host (commanded b command)) s tracks host))
 
 -- Of some commands, those that have an answer among theirs.
 abbrev pub those : (ℕ → List Refusal) → Refusal → List ℕ → List ℕ

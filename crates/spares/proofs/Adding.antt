@@ -3,7 +3,7 @@
 use Prim.Native.Nat.{ℕ, zero, suc, _+_, _*_, _≤_, _<_, min}
 use mathlib.Core.List.{List}
 use mathlib.Core.Logic.{by-cases, if-pos}
-use mathlib.Core.Path.{_≡_, refl, sym, ap, subst, _∙_}
+use mathlib.Core.Path.{_≡_, sym, ap, subst, _∙_}
 use native.Mathlib.Decide.{decLt}
 use native.Mathlib.Nat.{add-zero, min-eq-left, zero-add}
 use native.Mathlib.Numerals.{add-one}
@@ -11,7 +11,6 @@ use native.Mathlib.Omega.{arith}
 use lib.ListN.{getD, length, length-set, set}
 use lib.Seq.{getD-set-other, getD-set-same}
 use Rattle.geometry.specs.declared.Geometry.{Geometry}
-use Rattle.spares.specs.declared.Served.{Served}
 use Rattle.spares.specs.declared.Served.the-variants.{By}
 use Rattle.spares.specs.Table.{Good, InTable, Serves, badOf, served, servedFrom, serves?, spareOf, withPair}
 use Rattle.spares.specs.Tracks.{TrackOn, standsFor}

@@ -1,15 +1,13 @@
--- Whether a table is good, and whether a track is in one, is decided, so that definitions elsewhere can go by cases on it.
--- Each speaks of the places below a bound, and at each place it is decided.
-use Prim.Native.Nat.{ℕ, _*_, _<_, min}
+-- Whether a table is good is decided, so that definitions elsewhere can go by cases on it.
+-- It is said of the places below a bound, and at each place it is decided.
+use Prim.Native.Nat.{ℕ, _*_}
 use mathlib.Core.List.{List}
 use mathlib.Core.Logic.{Dec·and, Dec·not}
-use mathlib.Core.Path.{_≡_}
 use native.Mathlib.Decide.{decLe, map-dec, ℕ-discrete}
-use native.Mathlib.Omega.{arith}
 use lib.ListN.{getD}
 use Rattle.geometry.specs.declared.Geometry.{Geometry}
 use Rattle.wire.proofs.Decided.{all?}
-use Rattle.spares.specs.Table.{Good, OneOf}
+use Rattle.spares.specs.Table.{Good}
 use Rattle.spares.specs.Tracks.{trackOn?}
 
 pub good? : (g : Geometry) (n : ℕ) (ts : List ℕ) → Dec (Good g n ts)

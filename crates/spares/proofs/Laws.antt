@@ -15,7 +15,7 @@ use Rattle.geometry.specs.Drive.{C, driveHeads}
 use Rattle.spares.specs.declared.Track.{Track}
 use Rattle.spares.specs.declared.Served.{Served}
 use Rattle.spares.specs.declared.Served.the-variants.{Itself, By}
-use Rattle.spares.specs.Table.{Good, Serves, badOf, landed, landsOn, served, servedFrom, serves?, spareOf}
+use Rattle.spares.specs.Table.{Good, Serves, badOf, landsOn, numberServing, served, servedAt, servedFrom, serves?, spareOf}
 use Rattle.spares.specs.Tracks.{TrackOn, trackNumber, standsFor}
 
 module _ (g : Geometry) (ts : List ℕ) (t : ℕ) where
@@ -133,21 +133,36 @@ server-on-drive g n ts t k is = by-find (search g ts t 0 (min n 32)) is
         let its : standsFor (spareOf ts j) ≡ k = cc in
         subst (λ (k : Track). (k .cylinder < C g) × (k .head < driveHeads g)) its (it .on .cylinder, it .on .head)
 
--- A number stands for the track that it is the number of.
-pub stands-for-it : (c h : ℕ) → h < 256 → standsFor (trackNumber c h) ≡ record { cylinder = c; head = h }
-stands-for-it c h less =
-    let up : trackNumber c h / 65536 ≡ c = omega arith in
-    let down : trackNumber c h / 256 % 256 ≡ h = omega arith in
-    rw (up, down)
+-- The same of a cylinder and a head, which have a number where the head is below 256.
+module _ (g : Geometry) (n : ℕ) (ts : List ℕ) (c h : ℕ) where
+  pub itself-at : served g n ts (trackNumber c h) ≡ Itself → servedAt g n ts c h ≡ Itself
+  itself-at itself =
+      by-cases (decLt h 256) (λ small. if-pos (decLt h 256) small _ _ ∙ itself) (λ large. if-neg (decLt h 256) large _ _)
 
--- The drive has the track with that number exactly where it has the cylinder and the head.
-pub on-drive-by-parts : (g : Geometry) (c h : ℕ) → h < 256 → TrackOn g (trackNumber c h) ↔ ((c < C g) × (h < driveHeads g))
-on-drive-by-parts g c h less =
-    let up : trackNumber c h / 65536 ≡ c = omega arith in
-    let down : trackNumber c h / 256 % 256 ≡ h = omega arith in (
-      λ on. (omega (arith, on .cylinder), omega (arith, on .head)),
-      λ parts. record { cylinder = omega arith; head = omega arith; last = omega arith },
-    )
+  pub server-at-on-drive : (k : Track) → servedAt g n ts c h ≡ By k → (k .cylinder < C g) × (k .head < driveHeads g)
+  server-at-on-drive k is =
+      by-cases (decLt h 256) (λ small. server-on-drive g n ts (trackNumber c h) k (sym (if-pos (decLt h 256) small _ _) ∙ is))
+      (λ large.
+      let none : servedAt g n ts c h ≡ Itself = if-neg (decLt h 256) large _ _ in
+      absurd (never (cc none)))
+
+module _ (c h : ℕ) (less : h < 256) where
+  up : trackNumber c h / 65536 ≡ c
+  up = omega arith
+
+  down : trackNumber c h / 256 % 256 ≡ h
+  down = omega arith
+
+  -- A number stands for the track that it is the number of.
+  pub stands-for-it : standsFor (trackNumber c h) ≡ record { cylinder = c; head = h }
+  stands-for-it = rw (up, down)
+
+  -- The drive has the track with that number exactly where it has the cylinder and the head.
+  pub on-drive-by-parts : (g : Geometry) → TrackOn g (trackNumber c h) ↔ ((c < C g) × (h < driveHeads g))
+  on-drive-by-parts g = (
+    λ on. (omega (arith, on .cylinder, up), omega (arith, on .head, down)),
+    λ parts. record { cylinder = omega (arith, up); head = omega (arith, down); last = omega arith },
+  )
 
 -- A table without pairs is good, and every track serves itself.
 pub empty-is-good : (g : Geometry) (ts : List ℕ) → Good g 0 ts
@@ -169,7 +184,7 @@ module _ (g : Geometry) (n : ℕ) (ts : List ℕ) (good : Good g n ts) where
   lands : (t : ℕ) → Lands t (landsOn g n ts t)
   lands t = by-find (finds g n ts good t)
     where
-      by-find : {s : Served} → Search g ts t 0 n s → Lands t (landed t s)
+      by-find : {s : Served} → Search g ts t 0 n s → Lands t (numberServing t s)
       by-find (none nobody) =
           on-itself
           (λ i less is. nobody i (omega arith) (omega arith) (subst (Serves g ts i) is (pair-serves g n ts good i less)))

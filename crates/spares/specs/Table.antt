@@ -57,12 +57,12 @@ abbrev pub servedAt : Geometry → ℕ → List ℕ → ℕ → ℕ → Served
 servedAt g n ts c h = ite (decLt h 256) (served g n ts (trackNumber c h)) Itself
 
 -- The number of the track that a track lands on.
-abbrev pub landed : ℕ → Served → ℕ
-landed t Itself = t
-landed t (By k) = trackNumber (k .cylinder) (k .head)
+abbrev pub numberServing : ℕ → Served → ℕ
+numberServing t Itself = t
+numberServing t (By k) = trackNumber (k .cylinder) (k .head)
 
 abbrev pub landsOn : Geometry → ℕ → List ℕ → ℕ → ℕ
-landsOn g n ts t = landed t (served g n ts t)
+landsOn g n ts t = numberServing t (served g n ts t)
 
 -- The table with a pair more after its n, where it has room.
 abbrev pub withPair : ℕ → List ℕ → ℕ → ℕ → List ℕ

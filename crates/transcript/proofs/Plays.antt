@@ -109,7 +109,7 @@ run-heard h tag bytes not-1 not-2 not-3 =
 
 -- What a run meets: what is held, and an event buffer of its own.
 abbrev pub met : Held → World
-met h = worldOf (h .host) (h .image0) (h .image1) (replicate 512 0) (h .tracks0) (h .tracks1) (h .units)
+met h = record { host = h .host; drive0 = h .drive0; drive1 = h .drive1; events = replicate 512 0 }
 
 -- Its address and its allowance are read where they stand in the field.
 module _ (field : List ℕ) (five : longOf field ≡ 5) where

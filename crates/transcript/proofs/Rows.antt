@@ -18,7 +18,7 @@ use Rattle.wire.specs.Words.{be32}
 use Rattle.transcript.specs.declared.State.{State}
 use Rattle.transcript.specs.Rows.{inARow, onward, readFor}
 use Rattle.transcript.specs.Session.{Held, Heard, begin, bytesIn, endingOf, field?, heard, longOf, playedWithin, runHeard, session, tagOf}
-use Rattle.transcript.specs.Steps.{Lent, Room, Spoken, closed, heldIn, mostBytes, mostField, atStart, spoken, stateOf, textRoom, wanted, went}
+use Rattle.transcript.specs.Steps.{Lent, Room, Spoken, closed, heldIn, lentOf, mostBytes, mostField, atStart, spoken, stateOf, textRoom, wanted, went}
 use Rattle.transcript.specs.Text.{refusalLine}
 use Rattle.transcript.proofs.Fields.{read-bytes, read-field, read-length, read-long, read-no-field, read-some, read-tag}
 use Rattle.transcript.proofs.Plays.{bytes-long, met, run-heard}
@@ -34,8 +34,8 @@ nothing-said = refl
 -- No more is held than a field can give.
 record Few (h : Held) : Type 0 where
   host : length (h .host) ≤ mostBytes
-  image0 : length (h .image0) ≤ mostBytes
-  image1 : length (h .image1) ≤ mostBytes
+  image0 : length (h .drive0 .image) ≤ mostBytes
+  image1 : length (h .drive1 .image) ≤ mostBytes
 
 -- A run keeps the lengths of both images.
 images-keep-lengths :
@@ -72,14 +72,13 @@ module _ (x : Heard) (at : ℕ) (l : Lent) where
   -- The state and the buffers after a field hold what it leaves,
   holds-what-was-heard : heldIn (stateOf (x .held) at) (went x at l .lent) ≡ x .held
   holds-what-was-heard =
+      let image0 = x .held .drive0 .image in
+      let image1 = x .held .drive1 .image in
       λ i.
       record {
         host = take-append-seam (x .held .host) (drop (length (x .held .host)) (l .host)) i;
-        image0 = take-append-seam (x .held .image0) (drop (length (x .held .image0)) (l .image0)) i;
-        image1 = take-append-seam (x .held .image1) (drop (length (x .held .image1)) (l .image1)) i;
-        units = x .held .units;
-        tracks0 = x .held .tracks0;
-        tracks1 = x .held .tracks1;
+        drive0 = record { unit = x .held .drive0 .unit; image = take-append-seam image0 (drop (length image0) (l .image0)) i };
+        drive1 = record { unit = x .held .drive1 .unit; image = take-append-seam image1 (drop (length image1) (l .image1)) i };
       }
 
   -- and no buffer gets shorter, so that there is room again.
@@ -91,8 +90,8 @@ module _ (x : Heard) (at : ℕ) (l : Lent) where
   room-again s room few early =
       record {
         host = (few .host, omega (arith, room .host .1, over-length (x .held .host) (l .host)));
-        image0 = (few .image0, omega (arith, room .image0 .1, over-length (x .held .image0) (l .image0)));
-        image1 = (few .image1, omega (arith, room .image1 .1, over-length (x .held .image1) (l .image1)));
+        image0 = (few .image0, omega (arith, room .image0 .1, over-length (x .held .drive0 .image) (l .image0)));
+        image1 = (few .image1, omega (arith, room .image1 .1, over-length (x .held .drive1 .image) (l .image1)));
         text = omega (arith, room .text, over-length (x .text) (l .text));
         at = early;
       }
@@ -172,4 +171,4 @@ steps-in-a-row input l early host image0 image1 text none0 none1 =
       at = omega arith;
     })
     (omega arith)
-    ∙ (λ i. playedWithin (length input + 1) (record { host = []; image0 = []; image1 = []; units = begin .units; tracks0 = none0 i; tracks1 = none1 i }) 0 input)
+    ∙ (λ i. playedWithin (length input + 1) (heldIn (stateOf begin 0) (lentOf [] [] [] [] (none0 i) (none1 i))) 0 input)

@@ -14,9 +14,9 @@ use Rattle.transcript.specs.Text.{refusalLine}
 
 -- Whether there is room does not go by the tables.
 pub room-with :
-    {s : State} {host image0 image1 text : List ℕ} (a b c d : List ℕ) →
-    Room s (lentOf host image0 image1 text a b) → Room s (lentOf host image0 image1 text c d)
-room-with a b c d r = record { host = r .host; image0 = r .image0; image1 = r .image1; text = r .text; at = r .at }
+    {s : State} {host image0 image1 text tracks0 tracks1 other0 other1 : List ℕ} →
+    Room s (lentOf host image0 image1 text tracks0 tracks1) → Room s (lentOf host image0 image1 text other0 other1)
+room-with r = record { host = r .host; image0 = r .image0; image1 = r .image1; text = r .text; at = r .at }
 
 module _ (field : List ℕ) (s : State) (l : Lent) where
   pub no-room : (Room s l → ⊥) → spoken field s l ≡ spokenOf (saidOf Next.NoRoom 0) l

@@ -1,5 +1,5 @@
--- The steps of a session in a row, as a program makes them that only reads, calls and writes. From the state of `begin` and
--- tables of zeros, with buffers that have room, and for an input of fewer than 2^64 - 16,387 bytes, they print what `session` says: the theorem of proofs/Rows.
+-- The steps of a session in a row, as a program makes them that only reads, calls and writes. From the state of `begin` and tables of zeros, with
+-- buffers that have room, and for an input of fewer than 2^64 - 16,387 bytes, they print what `session` says: the theorem of proofs/Rows.
 use Prim.Native.Nat.{ℕ, zero, suc}
 use mathlib.Core.List.{List, [], _++_}
 use lib.ListN.{drop, length, take}

@@ -6,33 +6,21 @@ use mathlib.Core.Path.{_≡_}
 use native.Mathlib.Decide.{decLe, map-dec, ℕ-discrete}
 use lib.ListN.{drop, getD, length, replicate, take}
 use Rattle.wire.specs.Words.{be16, be32}
-use Rattle.unit.specs.Standing.{blank, byValue, table}
+use Rattle.unit.specs.Standing.{blank}
 use Rattle.answers.specs.Numbers.{runNumber}
-use Rattle.board.specs.declared.Units.{Units}
 use Rattle.board.specs.Chain.{Ending, ran}
-use Rattle.board.specs.Lent.{worldOf}
+use Rattle.block.specs.World.{Drive}
 use Rattle.transcript.specs.Text.{blockLines, refusalLine, runLine}
 
 -- "What a run leaves in memory, images and unit records is there for the next."
 pub record Held : Type 0 where
   pub host : List ℕ
-  pub image0 : List ℕ
-  pub image1 : List ℕ
-  pub units : Units
-  pub tracks0 : List ℕ
-  pub tracks1 : List ℕ
+  pub drive0 : Drive
+  pub drive1 : Drive
 
 -- "each is empty until given. Units start uninitialized."
 abbrev pub begin : Held
-begin =
-    record {
-      host = [];
-      image0 = [];
-      image1 = [];
-      units = record { zero = byValue blank; one = byValue blank };
-      tracks0 = table blank;
-      tracks1 = table blank;
-    }
+begin = record { host = []; drive0 = record { unit = blank; image = [] }; drive1 = record { unit = blank; image = [] } }
 
 -- "tag, two-byte big-endian length, bytes": the field at the head of what is left of the input.
 abbrev pub tagOf : List ℕ → ℕ
@@ -90,31 +78,24 @@ heardOf text held = record { text = text; held = held }
 -- "04 a run (address 4 bytes, allowance 1)". Its event buffer of 512 bytes is new and zero; only the entries of blocks run are printed.
 abbrev pub endingOf : Held → List ℕ → Ending
 endingOf h bytes =
-    ran (be32 bytes 0) (getD bytes 4 0) (worldOf (h .host) (h .image0) (h .image1) (replicate 512 0) (h .tracks0) (h .tracks1) (h .units))
+    ran (be32 bytes 0) (getD bytes 4 0) (record { host = h .host; drive0 = h .drive0; drive1 = h .drive1; events = replicate 512 0 })
 
 abbrev pub runHeard : Ending → Heard
 runHeard e =
     let w = e .world in
     heardOf (runLine (runNumber (e .answer)) (e .tally .blocks) (e .tally .sectors) ++ blockLines (w .events) (e .tally .blocks))
-    (record {
-      host = w .host;
-      image0 = w .drive0 .image;
-      image1 = w .drive1 .image;
-      units = record { zero = byValue (w .drive0 .unit); one = byValue (w .drive1 .unit) };
-      tracks0 = table (w .drive0 .unit);
-      tracks1 = table (w .drive1 .unit);
-    })
+    (record { host = w .host; drive0 = w .drive0; drive1 = w .drive1 })
 
 -- "Tag 01 host memory, 02 and 03 images of units 0 and 1, 04 a run"; "A repeated 01, 02 or 03 replaces the earlier one".
 -- It is asked of fields alone, so any other tag is 04.
 unfoldable pub heard : Held → ℕ → List ℕ → Heard
 heard h tag bytes =
     ite (ℕ-discrete tag 1)
-    (heardOf [] (record { host = bytes; image0 = h .image0; image1 = h .image1; units = h .units; tracks0 = h .tracks0; tracks1 = h .tracks1 }))
+    (heardOf [] (record { host = bytes; drive0 = h .drive0; drive1 = h .drive1 }))
     (ite (ℕ-discrete tag 2)
-    (heardOf [] (record { host = h .host; image0 = bytes; image1 = h .image1; units = h .units; tracks0 = h .tracks0; tracks1 = h .tracks1 }))
+    (heardOf [] (record { host = h .host; drive0 = record { unit = h .drive0 .unit; image = bytes }; drive1 = h .drive1 }))
     (ite (ℕ-discrete tag 3)
-    (heardOf [] (record { host = h .host; image0 = h .image0; image1 = bytes; units = h .units; tracks0 = h .tracks0; tracks1 = h .tracks1 }))
+    (heardOf [] (record { host = h .host; drive0 = h .drive0; drive1 = record { unit = h .drive1 .unit; image = bytes } }))
     (runHeard (endingOf h bytes))))
 
 -- What is left of the input is refused, or begins with a field.

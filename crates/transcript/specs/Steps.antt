@@ -1,11 +1,12 @@
 -- What the library promises of one field, over lent buffers: `Session` field by field. The memory and the images stand at the start of
--- the buffers lent for them, and a state says how much of each is theirs.
+-- the buffers lent for them, and a state says how much of each is theirs; the records are in two parts, one in the state and their tables lent.
 use Prim.Native.Nat.{ℕ, _+_, _≤_, _<_, _^_}
 use mathlib.Core.List.{List, [], _∷_, _++_}
 use mathlib.Core.Logic.{ite, Dec·and}
 use mathlib.Core.Path.{_≡_}
 use native.Mathlib.Decide.{decLe, decLt, map-dec}
 use lib.ListN.{drop, length, take}
+use Rattle.unit.specs.Standing.{byValue, table, unitOf}
 use Rattle.board.specs.declared.Units.{Units}
 use Rattle.block.specs.Steps.{written}
 use Rattle.transcript.specs.declared.Next.{Next}
@@ -67,20 +68,17 @@ abbrev pub heldIn : State → Lent → Held
 heldIn s l =
     record {
       host = take (s .host) (l .host);
-      image0 = take (s .image0) (l .image0);
-      image1 = take (s .image1) (l .image1);
-      units = s .units;
-      tracks0 = l .tracks0;
-      tracks1 = l .tracks1;
+      drive0 = record { unit = unitOf (s .units .zero) (l .tracks0); image = take (s .image0) (l .image0) };
+      drive1 = record { unit = unitOf (s .units .one) (l .tracks1); image = take (s .image1) (l .image1) };
     }
 
 abbrev pub stateOf : Held → ℕ → State
 stateOf h at =
     record {
-      units = h .units;
+      units = record { zero = byValue (h .drive0 .unit); one = byValue (h .drive1 .unit) };
       host = length (h .host);
-      image0 = length (h .image0);
-      image1 = length (h .image1);
+      image0 = length (h .drive0 .image);
+      image1 = length (h .drive1 .image);
       at = at;
     }
 
@@ -109,12 +107,14 @@ abbrev pub went : Heard → ℕ → Lent → Spoken
 went x at l =
     let h = x .held in
     spokenOf (saidOf (Next.On (stateOf h at)) (length (x .text)))
-    (lentOf (atStart (h .host) (l .host)) (atStart (h .image0) (l .image0)) (atStart (h .image1) (l .image1)) (atStart (x .text) (l .text)) (h .tracks0)
-    (h .tracks1))
+    (lentOf (atStart (h .host) (l .host)) (atStart (h .drive0 .image) (l .image0)) (atStart (h .drive1 .image) (l .image1))
+    (atStart (x .text) (l .text)) (table (h .drive0 .unit)) (table (h .drive1 .unit)))
 
 -- A text that is the session's last.
 abbrev pub closed : List ℕ → Lent → Spoken
-closed text l = spokenOf (saidOf Next.Over (length text)) (lentOf (l .host) (l .image0) (l .image1) (atStart text (l .text)) (l .tracks0) (l .tracks1))
+closed text l =
+    spokenOf (saidOf Next.Over (length text))
+    (lentOf (l .host) (l .image0) (l .image1) (atStart text (l .text)) (l .tracks0) (l .tracks1))
 
 -- A step on what was read of a field; that is [] where the input has ended.
 abbrev pub spokenOn : List ℕ → State → Lent → Spoken

@@ -17,12 +17,11 @@ use Rattle.geometry.proofs.Laws.{address-on-drive}
 use Rattle.unit.specs.declared.Landing.{Landing}
 use Rattle.wire.proofs.Promises.{never}
 use Rattle.unit.specs.declared.Spot.{Spot}
-use Rattle.unit.specs.Landing.{landed, landing, landingAt, onto, servedLanding, spotAt, spotOf, spotted, trackLanding, trackOf}
+use Rattle.unit.specs.Landing.{landed, landing, landingAt, onto, spotAt, spotOf, spotted, trackLanding, trackOf}
 use Rattle.unit.specs.Landing.Behind.{landed-is, spotAt-is, spotOf-is, trackOf-is}
 use Rattle.unit.specs.Standing.{UnitRecord, geometry, pairs, table}
 use Rattle.unit.proofs.Laws.{landed-on-drive}
 use Rattle.spares.specs.declared.Served.{Served}
-use Rattle.spares.specs.declared.Served.the-variants.{Itself, By}
 use Rattle.spares.specs.Table.{servedAt}
 
 pub spotted-inside : (g : Geometry) (a : Address) → OnDrive g a → spotted g a ≡ Landing.At (spotAt g a)
@@ -67,19 +66,17 @@ own-spot g a s is =
     by-cases (onDrive? g a) (λ on. (on, cc (spotted-inside g a on)))
     (λ out. absurd (never (cc (if-neg (onDrive? g a) out (Landing.At (spotAt g a)) Landing.Outside))))
 
-pub served-lands :
-    (u : UnitRecord) (a : Address) → OnDrive (geometry u) a →
-    servedLanding (geometry u) a (servedAt (geometry u) (pairs u) (table u) (a .cylinder) (a .head)) ≡ landingAt u a
-served-lands u a on =
-    let its = landed-on-drive u a on in
-    rw (landingAt-inside u a on) (by-served (servedAt (geometry u) (pairs u) (table u) (a .cylinder) (a .head)) (landed-is u a) its)
-  where
-    by-served :
-        (s : Served) → landed u a ≡ onto s a → OnDrive (geometry u) (landed u a) →
-        servedLanding (geometry u) a s ≡ Landing.At (spotAt (geometry u) (landed u a))
-    by-served Itself is on = ap (λ (x : Address). Landing.At (spotAt (geometry u) x)) (sym is)
-    by-served (By k) is on =
-        spotted-inside (geometry u) _ (subst (OnDrive (geometry u)) is on) ∙ ap (λ (x : Address). Landing.At (spotAt (geometry u) x)) (sym is)
+-- What serves the track of an address that the drive has tells where it lands, and that is on the drive.
+module _ (u : UnitRecord) (a : Address) (on : OnDrive (geometry u) a) {s : Served}
+    (is : servedAt (geometry u) (pairs u) (table u) (a .cylinder) (a .head) ≡ s) where
+  lands-onto : landed u a ≡ onto s a
+  lands-onto = landed-is u a ∙ ap (λ (x : Served). onto x a) is
+
+  pub served-spot : Landing.At (spotAt (geometry u) (onto s a)) ≡ landingAt u a
+  served-spot = rw (landingAt-inside u a on, lands-onto)
+
+  pub served-spotted : spotted (geometry u) (onto s a) ≡ landingAt u a
+  served-spotted = spotted-inside (geometry u) (onto s a) (subst (OnDrive (geometry u)) lands-onto (landed-on-drive u a on)) ∙ served-spot
 
 pub nowhere : (u : UnitRecord) (a : Address) → spotted (geometry u) a ≡ Landing.Outside → Landing.Outside ≡ landingAt u a
 unfolding landingAt

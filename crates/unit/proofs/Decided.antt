@@ -1,6 +1,7 @@
--- Whether a record counts as initialized, and whether what two hold by value is the same, is decided, so that definitions elsewhere can go by
--- cases on it. Each of the parts is.
+-- Whether a record counts as initialized, and whether two are the same, by value alone or with their tables, is decided, so that definitions
+-- elsewhere can go by cases on it. Each of the parts is.
 use mathlib.Core.Bool.{true, Bool-discrete}
+use mathlib.Core.List.{List-discrete}
 use mathlib.Core.Logic.{Dec·and}
 use mathlib.Core.Path.{_≡_, _∙_, ap}
 use native.Mathlib.Decide.{decLt, map-dec, ℕ-discrete}
@@ -9,7 +10,7 @@ use Rattle.geometry.proofs.Decided.{within?}
 use Rattle.geometry.proofs.Same as Geometries
 use Rattle.spares.proofs.Decided.{good?}
 use Rattle.unit.specs.declared.Record.{Record}
-use Rattle.unit.specs.Standing.{CountsAsInitialized, UnitRecord, cylinder, geometry, heldOf, initialized, pairs, table}
+use Rattle.unit.specs.Standing.{CountsAsInitialized, UnitRecord, byValue, cylinder, geometry, heldOf, initialized, pairs, table, unitOf}
 
 pub counts? : (u : UnitRecord) → Dec (CountsAsInitialized u)
 counts? u =
@@ -33,3 +34,8 @@ same? u v =
     (Dec·and (Bool-discrete (u .initialized) (v .initialized))
     (Dec·and (Geometries.same? (u .geometry) (v .geometry))
     (Dec·and (ℕ-discrete (u .cylinder) (v .cylinder)) (ℕ-discrete (u .pairs) (v .pairs)))))
+
+pub same-with-table? : (u v : UnitRecord) → Dec (u ≡ v)
+same-with-table? u v =
+    map-dec (λ p i. unitOf (p .0 i) (p .1 i)) (λ p. (ap (λ (x : UnitRecord). byValue x) p, ap (λ (x : UnitRecord). table x) p))
+    (Dec·and (same? (byValue u) (byValue v)) (List-discrete ℕ-discrete (table u) (table v)))

@@ -1,31 +1,25 @@
 -- Where requests land, as the crates above may know it: inside the drive, and a track in one run.
 -- Each is the geometry's law of the same name, of the address on the track that serves the one named.
 use Prim.Native.Nat.{ℕ, _+_, _-_, _≤_, _<_}
-use mathlib.Core.Logic.{by-cases, if-neg, if-pos}
-use mathlib.Core.Path.{_≡_, refl, sym, ap, subst, _∙_}
-use native.Mathlib.Decide.{decLt}
+use mathlib.Core.Path.{_≡_, refl, sym, ap, _∙_}
 use native.Mathlib.Nat.{sub-zero}
 use native.Mathlib.Omega.{arith}
 use Rattle.geometry.specs.declared.Address.{Address}
 use Rattle.geometry.specs.declared.Geometry.{Geometry}
 use Rattle.geometry.specs.declared.VolumeNumber.{VolumeNumber}
-use Rattle.geometry.specs.declared.VolumeNumber.the-variants.{Zero, One}
-use Rattle.geometry.specs.Drive.{C, S, driveHeads, driveSectors, volumeSectors}
-use Rattle.geometry.specs.Limits.{VolumesWithin}
-use Rattle.geometry.specs.Sectors.{InVolume, OnDrive, address, addressOf, numberOf, placeOf}
+use Rattle.geometry.specs.Drive.{C, S, driveSectors, volumeSectors}
+use Rattle.geometry.specs.Sectors.{OnDrive, address, addressOf, placeOf}
 use Rattle.geometry.proofs.Laws as geometry
 use Rattle.spares.specs.declared.Served.{Served}
 use Rattle.spares.specs.declared.Served.the-variants.{Itself, By}
-use Rattle.spares.specs.declared.Track.{Track}
-use Rattle.spares.specs.Table.{served, servedAt}
+use Rattle.spares.specs.Table.{servedAt}
 use Rattle.spares.specs.Tracks.{trackNumber}
-use Rattle.spares.proofs.Laws.{empty-serves-itself, server-on-drive}
+use Rattle.spares.proofs.Laws.{empty-serves-itself, itself-at, server-at-on-drive}
 use Rattle.unit.specs.declared.Spot.{Spot}
 use Rattle.unit.specs.Landing.{landed, onto, spotAt, spotOf, trackOf}
 use Rattle.unit.specs.Landing.Behind.{landed-is, spotAt-is, spotOf-is, trackOf-is}
 use Rattle.unit.specs.Standing.{UnitRecord, pairs, table}
 use Rattle.unit.specs.Standing as standing
-use Rattle.wire.proofs.Promises.{never}
 
 -- A spot inside the drive, with the rest of its track.
 pub record InDrive (g : Geometry) (s : Spot) : Type 0 where
@@ -54,18 +48,10 @@ module _ (u : UnitRecord) where
   -- Where no pair counts, an address lands where it says.
   pub no-pairs-lands-there : pairs u ≡ 0 → (a : Address) → landed u a ≡ a
   no-pairs-lands-there none a =
-      let alone : served shape (pairs u) (table u) (trackNumber (a .cylinder) (a .head)) ≡ Itself = rw none (empty-serves-itself shape (table u) (trackNumber (a .cylinder) (a .head))) in
-      let itself : serving (a .cylinder) (a .head) ≡ Itself =
-      by-cases (decLt (a .head) 256) (λ small. if-pos (decLt (a .head) 256) small _ _ ∙ alone) (λ large. if-neg (decLt (a .head) 256) large _ _) in
+      let itself =
+      itself-at shape (pairs u) (table u) (a .cylinder) (a .head)
+      (rw none (empty-serves-itself shape (table u) (trackNumber (a .cylinder) (a .head)))) in
       landed-is u a ∙ ap (λ (x : Served). onto x a) itself
-
-  -- A spare that serves is on the drive.
-  served-on : (c h : ℕ) (k : Track) → serving c h ≡ By k → (k .cylinder < C shape) × (k .head < driveHeads shape)
-  served-on c h k is =
-      by-cases (decLt h 256) (λ small. server-on-drive shape (pairs u) (table u) (trackNumber c h) k (sym (if-pos (decLt h 256) small _ _) ∙ is))
-      (λ large.
-      let none : serving c h ≡ Itself = if-neg (decLt h 256) large _ _ in
-      absurd (never (cc none)))
 
   pub landed-on-drive : (a : Address) → OnDrive shape a → OnDrive shape (landed u a)
   landed-on-drive a on = rw landed-is (by-served (serving (a .cylinder) (a .head)) refl)
@@ -73,7 +59,7 @@ module _ (u : UnitRecord) where
       by-served : (s : Served) → serving (a .cylinder) (a .head) ≡ s → OnDrive shape (onto s a)
       by-served Itself is = on
       by-served (By k) is =
-          let its = served-on (a .cylinder) (a .head) k is in
+          let its = server-at-on-drive shape (pairs u) (table u) (a .cylinder) (a .head) k is in
           record { cylinder = its .0; head = its .1; sector = on .sector }
 
   pub landed-sector : (a : Address) → landed u a .sector ≡ a .sector

@@ -14,9 +14,7 @@ use Rattle.unit.proofs.Record.land_track.Reads as land-track
 use Rattle.unit.proofs.Record.moved_to.Reads as moved-to
 use Rattle.unit.proofs.Record.new.Reads as new
 use Rattle.unit.proofs.Record.number.Reads as number
-use Rattle.unit.proofs.Record.pairs.Reads as pairs
 use Rattle.unit.proofs.Record.same.Reads as same
-use Rattle.unit.proofs.Record.table_is_good.Reads as table-is-good
 
 blank-once : OneResult blank.Post
 blank-once κ a x y e f p q = p ∙ sym q
@@ -53,9 +51,3 @@ number-once κ a x y e f p q = p ∙ sym q
 
 same-once : OneResult same.Post
 same-once κ a x y e f p q = says-once x y _ p q
-
-pairs-once : OneResult pairs.Post
-pairs-once κ a x y e f p q = p ∙ sym q
-
-table-is-good-once : OneResult table-is-good.Post
-table-is-good-once κ a x y e f p q = says-once x y _ p q

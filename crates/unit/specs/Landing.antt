@@ -37,16 +37,11 @@ spotOf u v n = spotAt (geometry u) (landed u (addressOf (geometry u) v n))
 pub trackOf : UnitRecord → ℕ → ℕ → Spot
 trackOf u c h = spotAt (geometry u) (landed u (address c h 0))
 
--- What the functions answer: the spot of an address itself, or that the drive has none.
+-- What the functions answer: a spot, or that the drive has none. First of an address itself, whatever serves its track.
 unfoldable pub spotted : Geometry → Address → Landing
 spotted g a = ite (onDrive? g a) (Landing.At (spotAt g a)) Landing.Outside
 
--- Of an address that the drive has, by what serves its track: its own spot, or that of the spare, which is on the drive.
-abbrev pub servedLanding : Geometry → Address → Served → Landing
-servedLanding g a Itself = Landing.At (spotAt g a)
-servedLanding g a (By k) = spotted g (address (k .cylinder) (k .head) (a .sector))
-
--- Where an address lands. Whether the drive has it goes by the address named, and not by where it lands.
+-- Then of where it lands. Whether the drive has it goes by the address named, and not by where that lands.
 unfoldable pub landingAt : UnitRecord → Address → Landing
 landingAt u a = ite (onDrive? (geometry u) a) (Landing.At (spotAt (geometry u) (landed u a))) Landing.Outside
 

@@ -1,5 +1,5 @@
 -- The unit record and when it counts as initialized (01, Geometry; 02, K5).
-use Prim.Native.Nat.{ℕ, _+_, _<_}
+use Prim.Native.Nat.{ℕ, _<_}
 use mathlib.Core.Bool.{Bool, false, true}
 use mathlib.Core.List.{List, []}
 use mathlib.Core.Path.{_≡_}

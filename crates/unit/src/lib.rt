@@ -1,6 +1,6 @@
 // The unit record: when it counts as initialized, and where a request lands on it.
-// It is the one door to where a sector stands, so that an order of tracks or a table of spares can come in behind it.
-// It moves no data and sees no image; a record goes in and comes back by value.
+// It is the one door to where a sector stands: a spare serves for a bad track behind it, and an order of tracks can come in there.
+// It moves no data and sees no image; a record goes in and comes back by value, and its table is lent and left as it is.
 use geometry::Address;
 use geometry::Found;
 use geometry::Geometry;
@@ -12,8 +12,9 @@ use spares::Served;
 ghost use mathlib.Core.Path.{_≡_};
 ghost use Prim.Native.Nat.{_<_};
 ghost use Rattle.geometry.specs.Drive.{C};
-ghost use Rattle.spares.specs.Table.{Good, servedAt};
-ghost use Rattle.unit.specs.Landing.{landing, landingAt, numberOn, servedLanding, spotAt, spotted, trackLanding};
+ghost use Rattle.geometry.specs.Sectors.{OnDrive};
+ghost use Rattle.spares.specs.Table.{Good};
+ghost use Rattle.unit.specs.Landing.{landing, landingAt, numberOn, spotAt, spotted, trackLanding};
 ghost use Rattle.unit.specs.Standing.{CountsAsInitialized, bare, cylinder, freshly, geometry, headsOn, heldOf, initialized, nothingSaid, pairs, unitOf};
 ghost use Rattle.wire.specs.Promise.{Says};
 
@@ -104,13 +105,6 @@ impl Record {
         self.cylinder
     }
 
-    // How many pairs of its table count.
-    pub fn pairs(self) -> u16
-        ensures { λ r. ⌜ r ≡ pairs (bare self) ⌝ }
-    {
-        self.pairs
-    }
-
     // The record once its heads stand on another cylinder.
     pub fn moved_to(self, to: u16) -> Record
         ensures { λ r. ⌜ r ≡ headsOn self to ⌝ }
@@ -157,7 +151,7 @@ impl Record {
     }
 
     // Whether its table is good, which is the long part of the question.
-    pub fn table_is_good(self, table: &[u32; 64]) -> bool
+    fn table_is_good(self, table: &[u32; 64]) -> bool
         ensures { λ r. ⌜ Says r (Good (geometry (bare self)) (pairs (bare self)) (now (table .entry))) ⌝ }
     {
         spares::is_good(table, self.pairs, self.geometry)
@@ -213,8 +207,8 @@ impl Record {
 
     // Where an address of the drive lands, whose own spot is known: there, or on the spare of its track.
     fn serve(self, table: &[u32; 64], a: Address, own: Spot) -> Landing
-        requires { ⌜ own ≡ spotAt (geometry (bare self)) a ⌝ }
-        ensures { λ r. ⌜ r ≡ servedLanding (geometry (bare self)) a (servedAt (geometry (bare self)) (pairs (bare self)) (now (table .entry)) (a .cylinder) (a .head)) ⌝ }
+        requires { ⌜ OnDrive (geometry (bare self)) a × (own ≡ spotAt (geometry (bare self)) a) ⌝ }
+        ensures { λ r. ⌜ r ≡ landingAt (unitOf self (now (table .entry))) a ⌝ }
     {
         match spares::serving(table, self.pairs, self.geometry, a.cylinder, a.head) {
             Served::Itself => Landing::At(own),

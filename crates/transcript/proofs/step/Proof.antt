@@ -1,5 +1,4 @@
 -- The checks in their order, each by its law; a good field is heard.
-use mathlib.Core.List.{[]}
 use mathlib.Core.Path.{refl, sym, _∙_}
 use native.Mathlib.Omega.{arith}
 use Rattle.transcript.specs.Steps.{Lent, Room, lentOf, saidOf, spokenOf}
@@ -37,14 +36,14 @@ returns c =
     let start = c .before .before .before .before .before .before .before .before .before .before .before in
     sym
     (no-room (start .args .field .now) (start .args .s) (lent start)
-    (λ r. denied (c .before .has-room .result) _ (c .if1 .taken) (c .before .has-room .ensures) (room-with _ _ [] [] r)))
+    (λ r. denied (c .before .has-room .result) _ (c .if1 .taken) (c .before .has-room .ensures) (room-with r)))
 
 -- Past the first check there is room, and past the last a field.
 room :
     (c : tie.Else1) →
     let start = c .before .before .before .before .before .before .before .before .before .before .before in
     Room (start .args .s) (lent start)
-room c = room-with [] [] _ _ (granted (c .before .has-room .result) _ (c .if1 .left) (c .before .has-room .ensures))
+room c = room-with (granted (c .before .has-room .result) _ (c .if1 .left) (c .before .has-room .ensures))
 
 good :
     (c : tie.Else3) →

@@ -11,11 +11,6 @@ use Rattle.transfer.specs.Runs.{spanBytes}
 use Rattle.transfer.proofs.AllPieces.{Before, a-piece, before-first, piece-carried, piece-fits}
 use Rattle.transfer.proofs.carry.carry.Statement.{statement}
 use Rattle.transfer.proofs.carry.carry.Tie as tie
-use Rattle.transfer.proofs.carry.carry.Reads as reads
-use Rattle.transfer.proofs.carry.carry.Lts as lts
-use Rattle.transfer.proofs.carry.carry_piece.Reads as carry-piece-reads
-use Rattle.transfer.proofs.carry.lesser.Reads as lesser-reads
-use Rattle.transfer.proofs.carry.span_bytes.Reads as span-bytes-reads
 
 abbrev Inv-loop : tie.InvT-loop
 Inv-loop host₀ image₀ u table span to-host lengths addresses all c₀ done₀ i₀ host image c done i = Before (unitOf u table) span to-host lengths addresses host₀ image₀ i done host image c

@@ -11,12 +11,6 @@ use Rattle.transfer.proofs.Stores.{copiedRun}
 use Rattle.transfer.proofs.Carrying.{carry-more, carry-none, on-here, run-held}
 use Rattle.transfer.proofs.carry.carry_piece.Statement.{statement}
 use Rattle.transfer.proofs.carry.carry_piece.Tie as tie
-use Rattle.transfer.proofs.carry.carry_piece.Reads as reads
-use Rattle.transfer.proofs.carry.carry_piece.Lts as lts
-use Rattle.transfer.proofs.carry.Cursor.on.Reads as on-reads
-use Rattle.transfer.proofs.carry.copy_run.Reads as copy-run-reads
-use Rattle.transfer.proofs.carry.lesser.Reads as lesser-reads
-use Rattle.transfer.proofs.carry.ready.Reads as ready-reads
 
 abbrev Inv-loop : tie.InvT-loop
 Inv-loop host₀ image₀ u table span to-host at n c₀ done₀ host image c done =

@@ -5,9 +5,6 @@ use Rattle.transfer.proofs.Carrying.{next-sector}
 use borrow.Author.Needs.{needs}
 use Rattle.transfer.proofs.carry.ready.Statement.{statement}
 use Rattle.transfer.proofs.carry.ready.Tie as tie
-use Rattle.transfer.proofs.carry.ready.Reads as reads
-use Rattle.transfer.proofs.carry.ready.Lts as lts
-use Rattle.transfer.proofs.carry.next_run.Reads as next-run-reads
 
 returns : tie.Need-returns
 returns c = search needs

@@ -9,10 +9,6 @@ use Rattle.unit.proofs.Answers.{at-landing, no-landing}
 use Rattle.unit.proofs.Laws.{spot-inside}
 use Rattle.transfer.proofs.reach.run_at.Statement.{statement}
 use Rattle.transfer.proofs.reach.run_at.Tie as tie
-use Rattle.transfer.proofs.reach.run_at.Reads as reads
-use Rattle.transfer.proofs.reach.run_at.Lts as lts
-use Rattle.transfer.proofs.reach.lesser.Reads as lesser-reads
-use Rattle.unit.proofs.Record.land.Reads as land-reads
 
 land-requires : tie.Need-land-requires
 land-requires c κs = search needs

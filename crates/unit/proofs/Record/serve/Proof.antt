@@ -2,7 +2,8 @@
 -- What serves is the table's own answer.
 use mathlib.Core.Path.{sym, ap, _∙_}
 use Rattle.unit.specs.declared.Landing.{Landing}
-use Rattle.unit.specs.Landing.{servedLanding}
+use Rattle.unit.specs.Standing.{unitOf}
+use Rattle.unit.proofs.Answers.{served-spot, served-spotted}
 use borrow.Author.Needs.{needs}
 use Rattle.unit.proofs.Record.serve.Statement.{statement}
 use Rattle.unit.proofs.Record.serve.Tie as tie
@@ -21,13 +22,17 @@ spot-requires c κs = search needs
 
 returns : tie.Need-returns
 returns c =
-    let a = c .before .before .before .args in
-    ap Landing.At (c .before .before .before .pre) ∙ ap (servedLanding (a .self .geometry) (a .a)) (sym (c .enum-told .given .1) ∙ c .before .before .serving .ensures)
+    let start = c .before .before .before in
+    let u = unitOf (start .args .self) (start .args .table .now) in
+    ap Landing.At (start .pre .1) ∙
+    served-spot u (start .args .a) (start .pre .0) (sym (c .before .before .serving .ensures) ∙ c .enum-told .given .1)
 
 returns-2 : tie.Need-returns-2
 returns-2 c =
-    let a = c .before .before .before .before .before .args in
-    c .spot .ensures ∙ ap (servedLanding (a .self .geometry) (a .a)) (sym (c .before .before .k .given .1) ∙ c .before .before .before .before .serving .ensures)
+    let start = c .before .before .before .before .before in
+    let u = unitOf (start .args .self) (start .args .table .now) in
+    c .spot .ensures ∙
+    served-spotted u (start .args .a) (start .pre .0) (sym (c .before .before .before .before .serving .ensures) ∙ c .before .before .k .given .1)
 
 pub serve-spec : {M : Type 1} → statement M
 serve-spec =
