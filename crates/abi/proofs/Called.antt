@@ -1,6 +1,6 @@
 -- What a call comes to, by which of its buffers are long enough.
 -- Each is a case of the definition.
-use Prim.Native.Nat.{ℕ, _≤_, _<_}
+use Prim.Native.Nat.{ℕ, _*_, _≤_, _<_, min}
 use mathlib.Core.List.{List}
 use mathlib.Core.Logic.{if-neg, if-pos}
 use mathlib.Core.Path.{_≡_, _∙_, ap}
@@ -16,42 +16,50 @@ use Rattle.board.specs.Steps.{CameTo}
 use Rattle.block.specs.Steps.{written}
 use Rattle.board.specs.Lent.{worldOf}
 use Rattle.abi.specs.Calls.{Lent, answered, called, calledOf, imageNumber, inspectedOf, inspection, lentOf, made, outcomeShort, record0Short, record1Short, recordLeft, worldIn}
-use Rattle.abi.specs.Layouts.{outcomeBytes, recordIn}
+use Rattle.abi.specs.Layouts.{outcomeBytes, recordIn, wordsFrom}
 use Rattle.board.specs.declared.Units.{Units}
-use Rattle.unit.specs.Standing.{byValue, noTracks, unitOf}
+use Rattle.unit.specs.Standing.{UnitRecord, byValue, noTracks, pairs, unitOf}
 
 -- A run that was made, from what the code ran and stored, and from what it read.
 pub answered-is :
     (l : Lent) (e : Ending) {r : Outcome} {number : ℕ} {host image0 image1 events tracks0 tracks1 record0 record1 outcome : List ℕ} →
     CameTo e (worldOf host image0 image1 events tracks0 tracks1 (r .units)) r →
-    record0 ≡ recordLeft (l .record0) (unitOf (r .units .zero) noTracks) →
-    record1 ≡ recordLeft (l .record1) (unitOf (r .units .one) noTracks) →
+    record0 ≡ recordLeft (l .record0) (unitOf (r .units .zero) tracks0) →
+    record1 ≡ recordLeft (l .record1) (unitOf (r .units .one) tracks1) →
     number ≡ runNumber (r .answer) →
     outcome ≡ written (l .outcome) 0 (outcomeBytes number (r .failed) (r .blocks) (r .sectors)) →
     calledOf number (lentOf host image0 image1 events record0 record1 outcome) ≡ answered l e
-unfolding recordLeft
 answered-is l e came left0 left1 is-number left =
     let on-host = ap (λ w. w .host) (came .world) in
     let on-image0 = ap (λ w. w .drive0 .image) (came .world) in
     let on-image1 = ap (λ w. w .drive1 .image) (came .world) in
     let on-events = ap (λ w. w .events) (came .world) in
-    let on-zero = ap (λ o. o .units .zero) (came .result) in
-    let on-one = ap (λ o. o .units .one) (came .result) in
+    let on-unit0 = ap (λ w. w .drive0 .unit) (came .world) in
+    let on-unit1 = ap (λ w. w .drive1 .unit) (came .world) in
     let on-answer = ap (λ o. o .answer) (came .result) in
     let on-failed = ap (λ o. o .failed) (came .result) in
     let on-blocks = ap (λ o. o .blocks) (came .result) in
     let on-sectors = ap (λ o. o .sectors) (came .result) in
     cc
 
+-- A record and the tracks that were read for it make the record that stands in the bytes.
+pub tracks-read :
+    (bytes : List ℕ) (u : UnitRecord) {n : ℕ} {tracks : List ℕ} →
+    byValue u ≡ byValue (recordIn bytes) →
+    n ≡ pairs u →
+    tracks ≡ written noTracks 0 (wordsFrom bytes 20 (2 * min n 32)) →
+    unitOf (byValue u) tracks ≡ recordIn bytes
+tracks-read bytes u is counts read = rw (read, counts, is)
+
 pub made-is :
     (first allowance : ℕ) (l : Lent) (units : Units) {r : Outcome} {number : ℕ}
-    {host image0 image1 events tracks0 tracks1 record0 record1 outcome : List ℕ} →
-    units .zero ≡ byValue (recordIn (l .record0)) →
-    units .one ≡ byValue (recordIn (l .record1)) →
-    CameTo (ran first allowance (worldOf (l .host) (l .image0) (l .image1) (l .events) noTracks noTracks units))
-    (worldOf host image0 image1 events tracks0 tracks1 (r .units)) r →
-    record0 ≡ recordLeft (l .record0) (unitOf (r .units .zero) noTracks) →
-    record1 ≡ recordLeft (l .record1) (unitOf (r .units .one) noTracks) →
+    {tracks0 tracks1 host image0 image1 events tracks0′ tracks1′ record0 record1 outcome : List ℕ} →
+    unitOf (units .zero) tracks0 ≡ recordIn (l .record0) →
+    unitOf (units .one) tracks1 ≡ recordIn (l .record1) →
+    CameTo (ran first allowance (worldOf (l .host) (l .image0) (l .image1) (l .events) tracks0 tracks1 units))
+    (worldOf host image0 image1 events tracks0′ tracks1′ (r .units)) r →
+    record0 ≡ recordLeft (l .record0) (unitOf (r .units .zero) tracks0′) →
+    record1 ≡ recordLeft (l .record1) (unitOf (r .units .one) tracks1′) →
     number ≡ runNumber (r .answer) →
     outcome ≡ written (l .outcome) 0 (outcomeBytes number (r .failed) (r .blocks) (r .sectors)) →
     calledOf number (lentOf host image0 image1 events record0 record1 outcome) ≡ made first allowance l
@@ -59,51 +67,51 @@ made-is first allowance l units is-zero is-one came left0 left1 is-number left =
     answered-is l (ran first allowance (worldIn l)) (rw (is-zero, is-one) at came) left0 left1 is-number left
 
 module _ (first allowance : ℕ) (l : Lent) where
-  pub called-refused-0 : length (l .record0) < 16 → called first allowance l ≡ calledOf record0Short l
+  pub called-refused-0 : length (l .record0) < 276 → called first allowance l ≡ calledOf record0Short l
   unfolding called
-  called-refused-0 short = if-pos (decLt (length (l .record0)) 16) short _ _
+  called-refused-0 short = if-pos (decLt (length (l .record0)) 276) short _ _
 
   pub called-refused-1 :
-      16 ≤ length (l .record0) → length (l .record1) < 16 → called first allowance l ≡ calledOf record1Short l
+      276 ≤ length (l .record0) → length (l .record1) < 276 → called first allowance l ≡ calledOf record1Short l
   unfolding called
   called-refused-1 long0 short =
-      if-neg (decLt (length (l .record0)) 16) (λ h. omega arith) _ _ ∙ if-pos (decLt (length (l .record1)) 16) short _ _
+      if-neg (decLt (length (l .record0)) 276) (λ h. omega arith) _ _ ∙ if-pos (decLt (length (l .record1)) 276) short _ _
 
   pub called-refused-2 :
-      16 ≤ length (l .record0) → 16 ≤ length (l .record1) → length (l .outcome) < 16 →
+      276 ≤ length (l .record0) → 276 ≤ length (l .record1) → length (l .outcome) < 16 →
       called first allowance l ≡ calledOf outcomeShort l
   unfolding called
   called-refused-2 long0 long1 short =
-      if-neg (decLt (length (l .record0)) 16) (λ h. omega arith) _ _ ∙
-      if-neg (decLt (length (l .record1)) 16) (λ h. omega arith) _ _ ∙ if-pos (decLt (length (l .outcome)) 16) short _ _
+      if-neg (decLt (length (l .record0)) 276) (λ h. omega arith) _ _ ∙
+      if-neg (decLt (length (l .record1)) 276) (λ h. omega arith) _ _ ∙ if-pos (decLt (length (l .outcome)) 16) short _ _
 
   pub called-made :
-      16 ≤ length (l .record0) → 16 ≤ length (l .record1) → 16 ≤ length (l .outcome) →
+      276 ≤ length (l .record0) → 276 ≤ length (l .record1) → 16 ≤ length (l .outcome) →
       called first allowance l ≡ made first allowance l
   unfolding called
   called-made long0 long1 long =
-      if-neg (decLt (length (l .record0)) 16) (λ h. omega arith) _ _ ∙
-      if-neg (decLt (length (l .record1)) 16) (λ h. omega arith) _ _ ∙
+      if-neg (decLt (length (l .record0)) 276) (λ h. omega arith) _ _ ∙
+      if-neg (decLt (length (l .record1)) 276) (λ h. omega arith) _ _ ∙
       if-neg (decLt (length (l .outcome)) 16) (λ h. omega arith) _ _
 
 module _ (record0 record1 : List ℕ) (long0 long1 unit place image at bytes : ℕ) where
   pub inspection-refused-0 :
-      length record0 < 16 →
+      length record0 < 276 →
       inspection record0 record1 long0 long1 unit place image at bytes ≡ inspectedOf record0Short image at bytes
   unfolding inspection
-  inspection-refused-0 short = if-pos (decLt (length record0) 16) short _ _
+  inspection-refused-0 short = if-pos (decLt (length record0) 276) short _ _
 
   pub inspection-refused-1 :
-      16 ≤ length record0 → length record1 < 16 →
+      276 ≤ length record0 → length record1 < 276 →
       inspection record0 record1 long0 long1 unit place image at bytes ≡ inspectedOf record1Short image at bytes
   unfolding inspection
   inspection-refused-1 fits short =
-      if-neg (decLt (length record0) 16) (λ h. omega arith) _ _ ∙ if-pos (decLt (length record1) 16) short _ _
+      if-neg (decLt (length record0) 276) (λ h. omega arith) _ _ ∙ if-pos (decLt (length record1) 276) short _ _
 
   pub inspection-made :
-      16 ≤ length record0 → 16 ≤ length record1 →
+      276 ≤ length record0 → 276 ≤ length record1 →
       let p : Part = partOf (recordIn record0) (recordIn record1) long0 long1 unit place in
       inspection record0 record1 long0 long1 unit place image at bytes ≡ inspectedOf 0 (imageNumber (p .unit)) (p .at) (p .bytes)
   unfolding inspection
   inspection-made fits0 fits1 =
-      if-neg (decLt (length record0) 16) (λ h. omega arith) _ _ ∙ if-neg (decLt (length record1) 16) (λ h. omega arith) _ _
+      if-neg (decLt (length record0) 276) (λ h. omega arith) _ _ ∙ if-neg (decLt (length record1) 276) (λ h. omega arith) _ _

@@ -3,4 +3,5 @@ pub mod Laws
 pub mod Left
 pub mod Outcomes
 pub mod Stored
+pub mod Tracks
 pub mod Untouched

@@ -10,7 +10,7 @@ use Rattle.wire.specs.Words.{stored, with16, with32}
 use Rattle.geometry.specs.declared.Geometry.{Geometry}
 use Rattle.geometry.specs.declared.Volume.{Volume}
 use Rattle.block.specs.Steps.{written}
-use Rattle.abi.specs.Layouts.{geometryBytes, openingBytes, outcomeBytes, twoBytes, volumeBytes}
+use Rattle.abi.specs.Layouts.{geometryBytes, openingBytes, outcomeBytes, trackBytes, twoBytes, volumeBytes}
 
 pub two-stored : (bytes : List ℕ) (at a b : ℕ) → set (set bytes at a) (at + 1) b ≡ written bytes at (a ∷ b ∷ [])
 unfolding written
@@ -18,7 +18,7 @@ two-stored bytes at a b = simp add-one
 
 pub opening-stored :
     (bytes : List ℕ) (flag : ℕ) →
-    written (written bytes 0 (0x01 ∷ flag ∷ [])) 2 (0x00 ∷ 0x10 ∷ []) ≡ written bytes 0 (0x01 ∷ flag ∷ 0x00 ∷ 0x10 ∷ [])
+    written (written bytes 0 (0x02 ∷ flag ∷ [])) 2 (0x01 ∷ 0x14 ∷ []) ≡ written bytes 0 (0x02 ∷ flag ∷ 0x01 ∷ 0x14 ∷ [])
 unfolding written
 opening-stored bytes flag = refl
 
@@ -31,17 +31,19 @@ unfolding written stored
 geometry-stored bytes c s b v w = refl
 
 pub record-stored :
-    (bytes : List ℕ) (i : Bool) (g : Geometry) (y : ℕ) →
-    with16 (written (written bytes 0 (openingBytes i)) 4 (geometryBytes g)) 14 y
-    ≡ written bytes 0 (openingBytes i ++ geometryBytes g ++ twoBytes y)
+    (bytes : List ℕ) (i : Bool) (g : Geometry) (y n : ℕ) (ts : List ℕ) →
+    written
+    (with16 (written (with16 (written (written bytes 0 (openingBytes i)) 4 (geometryBytes g)) 14 y) 16 (0x00 ∷ 0x00 ∷ [])) 18 n)
+    20 (trackBytes ts)
+    ≡ written bytes 0 (openingBytes i ++ geometryBytes g ++ twoBytes y ++ (0x00 ∷ 0x00 ∷ []) ++ twoBytes n ++ trackBytes ts)
 unfolding written stored
-record-stored bytes i g y = refl
+record-stored bytes i g y n ts = refl
 
 -- An outcome, in the same way.
 pub outcome-stored :
     (bytes : List ℕ) (answer failed blocks sectors : ℕ) →
     with32
-    (with32 (written (written (with32 bytes 0 0x01000010) 4 (answer ∷ failed ∷ [])) 6 (0x00 ∷ 0x00 ∷ [])) 8 blocks)
+    (with32 (written (written (with32 bytes 0 0x02000010) 4 (answer ∷ failed ∷ [])) 6 (0x00 ∷ 0x00 ∷ [])) 8 blocks)
     12 sectors
     ≡ written bytes 0 (outcomeBytes answer failed blocks sectors)
 unfolding written stored

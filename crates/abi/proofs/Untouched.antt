@@ -1,26 +1,31 @@
 -- The bytes of a record are stored only where a block changed the record: those of any other come back as they were, also from a call
--- that is refused. A run keeps the record of a unit of which it writes none, and a record that is the same is left as it came.
-use Prim.Native.Nat.{ℕ}
+-- that is refused. A run keeps the record of a unit of which it writes none, a record that is the same is left as it came, and a store goes no
+-- further than the pairs that count.
+use Prim.Native.Nat.{ℕ, _+_, _*_, _≤_, min}
+use mathlib.Core.List.{List}
 use mathlib.Core.Logic.{by-cases}
-use mathlib.Core.Path.{_≡_, refl, sym, ap}
+use mathlib.Core.Path.{_≡_, refl, sym, ap, _∙_}
 use native.Mathlib.Decide.{decLe}
 use native.Mathlib.Omega.{arith}
-use lib.ListN.{length}
+use lib.ListN.{getD, length}
 use Rattle.request.specs.declared.UnitNumber.the-variants.{Zero, One}
-use Rattle.unit.specs.Standing.{UnitRecord, byValue}
+use Rattle.unit.specs.Standing.{UnitRecord, pairs, table}
 use Rattle.demands.specs.Footprint.{RunWritesRecord}
 use Rattle.demands.proofs.Keeps.{run-keeps-record}
-use Rattle.abi.specs.Calls.{Called, Lent, called, calledOf, made, worldIn}
+use Rattle.abi.specs.Calls.{Called, Lent, called, calledOf, made, recordLeft, standsIn?, worldIn}
+use Rattle.abi.specs.Layouts.{recordBytes}
 use Rattle.abi.proofs.Called.{called-made, called-refused-0, called-refused-1, called-refused-2}
-use Rattle.abi.proofs.Left.{left-as-it-came}
+use Rattle.abi.proofs.Laws.{record-length}
+use Rattle.abi.proofs.Left.{left-anew, left-as-it-came, stands-as-read}
+use Rattle.abi.proofs.Tracks.{past-written}
 
 module _ (first allowance : ℕ) (l : Lent) where
   -- What is true of a call that changes nothing and of one that is made is true of every call.
   every-call : (P : Called → Type 0) → ((code : ℕ) → P (calledOf code l)) → P (made first allowance l) → P (called first allowance l)
   every-call P refused run =
-      by-cases (decLe 16 (length (l .record0)))
+      by-cases (decLe 276 (length (l .record0)))
       (λ fits0.
-      by-cases (decLe 16 (length (l .record1)))
+      by-cases (decLe 276 (length (l .record1)))
       (λ fits1.
       by-cases (decLe 16 (length (l .outcome))) (λ fits. rw (called-made first allowance l fits0 fits1 fits) run)
       (λ short. rw (called-refused-2 first allowance l fits0 fits1 (omega arith)) (refused _)))
@@ -31,10 +36,20 @@ module _ (first allowance : ℕ) (l : Lent) where
       (RunWritesRecord first allowance (worldIn l) Zero → ⊥) → called first allowance l .lent .record0 ≡ l .record0
   record0-comes-back none =
       every-call (λ c. c .lent .record0 ≡ l .record0) (λ code. refl)
-      (left-as-it-came (l .record0) _ (ap (λ (u : UnitRecord). byValue u) (sym (run-keeps-record first allowance (worldIn l) Zero none))))
+      (left-as-it-came (l .record0) _ (stands-as-read (l .record0) (sym (run-keeps-record first allowance (worldIn l) Zero none))))
 
   pub record1-comes-back :
       (RunWritesRecord first allowance (worldIn l) One → ⊥) → called first allowance l .lent .record1 ≡ l .record1
   record1-comes-back none =
       every-call (λ c. c .lent .record1 ≡ l .record1) (λ code. refl)
-      (left-as-it-came (l .record1) _ (ap (λ (u : UnitRecord). byValue u) (sym (run-keeps-record first allowance (worldIn l) One none))))
+      (left-as-it-came (l .record1) _ (stands-as-read (l .record1) (sym (run-keeps-record first allowance (worldIn l) One none))))
+
+-- Of a record that is stored, the bytes past the pairs that count are as they came.
+pub past-the-pairs-as-they-came :
+    (bytes : List ℕ) (u : UnitRecord) → length (table u) ≡ 64 → (i : ℕ) → 20 + 8 * min (pairs u) 32 ≤ i →
+    getD (recordLeft bytes u) i 0 ≡ getD bytes i 0
+past-the-pairs-as-they-came bytes u long i past =
+    by-cases (standsIn? bytes u) (λ stands. ap (λ (l : List ℕ). getD l i 0) (left-as-it-came bytes u stands))
+    (λ other.
+    ap (λ (l : List ℕ). getD l i 0) (left-anew bytes u other) ∙
+    past-written bytes 0 (recordBytes u) i (omega (arith, record-length u long)))

@@ -1,21 +1,23 @@
 -- What the exported calls do, in bytes: a run and an inspection as board defines them, on records that cross as bytes. A buffer that is
 -- too short for its layout is refused with a code of its own, and nothing is changed.
 use Prim.Native.Nat.{ℕ}
-use mathlib.Core.List.{List}
-use mathlib.Core.Logic.{ite}
-use native.Mathlib.Decide.{decLt}
+use mathlib.Core.List.{List, List-discrete}
+use mathlib.Core.Logic.{ite, Dec·and}
+use mathlib.Core.Path.{_≡_}
+use native.Mathlib.Decide.{decLt, ℕ-discrete}
 use lib.ListN.{length}
 use Rattle.answers.specs.Numbers.{runNumber}
 use Rattle.request.specs.declared.UnitNumber.{UnitNumber}
 use Rattle.request.specs.declared.UnitNumber.the-variants.{Zero, One}
 use Rattle.unit.proofs.Decided.{same?}
-use Rattle.unit.specs.Standing.{UnitRecord, byValue}
+use Rattle.spares.specs.Table.{counted}
+use Rattle.unit.specs.Standing.{UnitRecord, byValue, pairs, table}
 use Rattle.board.specs.declared.inspection.Part.{Part}
 use Rattle.board.specs.Chain.{Ending, ran}
 use Rattle.board.specs.Inspection.{partOf}
 use Rattle.block.specs.Steps.{written}
 use Rattle.block.specs.World.{World}
-use Rattle.abi.specs.Layouts.{endingBytes, outcomeLength, recordBytes, recordIn, recordLength}
+use Rattle.abi.specs.Layouts.{endingBytes, outcomeLength, recordBytes, recordIn, recordLength, tracksIn}
 
 -- All that a caller lends to a run, no two of them overlapping: what a caller in C has to see to.
 pub record Lent : Type 0 where
@@ -67,10 +69,18 @@ worldIn l =
       events = l .events;
     }
 
--- A record's bytes after a run: stored anew where the record is another, its table aside, for which this version has no bytes; and else left
--- as they came, byte for byte.
+-- A record stands in some bytes: all that goes by value, and the tracks of the pairs that count.
+abbrev pub StandsIn : List ℕ → UnitRecord → Type 0
+StandsIn bytes u = (byValue (recordIn bytes) ≡ byValue u) × (counted (pairs u) (tracksIn bytes) ≡ counted (pairs u) (table u))
+
+pub standsIn? : (bytes : List ℕ) (u : UnitRecord) → Dec (StandsIn bytes u)
+standsIn? bytes u =
+    Dec·and (same? (byValue (recordIn bytes)) (byValue u))
+    (List-discrete ℕ-discrete (counted (pairs u) (tracksIn bytes)) (counted (pairs u) (table u)))
+
+-- A record's bytes after a run: as they came, byte for byte, where the record stands in them; and else the record is stored.
 unfoldable pub recordLeft : List ℕ → UnitRecord → List ℕ
-recordLeft bytes u = ite (same? (byValue (recordIn bytes)) (byValue u)) bytes (written bytes 0 (recordBytes u))
+recordLeft bytes u = ite (standsIn? bytes u) bytes (written bytes 0 (recordBytes u))
 
 -- A run that was made: its answer is returned, and the world that it leaves stands in the bytes.
 abbrev pub answered : Lent → Ending → Called

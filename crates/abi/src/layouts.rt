@@ -6,12 +6,14 @@ use unit::Record;
 ghost use mathlib.Core.Bool.{cond};
 ghost use mathlib.Core.List.{[], _∷_};
 ghost use mathlib.Core.Path.{_≡_};
-ghost use Prim.Native.Nat.{_+_, _≤_};
+ghost use Prim.Native.Nat.{_+_, _*_, _≤_, min};
 ghost use lib.ListN.{length};
-ghost use Rattle.abi.specs.Calls.{recordLeft};
-ghost use Rattle.abi.specs.Layouts.{geometryBytes, geometryIn, openingBytes, outcomeBytes, recordBytes, recordIn, volumeBytes, volumeIn};
+ghost use Rattle.abi.specs.Calls.{StandsIn, recordLeft};
+ghost use Rattle.abi.specs.Layouts.{geometryBytes, geometryIn, openingBytes, outcomeBytes, recordBytes, recordIn, saysInitialized, trackBytes, volumeBytes, volumeIn, wordsFrom};
 ghost use Rattle.block.specs.Steps.{written};
-ghost use Rattle.unit.specs.Standing.{byValue, noTracks, unitOf};
+ghost use Rattle.spares.specs.Table.{counted};
+ghost use Rattle.unit.specs.Standing.{byValue, unitOf};
+ghost use Rattle.wire.specs.Promise.{Says};
 
 fn volume(bytes: &[u8], at: usize) -> Volume
     requires { ⌜ at + 2 ≤ length (now bytes) ⌝ }
@@ -33,18 +35,70 @@ fn geometry(bytes: &[u8]) -> Geometry
     )
 }
 
-// The record that stands in some bytes.
+// Whether the record in some bytes says that its unit is initialized.
+fn says_initialized(bytes: &[u8]) -> bool
+    requires { ⌜ 276 ≤ length (now bytes) ⌝ }
+    ensures { λ r. ⌜ r ≡ saysInitialized (now (bytes .entry)) ⌝ }
+{
+    if wire::be32(bytes, 0) != 0x0201_0114 {
+        return false;
+    }
+    wire::be16(bytes, 16) == 0
+}
+
+// The record that stands in some bytes, but for its table.
 pub(crate) fn record(bytes: &[u8]) -> Record
-    requires { ⌜ 16 ≤ length (now bytes) ⌝ }
+    requires { ⌜ 276 ≤ length (now bytes) ⌝ }
     ensures { λ r. ⌜ r ≡ byValue (recordIn (now (bytes .entry))) ⌝ }
 {
-    let opening = wire::be32(bytes, 0);
     Record::new(
-        opening == 0x0101_0010,
+        says_initialized(bytes),
         geometry(bytes),
         wire::be16(bytes, 14),
-        0,
+        wire::be16(bytes, 18),
     )
+}
+
+// Reads the tracks of the pairs that count. With none, no byte is read and the table stays as it is.
+pub(crate) fn read_tracks(bytes: &[u8], pairs: u16, table: &mut [u32; 64])
+    requires { ⌜ 276 ≤ length (now bytes) ⌝ }
+    ensures { λ _. ⌜ now (table .exit) ≡ written (now (table .entry)) 0 (wordsFrom (now (bytes .entry)) 20 (2 * min pairs 32)) ⌝ }
+{
+    let count = 2 * spares::in_room(pairs);
+    let mut i = 0;
+    while i < count {
+        table[i] = wire::be32(bytes, 20 + 4 * i);
+        i += 1;
+    }
+}
+
+// Whether the tracks of the pairs that count stand in some bytes.
+fn holds_tracks(bytes: &[u8], pairs: u16, table: &[u32; 64]) -> bool
+    requires { ⌜ 276 ≤ length (now bytes) ⌝ }
+    ensures { λ r. ⌜ Says r (wordsFrom (now (bytes .entry)) 20 (2 * min pairs 32) ≡ counted pairs (now (table .entry))) ⌝ }
+{
+    // a slice tells its length
+    let tracks = &table[..];
+    let m = 2 * spares::in_room(pairs);
+    let mut k = 0;
+    while k < m {
+        if wire::be32(bytes, 20 + 4 * k) != tracks[k] {
+            return false;
+        }
+        k += 1;
+    }
+    true
+}
+
+// Whether a record stands in some bytes.
+fn stands_in(bytes: &[u8], u: Record, table: &[u32; 64]) -> bool
+    requires { ⌜ 276 ≤ length (now bytes) ⌝ }
+    ensures { λ r. ⌜ Says r (StandsIn (now (bytes .entry)) (unitOf u (now (table .entry)))) ⌝ }
+{
+    if !record(bytes).same(u) {
+        return false;
+    }
+    holds_tracks(bytes, u.pairs(), table)
 }
 
 fn put_two(bytes: &mut [u8], at: usize, first: u8, second: u8)
@@ -72,8 +126,8 @@ fn put_opening(bytes: &mut [u8], initialized: bool)
     requires { ⌜ 16 ≤ length (now bytes) ⌝ }
     ensures { λ _. ⌜ now (bytes .exit) ≡ written (now (bytes .entry)) 0 (openingBytes initialized) ⌝ }
 {
-    put_two(bytes, 0, 0x01, flag(initialized));
-    put_two(bytes, 2, 0x00, 0x10);
+    put_two(bytes, 0, 0x02, flag(initialized));
+    put_two(bytes, 2, 0x01, 0x14);
 }
 
 fn put_geometry(bytes: &mut [u8], g: Geometry)
@@ -87,22 +141,40 @@ fn put_geometry(bytes: &mut [u8], g: Geometry)
     put_volume(bytes, 12, g.volume(VolumeNumber::One));
 }
 
-fn put_record(bytes: &mut [u8], u: Record)
-    requires { ⌜ 16 ≤ length (now bytes) ⌝ }
-    ensures { λ _. ⌜ now (bytes .exit) ≡ written (now (bytes .entry)) 0 (recordBytes (unitOf u noTracks)) ⌝ }
+// Stores the tracks of the pairs that count, and no others: bytes past them stay as they are.
+fn put_tracks(bytes: &mut [u8], table: &[u32; 64], pairs: u16)
+    requires { ⌜ 276 ≤ length (now bytes) ⌝ }
+    ensures { λ _. ⌜ now (bytes .exit) ≡ written (now (bytes .entry)) 20 (trackBytes (counted pairs (now (table .entry)))) ⌝ }
+{
+    // a slice tells its length
+    let tracks = &table[..];
+    let m = 2 * spares::in_room(pairs);
+    let mut i = 0;
+    while i < m {
+        wire::put32(bytes, 20 + 4 * i, tracks[i]);
+        i += 1;
+    }
+}
+
+fn put_record(bytes: &mut [u8], u: Record, table: &[u32; 64])
+    requires { ⌜ 276 ≤ length (now bytes) ⌝ }
+    ensures { λ _. ⌜ now (bytes .exit) ≡ written (now (bytes .entry)) 0 (recordBytes (unitOf u (now (table .entry)))) ⌝ }
 {
     put_opening(bytes, u.initialized());
     put_geometry(bytes, u.geometry());
     wire::put16(bytes, 14, u.cylinder());
+    put_two(bytes, 16, 0x00, 0x00);
+    wire::put16(bytes, 18, u.pairs());
+    put_tracks(bytes, table, u.pairs());
 }
 
 // Stores a record where it is another than the one that stands there.
-pub(crate) fn leave_record(bytes: &mut [u8], u: Record)
-    requires { ⌜ 16 ≤ length (now bytes) ⌝ }
-    ensures { λ _. ⌜ now (bytes .exit) ≡ recordLeft (now (bytes .entry)) (unitOf u noTracks) ⌝ }
+pub(crate) fn leave_record(bytes: &mut [u8], u: Record, table: &[u32; 64])
+    requires { ⌜ 276 ≤ length (now bytes) ⌝ }
+    ensures { λ _. ⌜ now (bytes .exit) ≡ recordLeft (now (bytes .entry)) (unitOf u (now (table .entry))) ⌝ }
 {
-    if !record(bytes).same(u) {
-        put_record(bytes, u);
+    if !stands_in(bytes, u, table) {
+        put_record(bytes, u, table);
     }
 }
 
@@ -110,7 +182,7 @@ pub(crate) fn put_outcome(bytes: &mut [u8], answer: u8, failed: u8, blocks: u32,
     requires { ⌜ 16 ≤ length (now bytes) ⌝ }
     ensures { λ _. ⌜ now (bytes .exit) ≡ written (now (bytes .entry)) 0 (outcomeBytes answer failed blocks sectors) ⌝ }
 {
-    wire::put32(bytes, 0, 0x0100_0010);
+    wire::put32(bytes, 0, 0x0200_0010);
     put_two(bytes, 4, answer, failed);
     put_two(bytes, 6, 0x00, 0x00);
     wire::put32(bytes, 8, blocks);

@@ -11,7 +11,7 @@ ghost use Rattle.abi.specs.Layouts.{outcomeLength, recordLength};
 
 mod layouts;
 
-pub const RECORD_LEN: usize = 16;
+pub const RECORD_LEN: usize = 276;
 
 pub const OUTCOME_LEN: usize = 16;
 
@@ -25,9 +25,9 @@ pub const OUTCOME_SHORT: u32 = 0x1F3;
 // The version of the layouts.
 #[no_mangle]
 pub extern "C" fn vsmd_layout_version() -> u32
-    ensures { λ r. ⌜ r ≡ 1 ⌝ }
+    ensures { λ r. ⌜ r ≡ 2 ⌝ }
 {
-    1
+    2
 }
 
 // The bytes of a record.
@@ -58,15 +58,16 @@ fn run(
     first: u32,
     allowance: u32,
 ) -> u32
-    requires { ⌜ (16 ≤ length (now record0)) × ((16 ≤ length (now record1)) × (16 ≤ length (now outcome))) ⌝ }
+    requires { ⌜ (276 ≤ length (now record0)) × ((276 ≤ length (now record1)) × (16 ≤ length (now outcome))) ⌝ }
     ensures { λ r. ⌜ calledOf r (lentOf (now (host .exit)) (now (image0 .exit)) (now (image1 .exit)) (now (events .exit)) (now (record0 .exit)) (now (record1 .exit)) (now (outcome .exit)))
         ≡ made first allowance (lentOf (now (host .entry)) (now (image0 .entry)) (now (image1 .entry)) (now (events .entry)) (now (record0 .entry)) (now (record1 .entry)) (now (outcome .entry))) ⌝ }
 {
     let zero = layouts::record(record0);
     let one = layouts::record(record1);
-    // a record of this version has no table, and no pair counts
     let mut map0 = [0u32; 64];
     let mut map1 = [0u32; 64];
+    layouts::read_tracks(record0, zero.pairs(), &mut map0);
+    layouts::read_tracks(record1, one.pairs(), &mut map1);
     let done = board::run(
         host,
         image0,
@@ -79,8 +80,8 @@ fn run(
         allowance,
     );
     let units = done.units;
-    layouts::leave_record(record0, units.zero);
-    layouts::leave_record(record1, units.one);
+    layouts::leave_record(record0, units.zero, &map0);
+    layouts::leave_record(record1, units.one, &map1);
     let answer = done.answer;
     let number = answer.number();
     layouts::put_outcome(outcome, number, done.failed, done.blocks, done.sectors);
@@ -159,8 +160,11 @@ pub extern "C" fn vsmd_inspect(
     }
     let zero = layouts::record(record0);
     let one = layouts::record(record1);
-    let map = [0u32; 64];
-    let part = board::part_of(Units { zero, one }, &map, &map, long0, long1, unit, place);
+    let mut map0 = [0u32; 64];
+    let mut map1 = [0u32; 64];
+    layouts::read_tracks(record0, zero.pairs(), &mut map0);
+    layouts::read_tracks(record1, one.pairs(), &mut map1);
+    let part = board::part_of(Units { zero, one }, &map0, &map1, long0, long1, unit, place);
     let which = part.unit;
     *image = image_number(which);
     *at = part.at;

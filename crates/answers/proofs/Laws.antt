@@ -6,7 +6,7 @@ use mathlib.Core.Path.{_≡_, refl, sym, ap, _∙_}
 use native.Mathlib.Omega.{arith}
 use lib.Dec.{eqb}
 use Rattle.answers.specs.declared.Refusal.{Refusal}
-use Rattle.answers.specs.declared.Refusal.the-variants.{CommandUnknown, NotInitialized, UibMisplaced, UibOutsideLimits, VolumeAbsent, CountZero, SectorOutside, ImageShort, ListBad, DataMisplaced, Unreadable}
+use Rattle.answers.specs.declared.Refusal.the-variants.{CommandUnknown, NotInitialized, UibMisplaced, UibOutsideLimits, VolumeAbsent, CountZero, SectorOutside, ImageShort, ListBad, DataMisplaced, Unreadable, TracksTaken, TableFull}
 use Rattle.answers.specs.declared.RunAnswer.{RunAnswer}
 use Rattle.answers.specs.declared.RunAnswer.the-variants.{Done, EventsShort, AllowanceBad, FirstBad, BlockFailed, LinkBad, AllowanceSpent}
 use Rattle.answers.specs.Numbers.{OfABlock, refusalNumber, runNumber}
@@ -23,7 +23,9 @@ refusal n =
     (cond (eqb n 17) ImageShort
     (cond (eqb n 18) ListBad
     (cond (eqb n 19) DataMisplaced
-    Unreadable)))))))))
+    (cond (eqb n 20) Unreadable
+    (cond (eqb n 22) TracksTaken
+    TableFull)))))))))))
 
 refusal-back : (a : Refusal) → refusal (refusalNumber a) ≡ a
 unfolding refusal
@@ -38,6 +40,8 @@ refusal-back ImageShort = refl
 refusal-back ListBad = refl
 refusal-back DataMisplaced = refl
 refusal-back Unreadable = refl
+refusal-back TracksTaken = refl
+refusal-back TableFull = refl
 
 pub refusals-differ : (a b : Refusal) → refusalNumber a ≡ refusalNumber b → a ≡ b
 refusals-differ a b same = sym (refusal-back a) ∙ ap refusal same ∙ refusal-back b
@@ -67,14 +71,16 @@ answers-differ a b same = sym (answer-back a) ∙ ap answer same ∙ answer-back
 
 -- Every answer of a failed block has one of its numbers.
 pub refusals-in-range : (a : Refusal) → OfABlock (refusalNumber a)
-refusals-in-range CommandUnknown = omega arith
-refusals-in-range NotInitialized = omega arith
-refusals-in-range UibMisplaced = omega arith
-refusals-in-range UibOutsideLimits = omega arith
-refusals-in-range VolumeAbsent = omega arith
-refusals-in-range CountZero = omega arith
-refusals-in-range SectorOutside = omega arith
-refusals-in-range ImageShort = omega arith
-refusals-in-range ListBad = omega arith
-refusals-in-range DataMisplaced = omega arith
-refusals-in-range Unreadable = omega arith
+refusals-in-range CommandUnknown = (omega arith, omega arith, λ is. omega arith)
+refusals-in-range NotInitialized = (omega arith, omega arith, λ is. omega arith)
+refusals-in-range UibMisplaced = (omega arith, omega arith, λ is. omega arith)
+refusals-in-range UibOutsideLimits = (omega arith, omega arith, λ is. omega arith)
+refusals-in-range VolumeAbsent = (omega arith, omega arith, λ is. omega arith)
+refusals-in-range CountZero = (omega arith, omega arith, λ is. omega arith)
+refusals-in-range SectorOutside = (omega arith, omega arith, λ is. omega arith)
+refusals-in-range ImageShort = (omega arith, omega arith, λ is. omega arith)
+refusals-in-range ListBad = (omega arith, omega arith, λ is. omega arith)
+refusals-in-range DataMisplaced = (omega arith, omega arith, λ is. omega arith)
+refusals-in-range Unreadable = (omega arith, omega arith, λ is. omega arith)
+refusals-in-range TracksTaken = (omega arith, omega arith, λ is. omega arith)
+refusals-in-range TableFull = (omega arith, omega arith, λ is. omega arith)

@@ -28,6 +28,8 @@ pub enum Refusal {
     ListBad,
     DataMisplaced,
     Unreadable,
+    TracksTaken,
+    TableFull,
 }
 
 // How a block ended.
@@ -54,7 +56,7 @@ impl RunAnswer {
 }
 
 impl Refusal {
-    // The paper's number, 10 to 20.
+    // The papers' number, 10 to 20, 22 and 23.
     pub fn number(self) -> u8
         ensures { λ r. ⌜ r ≡ refusalNumber self ⌝ }
     {
@@ -70,6 +72,8 @@ impl Refusal {
             Refusal::ListBad => 18,
             Refusal::DataMisplaced => 19,
             Refusal::Unreadable => 20,
+            Refusal::TracksTaken => 22,
+            Refusal::TableFull => 23,
         }
     }
 }

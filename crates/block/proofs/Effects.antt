@@ -1,26 +1,29 @@
 -- The stores of a block in their movements: what performing stores, and then the finish.
 -- Bytes stored in a row are written into one buffer; rows follow one another.
 use Prim.Native.Nat.{ℕ, _+_, _*_}
+use mathlib.Core.Bool.{Bool}
 use mathlib.Core.List.{List, [], _∷_, _++_}
 use mathlib.Core.Path.{_≡_, refl, sym, ap, _∙_}
 use lib.IntN.{ℤ}
 use Rattle.answers.specs.declared.BlockAnswer.{BlockAnswer}
 use Rattle.answers.specs.Numbers.{statusOf}
-use Rattle.judge.specs.declared.Leaving.{Leaving}
-use Rattle.judge.specs.declared.Leaving.the-variants.{AsItWas, HeadsAt, HeadsAtLastTried, Fresh}
 use Rattle.judge.specs.declared.Verdict.{Verdict}
 use Rattle.judge.specs.Verdict.{verdict}
 use Rattle.iopb.specs.Ask.{taskOf}
 use Rattle.iopb.specs.Layout.{blockAt}
 use Rattle.iopb.specs.declared.Block.{Block}
 use Rattle.iopb.specs.Errors.{errorByte}
+use Rattle.unit.specs.Standing.{CountsAsInitialized, byValue}
+use Rattle.unit.proofs.Decided.{counts?}
+use Rattle.wire.specs.Promise.{Says}
+use Rattle.wire.proofs.Promises.{says-decided}
 use Rattle.transfer.specs.Stores.{Buffers, Store, after, bytesFrom, eventByte, hostByte}
 use Rattle.transfer.proofs.Stays.{event-bytes-stored, host-bytes-stored}
 use Rattle.transfer.proofs.Stores.{after-append}
-use Rattle.unit.specs.Standing.{UnitRecord, table}
-use Rattle.block.specs.Block.{asking, effectOn, finish, finished, judged, leftBy}
+use Rattle.block.specs.declared.Done.{Done}
+use Rattle.block.specs.Block.{Effect, asking, effectOn, finish, finished, judged}
 use Rattle.block.specs.Events.{entry}
-use Rattle.block.specs.Steps.{three, written}
+use Rattle.block.specs.Steps.{doneOf, three, written}
 use Rattle.block.specs.World.{Drive}
 
 pub host-written :
@@ -69,9 +72,18 @@ pub then-made :
     (ss ts : List Store) (m m′ m″ : Buffers) → m′ ≡ after ss m → m″ ≡ after ts m′ → m″ ≡ after (ss ++ ts) m
 then-made ss ts m m′ m″ one two = two ∙ ap (λ (x : Buffers). after ts x) one ∙ sym (after-append ss ts m)
 
--- What a block leaves of a record has its table as it was.
-pub left-table : (u : UnitRecord) (moved : ℕ) (l : Leaving) → table (leftBy u moved l) ≡ table u
-left-table u moved AsItWas = refl
-left-table u moved (HeadsAt c) = refl
-left-table u moved (HeadsAtLastTried s) = refl
-left-table u moved (Fresh g) = refl
+abbrev tells : Block → Effect → Bool → Done
+tells b e counts =
+    record {
+      unit = byValue (e .unit);
+      counts = counts;
+      answer = e .answer;
+      sectors = e .sectors;
+      linked = b .options .link;
+      link = b .link;
+    }
+
+-- What is returned of a block, with an answer whether its unit counts as initialized then.
+pub told-of-it :
+    (b : Block) (e : Effect) (d : Done) (counts : Bool) → d ≡ tells b e counts → Says counts (CountsAsInitialized (e .unit)) → d ≡ doneOf b e
+told-of-it b e d counts is says = is ∙ ap (tells b e) (says-decided (counts? (e .unit)) counts says)

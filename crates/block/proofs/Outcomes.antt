@@ -5,6 +5,7 @@ use mathlib.Core.List.{List}
 use mathlib.Core.Path.{_≡_, _∙_, sym}
 use denote.Ref.{now}
 use Rattle.wire.specs.Promise.{OneOutcome, OneResult}
+use Rattle.iopb.specs.declared.Block.{Block}
 use Rattle.transfer.specs.Stores.{Buffers}
 use Rattle.block.specs.declared.Done.{Done}
 use Rattle.block.specs.Block.{Effect}
@@ -29,9 +30,9 @@ seen-of : Done → Buffers → List ℕ → Seen
 seen-of d m ts = record { result = d; buffers = m; tracks = ts }
 
 did-once :
-    (e : Effect) (m v w : Buffers) (ts us : List ℕ) (c d : Done) → Did e m v ts c → Did e m w us d → seen-of c v ts ≡ seen-of d w us
+    (b : Block) (e : Effect) (m v w : Buffers) (ts us : List ℕ) (c d : Done) → Did b e m v ts c → Did b e m w us d → seen-of c v ts ≡ seen-of d w us
 unfolding seen-of
-did-once e m v w ts us c d p q = λ i.
+did-once b e m v w ts us c d p q = λ i.
     record {
       result = (p .result ∙ sym (q .result)) i;
       buffers = (p .stored ∙ sym (q .stored)) i;
@@ -40,5 +41,5 @@ did-once e m v w ts us c d p q = λ i.
 
 run-block-once :
     OneOutcome run-block.Post
-    (λ κ x e. seen-of x (three (now (e .0)) (now (e .1 .0)) (now (e .1 .1 .0))) (now (e .1 .1 .1 .1 .0)))
-run-block-once κ a x y e f p q = did-once _ _ _ _ _ _ x y p q
+    (λ κ x e. seen-of x (three (now (e .0)) (now (e .1 .0)) (now (e .1 .1 .0))) (now (e .1 .1 .1 .1 .1 .0)))
+run-block-once κ a x y e f p q = did-once _ _ _ _ _ _ _ x y p q

@@ -14,7 +14,7 @@ use Rattle.request.specs.declared.Buffer.the-variants.{Piece, List as Elements}
 use Rattle.request.specs.declared.Task.{Task}
 use Rattle.request.specs.declared.UnitNumber.{UnitNumber}
 use Rattle.unit.specs.Landing.{spotOf}
-use Rattle.unit.specs.Standing.{UnitRecord, cylinder, fresh, movedTo, table}
+use Rattle.unit.specs.Standing.{UnitRecord, cylinder, fresh, mapped, movedTo}
 use Rattle.transfer.specs.Data.{Transfer, dataOn, formatting, moving, progressOn}
 use Rattle.transfer.specs.Pieces.{joined}
 use Rattle.transfer.specs.Progress.{lastTried}
@@ -26,7 +26,7 @@ use Rattle.iopb.specs.Identity.{identityBytes}
 use Rattle.iopb.specs.Layout.{blockAt}
 use Rattle.memory.specs.Lists.{elementOf}
 use Rattle.judge.specs.declared.Leaving.{Leaving}
-use Rattle.judge.specs.declared.Leaving.the-variants.{AsItWas, HeadsAt, HeadsAtLastTried, Fresh}
+use Rattle.judge.specs.declared.Leaving.the-variants.{AsItWas, HeadsAt, HeadsAtLastTried, Fresh, Mapped}
 use Rattle.judge.specs.declared.Moving.{Moving}
 use Rattle.judge.specs.declared.Moving.the-variants.{Nothing, Sectors, Track}
 use Rattle.judge.specs.declared.Plan.{Plan}
@@ -89,20 +89,22 @@ wordsOf Identity = record { from = 4; bytes = identityBytes }
 wordsOf (Formatted n) = record { from = 7; bytes = (n - 1) ∷ 0x00 ∷ n ∷ [] }
 
 -- The record afterwards, of so many sectors moved. "After 81, 82, A1 or A2 the heads stand on the cylinder of the last sector tried"; "87
--- replaces the unit record; the heads are at cylinder 0."
+-- replaces the unit record; the heads are at cylinder 0"; 85 adds its pair (02, K5).
 abbrev pub leftBy : UnitRecord → ℕ → Leaving → UnitRecord
 leftBy u moved AsItWas = u
 leftBy u moved (HeadsAt c) = movedTo u c
 leftBy u moved (HeadsAtLastTried s) =
     movedTo u (spotOf u (s .volume) (s .first + lastTried moved (s .count)) .cylinder)
-leftBy u moved (Fresh g) = fresh g (table u)
+leftBy u moved (Fresh g) = fresh g
+leftBy u moved (Mapped bad spare) = mapped u bad spare
 
--- "Travel is the new cylinder minus the old one, and zero for 86, 87"
+-- "Travel is the new cylinder minus the old one, and zero for 86, 87"; 85 "moves neither data nor heads" (02, K5).
 abbrev pub travelled : (old : ℕ) → Leaving → (new : ℕ) → ℤ
 travelled old AsItWas new = pos 0
 travelled old (HeadsAt c) new = travelTo old new
 travelled old (HeadsAtLastTried s) new = travelTo old new
 travelled old (Fresh g) new = pos 0
+travelled old (Mapped bad spare) new = pos 0
 
 -- "status 81 and error 00 are stored in the block; then the transfer happens"; the words that are reported come after it.
 abbrev pub begun : ℕ → List Store
@@ -124,7 +126,7 @@ performed host d at plan =
       travel = travelled (cylinder (d .unit)) (plan .leaving) (cylinder unit);
     }
 
--- "For 10 to 19 only the block's word 1 and its event entry change"; travel is "zero for .. a block refused before transfer".
+-- "For 10 to 19", and for 22 and 23 (02, K5), "only the block's word 1 and its event entry change"; travel is "zero for .. a block refused before transfer".
 abbrev pub refused : Drive → Refusal → Performance
 refused d r = record { stores = []; unit = d .unit; answer = BlockAnswer.Failed r; sectors = 0; travel = pos 0 }
 

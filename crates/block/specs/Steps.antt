@@ -1,9 +1,13 @@
 -- What the functions of one block promise, between the code and the definitions of Block.
 use Prim.Native.Nat.{ℕ, _+_, _*_, _≤_}
+use mathlib.Core.Bool.{true, false}
 use mathlib.Core.List.{List, _++_}
+use mathlib.Core.Logic.{ite}
 use mathlib.Core.Path.{_≡_}
 use lib.ListN.{length}
 use lib.Seq.{sets}
+use Rattle.iopb.specs.declared.Block.{Block}
+use Rattle.judge.specs.declared.Leaving.{Leaving}
 use Rattle.judge.specs.declared.Moving.{Moving}
 use Rattle.judge.specs.declared.Moving.the-variants.{Nothing, Sectors, Track}
 use Rattle.judge.specs.declared.Plan.{Plan}
@@ -12,10 +16,14 @@ use Rattle.transfer.specs.Data.{Transfer, dataOn}
 use Rattle.transfer.specs.Stores.{Buffers, Store, after}
 use Rattle.transfer.specs.Whole.{SectorsFit, TrackFits, movedOn}
 use Rattle.block.specs.declared.Done.{Done}
+use Rattle.block.specs.declared.Known.{Known}
+use Rattle.block.specs.declared.Known.the-variants.{Unasked, Counts}
 use Rattle.block.specs.declared.Performed.{Performed}
-use Rattle.block.specs.Block.{Effect, Performance, begun, performed, transferOf}
+use Rattle.block.specs.Block.{Effect, Performance, begun, leftBy, performed, transferOf}
 use Rattle.block.specs.World.{Drive}
-use Rattle.unit.specs.Standing.{UnitRecord, byValue, geometry, table}
+use Rattle.wire.specs.Promise.{Says}
+use Rattle.unit.specs.Standing.{CountsAsInitialized, UnitRecord, byValue, geometry, table}
+use Rattle.unit.proofs.Decided.{counts?}
 
 -- Bytes once some numbers are stored in them one after the other, from an index on.
 unfoldable pub written : List ℕ → ℕ → List ℕ → List ℕ
@@ -53,6 +61,10 @@ pub record Carries (host : List ℕ) (d : Drive) (at : ℕ) (plan : Plan) (host�
   pub result : m ≡ movedOn (d .image) (transferOf host (d .unit) (plan .moving))
   pub stored : Stores (performed host d at plan .stores) host (d .image) host′ image′
 
+-- The table of the record that a block leaves.
+abbrev pub tableBy : UnitRecord → (moved : ℕ) → Leaving → List ℕ
+tableBy u moved l = table (leftBy u moved l)
+
 -- A block was performed.
 abbrev pub performedOf : Performance → Performed
 performedOf p = record { unit = byValue (p .unit); answer = p .answer; sectors = p .sectors; travel = p .travel }
@@ -62,11 +74,25 @@ pub record Performs (p : Performance) (host image host′ image′ ts′ : List 
   pub table : ts′ ≡ table (p .unit)
   pub stored : Stores (p .stores) host image host′ image′
 
-abbrev pub doneOf : Effect → Done
-doneOf e = record { unit = byValue (e .unit); answer = e .answer; sectors = e .sectors }
+-- What is known of a unit before a block is so.
+abbrev pub Knows : Known → UnitRecord → Type 0
+Knows Unasked u = Unit {0}
+Knows (Counts b) u = Says b (CountsAsInitialized u)
+
+-- What is returned of a block, with the answer whether its unit counts as initialized now, and its link.
+abbrev pub doneOf : Block → Effect → Done
+doneOf b e =
+    record {
+      unit = byValue (e .unit);
+      counts = ite (counts? (e .unit)) true false;
+      answer = e .answer;
+      sectors = e .sectors;
+      linked = b .options .link;
+      link = b .link;
+    }
 
 -- A block's effect is what was done: what is returned, the table, and every byte.
-pub record Did (e : Effect) (m m′ : Buffers) (ts′ : List ℕ) (d : Done) : Type 0 where
-  pub result : d ≡ doneOf e
+pub record Did (b : Block) (e : Effect) (m m′ : Buffers) (ts′ : List ℕ) (d : Done) : Type 0 where
+  pub result : d ≡ doneOf b e
   pub table : ts′ ≡ table (e .unit)
   pub stored : m′ ≡ after (e .stores) m

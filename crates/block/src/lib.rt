@@ -30,20 +30,30 @@ ghost use Rattle.judge.specs.declared.Report.{Report};
 ghost use Rattle.judge.specs.Fits.{JobGood, LeavingFits, MovingFits, PlanFits, ReportFits, SpanGood};
 ghost use Rattle.request.specs.declared.Buffer.{Buffer};
 ghost use Rattle.block.specs.Block.{effectOn, finish, leftBy, performed, refused, transferOf, transferWith, travelled, wordsOf};
-ghost use Rattle.block.specs.Steps.{Carries, Did, Made, Performs, Ready, Room, driveWith, performedOf, three, written};
+ghost use Rattle.block.specs.Steps.{Carries, Did, Knows, Made, Performs, Ready, Room, driveWith, performedOf, tableBy, three, written};
 ghost use Rattle.transfer.specs.Progress.{lastTried};
 ghost use Rattle.transfer.specs.Runs.{pieceByte};
 ghost use Rattle.transfer.specs.Stores.{after};
 ghost use Rattle.unit.specs.Landing.{spotOf};
-ghost use Rattle.unit.specs.Standing.{bare, byValue, cylinder, geometry, unitOf};
+ghost use Rattle.wire.specs.Promise.{Says};
+ghost use Rattle.unit.specs.Standing.{CountsAsInitialized, UnitRecord, bare, byValue, cylinder, geometry, unitOf};
 
 mod events;
 
-// What a block came to.
+// Whether a unit counts as initialized, where that has been asked before: a table of many pairs is long to look through.
+pub enum Known {
+    Unasked,
+    Counts(bool),
+}
+
+// What a block came to: what it leaves of its unit's record, and whether that counts as initialized now; and what the block said of the next.
 pub struct Done {
     pub unit: Record,
+    pub counts: bool,
     pub answer: BlockAnswer,
     pub sectors: u16,
+    pub linked: bool,
+    pub link: u32,
 }
 
 // What performing a block came to: what it leaves of the record, and what is left to be told of it.
@@ -297,6 +307,33 @@ fn left(u: Record, table: &[u32; 64], leaving: Leaving, sectors: u16) -> Record
         Leaving::HeadsAt(cylinder) => u.moved_to(cylinder),
         Leaving::HeadsAtLastTried(span) => u.moved_to(last_tried(u, table, span, sectors)),
         Leaving::Fresh(g) => Record::fresh(g),
+        Leaving::Mapped(_, _) => u.one_pair_more(),
+    }
+}
+
+// The unit's table with it: a new record has none of its pairs, and a pair more stands at the end.
+fn leave_table(u: Record, table: &mut [u32; 64], leaving: Leaving)
+    ensures { λ _. ⌜ ((moved : ℕ) → now (table .exit) ≡ tableBy (unitOf u (now (table .entry))) moved leaving) ⌝ }
+{
+    match leaving {
+        Leaving::AsItWas => {}
+        Leaving::HeadsAt(_) => {}
+        Leaving::HeadsAtLastTried(_) => {}
+        Leaving::Fresh(_) => *table = [0; 64],
+        Leaving::Mapped(bad, spare) => spares::add(table, u.pairs(), bad, spare),
+    }
+}
+
+// Whether the unit counts as initialized then, told without a look at its table.
+fn counts_then(counts: bool, leaving: Leaving) -> bool
+    ensures { λ r. ⌜ ((u : UnitRecord) (moved : ℕ) → Says counts (CountsAsInitialized u) → LeavingFits u leaving → Says r (CountsAsInitialized (leftBy u moved leaving))) ⌝ }
+{
+    match leaving {
+        Leaving::AsItWas => counts,
+        Leaving::HeadsAt(_) => counts,
+        Leaving::HeadsAtLastTried(_) => counts,
+        Leaving::Fresh(_) => true,
+        Leaving::Mapped(_, _) => counts,
     }
 }
 
@@ -309,6 +346,7 @@ fn gone(u: Record, leaving: Leaving, new: Record) -> i32
         Leaving::HeadsAt(_) => travel(u.cylinder(), new.cylinder()),
         Leaving::HeadsAtLastTried(_) => travel(u.cylinder(), new.cylinder()),
         Leaving::Fresh(_) => 0,
+        Leaving::Mapped(_, _) => 0,
     }
 }
 
@@ -346,6 +384,7 @@ fn perform(
     let leaving = plan.leaving;
     let m = carry_and_report(host, image, u, table, at, plan);
     let unit = left(u, table, leaving, m.sectors);
+    leave_table(u, table, leaving);
     let answer = m.answer;
     Performed {
         unit,
@@ -368,19 +407,42 @@ fn refuse(u: Record, r: Refusal) -> Performed
 }
 
 // The one end of every block: the final status and error, and the event entry.
-fn finish(host: &mut [u8], events: &mut [u8], b: Block, at: usize, i: usize, p: Performed) -> Done
+fn finish(
+    host: &mut [u8],
+    events: &mut [u8],
+    b: Block,
+    at: usize,
+    i: usize,
+    p: Performed,
+    counts: bool,
+) -> Done
     requires { ⌜ Room (now host) (now events) at i ⌝ }
-    ensures result { λ d. ⌜ d ≡ record { unit = p .unit; answer = p .answer; sectors = p .sectors } ⌝ }
+    ensures result { λ d. ⌜ d ≡ record { unit = p .unit; counts = counts; answer = p .answer; sectors = p .sectors; linked = b .options .link; link = b .link } ⌝ }
     ensures stored { λ _. ⌜ ((image : List ℕ) → three (now (host .exit)) image (now (events .exit)) ≡ after (finish b at i (p .answer) (p .travel)) (three (now (host .entry)) image (now (events .entry)))) ⌝ }
 {
     let answer = p.answer;
     let unit = p.unit;
+    let options = b.options;
     put_status(host, at, answer.status(), iopb::error_byte(answer));
     put_event(events, i, b, answer, p.travel);
     Done {
         unit,
+        counts,
         answer,
         sectors: p.sectors,
+        linked: options.link,
+        link: b.link,
+    }
+}
+
+// Whether a unit counts as initialized, asked where it is not known.
+fn settled(known: Known, u: Record, table: &[u32; 64]) -> bool
+    requires { ⌜ Knows known (unitOf u (now table)) ⌝ }
+    ensures { λ r. ⌜ Says r (CountsAsInitialized (unitOf u (now (table .entry)))) ⌝ }
+{
+    match known {
+        Known::Unasked => u.counts_as_initialized(table),
+        Known::Counts(counts) => counts,
     }
 }
 
@@ -390,23 +452,28 @@ pub fn run_block(
     image: &mut [u8],
     events: &mut [u8],
     u: Record,
+    known: Known,
     table: &mut [u32; 64],
-    b: Block,
     at: usize,
     i: usize,
 ) -> Done
-    requires { ⌜ Room (now host) (now events) at i × (b ≡ blockAt (now host) at) ⌝ }
-    ensures { λ d. ⌜ Did (effectOn (now (host .entry)) (driveWith (unitOf u (now (table .entry))) (now (image .entry))) at i) (three (now (host .entry)) (now (image .entry)) (now (events .entry))) (three (now (host .exit)) (now (image .exit)) (now (events .exit))) (now (table .exit)) d ⌝ }
+    requires { ⌜ Room (now host) (now events) at i × Knows known (unitOf u (now table)) ⌝ }
+    ensures { λ d. ⌜ Did (blockAt (now (host .entry)) at) (effectOn (now (host .entry)) (driveWith (unitOf u (now (table .entry))) (now (image .entry))) at i) (three (now (host .entry)) (now (image .entry)) (now (events .entry))) (three (now (host .exit)) (now (image .exit)) (now (events .exit))) (now (table .exit)) d ⌝ }
 {
+    let b = Block::read(host, at);
+    let counts = settled(known, u, table);
     let standing = Standing {
         record: u,
+        counts,
         image: image.len(),
     };
     match judge::judge(iopb::request(b, host), standing, table, host) {
-        Verdict::Refused(r) => finish(host, events, b, at, i, refuse(u, r)),
+        Verdict::Refused(r) => finish(host, events, b, at, i, refuse(u, r), counts),
         Verdict::Do(plan) => {
+            let leaving = plan.leaving;
+            let then = counts_then(counts, leaving);
             let p = perform(host, image, u, table, at, plan);
-            finish(host, events, b, at, i, p)
+            finish(host, events, b, at, i, p, then)
         }
     }
 }

@@ -20,20 +20,19 @@ use Rattle.transfer.specs.Stores.{Buffers}
 use Rattle.board.specs.declared.Units.{Units}
 use Rattle.block.specs.declared.Done.{Done}
 use Rattle.board.specs.declared.chain.Count.{Count}
+use Rattle.board.specs.declared.chain.Learnt.{Learnt}
 use Rattle.board.specs.declared.chain.Outcome.{Outcome}
 use Rattle.board.specs.declared.chain.Stepped.{Stepped}
-use Rattle.block.specs.Block.{effectAt, effectOn, unitAt, worldAfter}
+use Rattle.block.specs.declared.Known.the-variants.{Counts}
+use Rattle.block.specs.Block.{Effect, effectAt, effectOn, unitAt, worldAfter}
 use Rattle.board.specs.Chain.{Ending, Tally, ends, executed, fetched}
-use Rattle.board.specs.Steps.{CameTo, Spare, SteppedTo, countedOf, endedOf, tallyOf}
-use Rattle.block.specs.Steps.{Did}
+use Rattle.board.specs.Steps.{CameTo, Spare, SteppedTo, countedOf, endedOf, tallyOf, wentOf}
+use Rattle.block.specs.Steps.{Did, Knows}
 use Rattle.unit.specs.Standing.{unitOf}
+use Rattle.unit.proofs.Decided.{counts?}
+use Rattle.wire.proofs.Promises.{decided-says}
 use Rattle.block.specs.World.{World, buffersOf, changed, driveOf}
 use Rattle.board.specs.Lent.{worldOf}
-
--- What a chain goes by, of a block that came to d.
-abbrev pub steppedOf : Block → Done → Units → Stepped
-steppedOf b d units =
-    record { units = units; answer = d .answer; sectors = d .sectors; linked = b .options .link; link = b .link }
 
 module _ (w : World) (at i : ℕ) (n : UnitNumber) (named : unitAt w at ≡ n) where
   effect-named : effectAt at i w ≡ effectOn (w .host) (driveOf w n) at i
@@ -41,11 +40,11 @@ module _ (w : World) (at i : ℕ) (n : UnitNumber) (named : unitAt w at ≡ n) w
   effect-named = ap (λ (x : UnitNumber). effectOn (w .host) (driveOf w x) at i) named
 
   step-made :
-      (m : Buffers) (ts : List ℕ) (d : Done) (units : Units) →
-      Did (effectOn (w .host) (driveOf w n) at i) (buffersOf w n) m ts d →
-      SteppedTo w at i (changed w n m (unitOf (d .unit) ts)) (steppedOf (blockAt (w .host) at) d units)
+      (m : Buffers) (ts : List ℕ) (d : Done) (units : Units) (l : Learnt) →
+      Did (blockAt (w .host) at) (effectOn (w .host) (driveOf w n) at i) (buffersOf w n) m ts d →
+      SteppedTo w at i (changed w n m (unitOf (d .unit) ts)) (wentOf d units l .stepped)
   unfolding worldAfter
-  step-made m ts d units did =
+  step-made m ts d units l did =
       rw (did .result, did .table, did .stored)
       (record {
         world = rw (effect-named, named);
@@ -55,14 +54,18 @@ module _ (w : World) (at i : ℕ) (n : UnitNumber) (named : unitAt w at ≡ n) w
         link = refl;
       })
 
--- The same with the block as it was read and the unit as it was told: it is the unit of the block's request.
+-- The same with the unit as it was told: it is the unit of the block's request.
 pub step-by :
-    (w : World) (at i : ℕ) (b : Block) (x n : UnitNumber) → b ≡ blockAt (w .host) at → x ≡ ask.unitOf b → x ≡ n →
-    (m : Buffers) (ts : List ℕ) (d : Done) (units : Units) → Did (effectOn (w .host) (driveOf w n) at i) (buffersOf w n) m ts d →
-    SteppedTo w at i (changed w n m (unitOf (d .unit) ts)) (steppedOf b d units)
-step-by w at i b x n read asks is m ts d units did =
-    let named : unitAt w at ≡ n = ap ask.unitOf (sym read) ∙ sym asks ∙ is in
-    rw read (step-made w at i n named m ts d units did)
+    (w : World) (at i : ℕ) (x n : UnitNumber) → x ≡ ask.unitOf (blockAt (w .host) at) → x ≡ n →
+    (m : Buffers) (ts : List ℕ) (d : Done) (units : Units) (l : Learnt) →
+    Did (blockAt (w .host) at) (effectOn (w .host) (driveOf w n) at i) (buffersOf w n) m ts d →
+    SteppedTo w at i (changed w n m (unitOf (d .unit) ts)) (wentOf d units l .stepped)
+step-by w at i x n asks is m ts d units l did = step-made w at i n (sym asks ∙ is) m ts d units l did
+
+-- Whether its unit counts as initialized then, a block tells.
+pub told-then :
+    (b : Block) (e : Effect) (m m′ : Buffers) (ts : List ℕ) (d : Done) → Did b e m m′ ts d → Knows (Counts (d .counts)) (unitOf (d .unit) ts)
+told-then b e m m′ ts d did = rw (did .result, did .table) (decided-says (counts? (e .unit)))
 
 -- ---- what follows a block
 

@@ -7,13 +7,18 @@ use Rattle.wire.specs.Memory.{InMemory}
 use Rattle.answers.specs.declared.RunAnswer.{RunAnswer}
 use Rattle.iopb.specs.Layout.{blockAt}
 use Rattle.block.specs.Block.{effectAt, worldAfter}
-use Rattle.unit.specs.Standing.{byValue}
+use Rattle.block.specs.declared.Done.{Done}
+use Rattle.block.specs.declared.Known.the-variants.{Unasked}
+use Rattle.block.specs.Steps.{Knows}
+use Rattle.unit.specs.Standing.{UnitRecord, byValue}
 use Rattle.block.specs.World.{World}
 use Rattle.board.specs.declared.Units.{Units}
 use Rattle.board.specs.declared.chain.Count.{Count}
+use Rattle.board.specs.declared.chain.Learnt.{Learnt}
 use Rattle.board.specs.declared.chain.Outcome.{Outcome}
 use Rattle.board.specs.declared.chain.Single.{Single}
 use Rattle.board.specs.declared.chain.Single.the-variants.{Ran, NoRoom}
+use Rattle.board.specs.declared.chain.Went.{Went}
 use Rattle.board.specs.declared.chain.Stepped.{Stepped}
 use Rattle.board.specs.Chain.{Ending, Tally}
 use Rattle.board.specs.Lent.{worldOf}
@@ -25,6 +30,24 @@ pub record SteppedTo (w : World) (at i : ℕ) (w′ : World) (s : Stepped) : Typ
   pub sectors : s .sectors ≡ effectAt at i w .sectors
   pub linked : s .linked ≡ blockAt (w .host) at .options .link
   pub link : s .link ≡ blockAt (w .host) at .link
+
+-- What a chain has learnt of the two units is so.
+abbrev pub KnowsBoth : Learnt → (zero one : UnitRecord) → Type 0
+KnowsBoth l zero one = Knows (l .zero) zero × Knows (l .one) one
+
+pub record SteppedOn (w : World) (at i : ℕ) (w′ : World) (s : Went) : Type 0 where
+  pub to : SteppedTo w at i w′ (s .stepped)
+  pub knows : KnowsBoth (s .learnt) (w′ .drive0 .unit) (w′ .drive1 .unit)
+
+abbrev pub wentOf : Done → Units → Learnt → Went
+wentOf d units learnt =
+    record {
+      stepped = record { units = units; answer = d .answer; sectors = d .sectors; linked = d .linked; link = d .link };
+      learnt = learnt;
+    }
+
+abbrev pub nothingLearnt : Learnt
+nothingLearnt = record { zero = Unasked; one = Unasked }
 
 -- A chain that has come to its end: what is returned, and the world.
 abbrev pub outcomeOf : Ending → Outcome

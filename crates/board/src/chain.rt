@@ -3,16 +3,18 @@ use crate::Units;
 use answers::BlockAnswer;
 use answers::Refusal;
 use answers::RunAnswer;
+use block::Done;
+use block::Known;
 use block::run_block;
-use iopb::Block;
 use request::UnitNumber;
 ghost use mathlib.Core.Path.{_≡_};
 ghost use Prim.Native.Nat.{_+_, _*_, _≤_};
 ghost use lib.ListN.{length};
 ghost use Rattle.board.specs.Chain.{executed, fetched, ran};
-ghost use Rattle.board.specs.Steps.{CameTo, RanOne, Spare, SteppedTo, countedOf, endedOf, nothingCounted, tallyOf};
+ghost use Rattle.board.specs.Steps.{CameTo, KnowsBoth, RanOne, Spare, SteppedOn, countedOf, endedOf, nothingCounted, nothingLearnt, wentOf, tallyOf};
 ghost use Rattle.block.specs.Steps.{Room};
 ghost use Rattle.board.specs.Lent.{worldOf};
+ghost use Rattle.unit.specs.Standing.{unitOf};
 ghost use Rattle.wire.specs.Memory.{InMemory};
 ghost use Rattle.wire.specs.Promise.{Says};
 ghost use Rattle.answers.specs.declared.RunAnswer.{RunAnswer};
@@ -25,6 +27,18 @@ pub struct Stepped {
     pub sectors: u16,
     pub linked: bool,
     pub link: u32,
+}
+
+// Of which units a chain knows whether they count as initialized. It asks once, where a block names the unit, and every block tells anew.
+pub(crate) struct Learnt {
+    pub zero: Known,
+    pub one: Known,
+}
+
+// A block of a chain: what the chain goes by after it, and what it has learnt.
+pub(crate) struct Went {
+    pub stepped: Stepped,
+    pub learnt: Learnt,
 }
 
 // The blocks run and the sectors moved so far.
@@ -42,8 +56,8 @@ pub struct Outcome {
     pub units: Units,
 }
 
-// One block of a chain, on the drive of its request's unit. The request itself is made below, since what stands here stays on the stack while
-// the rest of the chain runs.
+// One block of a chain, on the drive of its request's unit. The block itself is read below, since what stands here stays on the stack while the
+// rest of the chain runs.
 pub(crate) fn step(
     host: &mut [u8],
     image0: &mut [u8],
@@ -52,41 +66,66 @@ pub(crate) fn step(
     map0: &mut [u32; 64],
     map1: &mut [u32; 64],
     units: Units,
+    learnt: Learnt,
     at: usize,
     i: usize,
-) -> Stepped
-    requires { ⌜ Room (now host) (now events) at i ⌝ }
-    ensures { λ s. ⌜ SteppedTo (worldOf (now (host .entry)) (now (image0 .entry)) (now (image1 .entry)) (now (events .entry)) (now (map0 .entry)) (now (map1 .entry)) units) at i (worldOf (now (host .exit)) (now (image0 .exit)) (now (image1 .exit)) (now (events .exit)) (now (map0 .exit)) (now (map1 .exit)) (s .units)) s ⌝ }
+) -> Went
+    requires { ⌜ Room (now host) (now events) at i × KnowsBoth learnt (unitOf (units .zero) (now map0)) (unitOf (units .one) (now map1)) ⌝ }
+    ensures { λ s. ⌜ SteppedOn (worldOf (now (host .entry)) (now (image0 .entry)) (now (image1 .entry)) (now (events .entry)) (now (map0 .entry)) (now (map1 .entry)) units) at i (worldOf (now (host .exit)) (now (image0 .exit)) (now (image1 .exit)) (now (events .exit)) (now (map0 .exit)) (now (map1 .exit)) (s .stepped .units)) s ⌝ }
 {
-    let b = Block::read(host, at);
-    let options = b.options;
     let zero = units.zero;
     let one = units.one;
-    match iopb::unit(b) {
+    let of_zero = learnt.zero;
+    let of_one = learnt.one;
+    match iopb::unit_at(host, at) {
         UnitNumber::Zero => {
-            let done = run_block(host, image0, events, zero, map0, b, at, i);
-            let unit = done.unit;
-            let answer = done.answer;
-            Stepped {
-                units: Units { zero: unit, one },
-                answer,
-                sectors: done.sectors,
-                linked: options.link,
-                link: b.link,
-            }
+            let done = run_block(host, image0, events, zero, of_zero, map0, at, i);
+            let zero = done.unit;
+            went_on(
+                done,
+                Units { zero, one },
+                Learnt {
+                    zero: Known::Counts(done.counts),
+                    one: of_one,
+                },
+            )
         }
         UnitNumber::One => {
-            let done = run_block(host, image1, events, one, map1, b, at, i);
-            let unit = done.unit;
-            let answer = done.answer;
-            Stepped {
-                units: Units { zero, one: unit },
-                answer,
-                sectors: done.sectors,
-                linked: options.link,
-                link: b.link,
-            }
+            let done = run_block(host, image1, events, one, of_one, map1, at, i);
+            let one = done.unit;
+            went_on(
+                done,
+                Units { zero, one },
+                Learnt {
+                    zero: of_zero,
+                    one: Known::Counts(done.counts),
+                },
+            )
         }
+    }
+}
+
+fn went_on(done: Done, units: Units, learnt: Learnt) -> Went
+    ensures { λ s. ⌜ s ≡ wentOf done units learnt ⌝ }
+{
+    let answer = done.answer;
+    let stepped = Stepped {
+        units,
+        answer,
+        sectors: done.sectors,
+        linked: done.linked,
+        link: done.link,
+    };
+    Went { stepped, learnt }
+}
+
+// What a chain knows before its first block.
+fn unasked() -> Learnt
+    ensures { λ r. ⌜ r ≡ nothingLearnt ⌝ }
+{
+    Learnt {
+        zero: Known::Unasked,
+        one: Known::Unasked,
     }
 }
 
@@ -125,11 +164,12 @@ fn fetch(
     map0: &mut [u32; 64],
     map1: &mut [u32; 64],
     units: Units,
+    learnt: Learnt,
     at: u32,
     left: u32,
     count: Count,
 ) -> Outcome
-    requires { ⌜ Spare (now events) left (tallyOf count) ⌝ }
+    requires { ⌜ Spare (now events) left (tallyOf count) × KnowsBoth learnt (unitOf (units .zero) (now map0)) (unitOf (units .one) (now map1)) ⌝ }
     ensures { λ r. ⌜ CameTo (fetched left (tallyOf count) at (worldOf (now (host .entry)) (now (image0 .entry)) (now (image1 .entry)) (now (events .entry)) (now (map0 .entry)) (now (map1 .entry)) units)) (worldOf (now (host .exit)) (now (image0 .exit)) (now (image1 .exit)) (now (events .exit)) (now (map0 .exit)) (now (map1 .exit)) (r .units)) r ⌝ }
 {
     if left == 0 {
@@ -146,6 +186,7 @@ fn fetch(
         map0,
         map1,
         units,
+        learnt,
         at,
         left - 1,
         count,
@@ -161,14 +202,15 @@ fn execute(
     map0: &mut [u32; 64],
     map1: &mut [u32; 64],
     units: Units,
+    learnt: Learnt,
     at: u32,
     left: u32,
     count: Count,
 ) -> Outcome
-    requires { ⌜ InMemory (now host) at 28 × Spare (now events) (left + 1) (tallyOf count) ⌝ }
+    requires { ⌜ InMemory (now host) at 28 × Spare (now events) (left + 1) (tallyOf count) × KnowsBoth learnt (unitOf (units .zero) (now map0)) (unitOf (units .one) (now map1)) ⌝ }
     ensures { λ r. ⌜ CameTo (executed (fetched left) (tallyOf count) at (worldOf (now (host .entry)) (now (image0 .entry)) (now (image1 .entry)) (now (events .entry)) (now (map0 .entry)) (now (map1 .entry)) units)) (worldOf (now (host .exit)) (now (image0 .exit)) (now (image1 .exit)) (now (events .exit)) (now (map0 .exit)) (now (map1 .exit)) (r .units)) r ⌝ }
 {
-    let s = step(
+    let step = step(
         host,
         image0,
         image1,
@@ -176,9 +218,12 @@ fn execute(
         map0,
         map1,
         units,
+        learnt,
         at as usize,
         count.blocks as usize,
     );
+    let s = step.stepped;
+    let learnt = step.learnt;
     let units = s.units;
     let answer = s.answer;
     let count = counted(count, s.sectors);
@@ -194,6 +239,7 @@ fn execute(
                     map0,
                     map1,
                     units,
+                    learnt,
                     s.link,
                     left,
                     count,
@@ -272,6 +318,7 @@ pub fn run(
         map0,
         map1,
         units,
+        unasked(),
         first,
         allowance,
         nothing(),
@@ -304,7 +351,7 @@ pub fn run_one(
     if (events.len() as u64) < 8 * (i as u64) + 8 {
         return Single::NoRoom;
     }
-    Single::Ran(step(
+    let step = step(
         host,
         image0,
         image1,
@@ -312,7 +359,10 @@ pub fn run_one(
         map0,
         map1,
         units,
+        unasked(),
         at as usize,
         i as usize,
-    ))
+    );
+    let stepped = step.stepped;
+    Single::Ran(stepped)
 }

@@ -9,7 +9,7 @@ use Rattle.answers.specs.Numbers.{statusOf}
 use Rattle.geometry.specs.Drive.{C}
 use Rattle.iopb.specs.Errors.{errorByte}
 use Rattle.judge.specs.declared.Leaving.{Leaving}
-use Rattle.judge.specs.declared.Leaving.the-variants.{AsItWas, HeadsAt, HeadsAtLastTried, Fresh}
+use Rattle.judge.specs.declared.Leaving.the-variants.{AsItWas, HeadsAt, HeadsAtLastTried, Fresh, Mapped}
 use Rattle.judge.specs.declared.Verdict.{Verdict}
 use Rattle.judge.specs.declared.Verdict.the-variants.{Refused, Do}
 use Rattle.judge.specs.Fits.{LeavingFits}
@@ -47,6 +47,7 @@ module _ (v : Visit) where
       below u (spotOf u (s .volume) last .cylinder) (fits .0)
       (spot-inside u (s .volume) last (omega (arith, fits .1 .some, fits .1 .inside)) .cylinder)
   in-range u moved (Fresh g) fits = nowhere
+  in-range u moved (Mapped bad spare) fits = nowhere
 
   by-verdict : (verd : Verdict) → verdictOf v ≡ verd → InRange (performance v .travel)
   by-verdict (Refused r) is = rw is nowhere

@@ -20,7 +20,7 @@ use Rattle.demands.specs.Footprint.{Renews, RunNames, RunWrites, RunWrit
 use Rattle.demands.proofs.Written.{effect-is, event-written-exactly, host-written-exactly, image-written-exactly}
 use Rattle.unit.specs.Standing.{CountsAsInitialized}
 use Rattle.judge.specs.declared.Leaving.{Leaving}
-use Rattle.judge.specs.declared.Leaving.the-variants.{AsItWas, HeadsAt, HeadsAtLastTried, Fresh}
+use Rattle.judge.specs.declared.Leaving.the-variants.{AsItWas, HeadsAt, HeadsAtLastTried, Fresh, Mapped}
 use Rattle.judge.specs.declared.Verdict.{Verdict}
 use Rattle.judge.specs.declared.Verdict.the-variants.{Refused, Do}
 use Rattle.judge.specs.Fits.{LeavingFits}
@@ -236,6 +236,7 @@ module _ (v : Visit) where
       by-leaving (HeadsAt c) is = other (rw is tt)
       by-leaving (HeadsAtLastTried s) is = other (rw is tt)
       by-leaving (Fresh g) is = other (rw is tt)
+      by-leaving (Mapped bad spare) is = other (rw is tt)
 
   -- A record that does not count as initialized is changed by a successful 87 alone.
   pub block-keeps-bad :
@@ -253,6 +254,7 @@ module _ (v : Visit) where
       by-leaving (HeadsAt c) is named does fits = counted named ((rw is at fits) .0)
       by-leaving (HeadsAtLastTried s) is named does fits = counted named ((rw is at fits) .0)
       by-leaving (Fresh g) is named does fits = none (named, (g, is))
+      by-leaving (Mapped bad spare) is named does fits = counted named ((rw is at fits) .0)
 
 -- ---- what a run keeps
 

@@ -9,7 +9,7 @@ use lib.ListN.{getD}
 use Rattle.geometry.specs.declared.Geometry.{Geometry}
 use Rattle.geometry.specs.Drive.{marksAt}
 use Rattle.judge.specs.declared.Leaving.{Leaving}
-use Rattle.judge.specs.declared.Leaving.the-variants.{AsItWas, HeadsAt, HeadsAtLastTried, Fresh}
+use Rattle.judge.specs.declared.Leaving.the-variants.{AsItWas, HeadsAt, HeadsAtLastTried, Fresh, Mapped}
 use Rattle.request.specs.declared.UnitNumber.{UnitNumber}
 use Rattle.block.specs.Block.{leftBy}
 use Rattle.board.specs.Chain.{ran}
@@ -52,6 +52,7 @@ block-keeps-geometry v n none = by-cases (same-unit? (names v) n) (λ named. her
     kept (HeadsAt c) is out = refl
     kept (HeadsAtLastTried s) is out = refl
     kept (Fresh g) is out = absurd (out (g, is))
+    kept (Mapped bad spare) is out = refl
 
     here : names v ≡ n → geometry (driveOf (worldLeft v) n .unit) ≡ geometry (driveOf (v .world) n .unit)
     here named =

@@ -12,7 +12,7 @@ use Rattle.geometry.specs.declared.Geometry.{Geometry}
 use Rattle.geometry.specs.Drive.{B}
 use Rattle.iopb.specs.Ask.{taskOf}
 use Rattle.judge.specs.declared.Leaving.{Leaving}
-use Rattle.judge.specs.declared.Leaving.the-variants.{AsItWas, HeadsAt, HeadsAtLastTried, Fresh}
+use Rattle.judge.specs.declared.Leaving.the-variants.{AsItWas, HeadsAt, HeadsAtLastTried, Fresh, Mapped}
 use Rattle.judge.specs.declared.Moving.{Moving}
 use Rattle.judge.specs.declared.Report.{Report}
 use Rattle.judge.specs.declared.Verdict.{Verdict}
@@ -77,12 +77,13 @@ pub data HostWritten (at : ℕ) (a : Asked) (d : Drive) (x : ℕ) : Type 0 where
 abbrev pub ImageWritten : Asked → Drive → ℕ → Type 0
 ImageWritten a d x = DiskData a d false x
 
--- The unit's record is replaced or its heads move: every accepted block does one or the other, but for 86.
+-- The unit's record is replaced, its heads move, or it gets a pair more: every accepted block does one of these, but for 86.
 abbrev pub changes : Leaving → Type 0
 changes AsItWas = ⊥
 changes (HeadsAt c) = Unit {0}
 changes (HeadsAtLastTried s) = Unit {0}
 changes (Fresh g) = Unit {0}
+changes (Mapped bad spare) = Unit {0}
 
 abbrev pub RecordWritten : Asked → Type 0
 RecordWritten a = changes (leavingOf (verdict a))

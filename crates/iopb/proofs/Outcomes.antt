@@ -3,7 +3,7 @@
 use mathlib.Core.Path.{_∙_, sym}
 use Rattle.wire.specs.Promise.{OneResult}
 use Rattle.iopb.proofs.ask.request.Reads as request
-use Rattle.iopb.proofs.ask.unit.Reads as unit
+use Rattle.iopb.proofs.ask.unit_at.Reads as unit-at
 use Rattle.iopb.proofs.Block.read.Reads as block-read
 use Rattle.iopb.proofs.Element.read.Reads as element-read
 use Rattle.iopb.proofs.error_byte.Reads as error-byte
@@ -29,8 +29,8 @@ options-of-once κ a x y e f p q = p ∙ sym q
 request-once : OneResult request.Post
 request-once κ a x y e f p q = p ∙ sym q
 
-unit-once : OneResult unit.Post
-unit-once κ a x y e f p q = p ∙ sym q
+unit-at-once : OneResult unit-at.Post
+unit-at-once κ a x y e f p q = p ∙ sym q
 
 uib-once : OneResult uib.Post
 uib-once κ a x y e f p q = p ∙ sym q

@@ -1,5 +1,5 @@
 -- The request that a block makes (01, The block, One run).
-use Prim.Native.Nat.{ℕ}
+use Prim.Native.Nat.{ℕ, _/_, _^_}
 use mathlib.Core.Bool.{Bool, true, false, cond}
 use mathlib.Core.List.{List, [], _∷_}
 use mathlib.Core.Logic.{ite}
@@ -8,6 +8,7 @@ use Rattle.wire.specs.Memory.{inMemory?}
 use Rattle.geometry.specs.declared.VolumeNumber.{VolumeNumber}
 use Rattle.request.specs.declared.Buffer.{Buffer}
 use Rattle.request.specs.declared.Move.{Move}
+use Rattle.request.specs.declared.Pair.{Pair}
 use Rattle.request.specs.declared.Request.{Request}
 use Rattle.request.specs.declared.Shape.{Shape}
 use Rattle.request.specs.declared.Start.{Start}
@@ -16,11 +17,15 @@ use Rattle.request.specs.declared.Task.{Task}
 use Rattle.request.specs.declared.Track.{Track}
 use Rattle.request.specs.declared.UnitNumber.{UnitNumber}
 use Rattle.iopb.specs.declared.Block.{Block}
+use Rattle.iopb.specs.declared.Options.{Options}
 use Rattle.iopb.specs.Layout.{uibAt, uibBytes}
 
 -- UN and VO
+abbrev pub unitIn : Options → UnitNumber
+unitIn o = cond (o .unit) UnitNumber.One UnitNumber.Zero
+
 abbrev pub unitOf : Block → UnitNumber
-unitOf b = cond (b .options .unit) UnitNumber.One UnitNumber.Zero
+unitOf b = unitIn (b .options)
 
 abbrev pub volumeOf : Block → VolumeNumber
 volumeOf b = cond (b .options .volume) VolumeNumber.One VolumeNumber.Zero
@@ -44,13 +49,24 @@ moveOf b to-host buffer =
 abbrev pub trackOf : Block → Track
 trackOf b = record { cylinder = b .cylinder; head = b .head; buffer = b .address }
 
+-- 85: "Words 2 and 3 name the bad track, words 4 and 5 the spare, both physical over the whole drive" (02, K5), a cylinder and then a head
+-- in the upper byte, as the manual has it. Word 4 is a count elsewhere, and the upper byte of word 5 the first of the address.
+abbrev pub pairOf : Block → Pair
+pairOf b =
+    record {
+      «bad_cylinder» = b .cylinder;
+      «bad_head» = b .head;
+      «spare_cylinder» = b .count;
+      «spare_head» = b .address / 2 ^ 24;
+    }
+
 -- A UIB is 18 bytes, read where they lie in host memory; elsewhere it is misplaced, which check 12 says of a "UIB address odd or
 -- UIB not wholly in host memory".
 unfoldable pub shapeAt : List ℕ → ℕ → Shape
 shapeAt host at = ite (inMemory? host at uibBytes) (Shape.Given (uibAt host at)) Shape.Misplaced
 
 -- What each command asks, by its code: "81 read, 82 write, 86 handshake, 87 initialize, 89 restore, 8A seek, 8C format with
--- data, A1 scatter, A2 gather (hex)" (01, What the board answers for).
+-- data, A1 scatter, A2 gather (hex)" (01, What the board answers for), and "command 85" (02, K5).
 abbrev pub tasks : List ℕ → Block → List (ℕ × Task)
 tasks host b =
     (0x81, Task.Move (moveOf b true (Buffer.Piece (b .address)))) ∷
@@ -62,6 +78,7 @@ tasks host b =
     (0x8c, Task.Format (trackOf b)) ∷
     (0xa1, Task.Move (moveOf b true (listOf b))) ∷
     (0xa2, Task.Move (moveOf b false (listOf b))) ∷
+    (0x85, Task.Map (pairOf b)) ∷
     []
 
 -- The task that stands at a command's code, or none that is known.

@@ -1,9 +1,11 @@
 // The request that a block makes, free of its layout.
 use crate::Block;
+use crate::Options;
 use crate::uib;
 use geometry::VolumeNumber;
 use request::Buffer;
 use request::Move;
+use request::Pair;
 use request::Request;
 use request::Shape;
 use request::Start;
@@ -12,25 +14,34 @@ use request::Task;
 use request::Track;
 use request::UnitNumber;
 ghost use mathlib.Core.Path.{_≡_};
-ghost use Rattle.iopb.specs.Layout.{uibBytes};
+ghost use Prim.Native.Nat.{_+_, _≤_};
+ghost use lib.ListN.{length};
+ghost use Rattle.iopb.specs.Layout.{blockAt, uibBytes};
 ghost use Rattle.wire.specs.Memory.{InMemory};
 ghost use Rattle.wire.specs.Promise.{Says};
-ghost use Rattle.iopb.specs.Ask.{listOf, moveOf, requestOf, shapeAt, startOf, targetOf, taskOf, trackOf, unitOf};
+ghost use Rattle.iopb.specs.Ask.{listOf, moveOf, pairOf, requestOf, shapeAt, startOf, targetOf, taskOf, trackOf, unitIn, unitOf};
 
 // The request of a block; for command 87 its UIB is read, where it can be.
 pub fn request(b: Block, host: &[u8]) -> Request
     ensures { λ r. ⌜ r ≡ requestOf (now (host .entry)) b ⌝ }
 {
-    let unit = unit(b);
+    let options = b.options;
+    let unit = unit(options);
     let task = task(b, host);
     Request { unit, task }
 }
 
-// The unit of a block's request, told without the rest of it: whoever picks a drive by it need not keep a request.
-pub fn unit(b: Block) -> UnitNumber
-    ensures { λ r. ⌜ r ≡ unitOf b ⌝ }
+// The unit that the block at an address names, told without the rest of it: whoever picks a drive by it need not keep a block.
+pub fn unit_at(host: &[u8], at: usize) -> UnitNumber
+    requires { ⌜ at + 28 ≤ length (now host) ⌝ }
+    ensures { λ r. ⌜ r ≡ unitOf (blockAt (now (host .entry)) at) ⌝ }
 {
-    let options = b.options;
+    unit(Options::of(host[at + 1]))
+}
+
+fn unit(options: Options) -> UnitNumber
+    ensures { λ r. ⌜ r ≡ unitIn options ⌝ }
+{
     if options.unit {
         UnitNumber::One
     } else {
@@ -52,6 +63,7 @@ fn task(b: Block, host: &[u8]) -> Task
         0x8C => Task::Format(track(b)),
         0xA1 => Task::Move(moving(b, true, list(b))),
         0xA2 => Task::Move(moving(b, false, list(b))),
+        0x85 => Task::Map(pair(b)),
         _ => Task::Unknown,
     }
 }
@@ -119,6 +131,18 @@ fn track(b: Block) -> Track
         cylinder: b.cylinder,
         head: b.head as u16,
         buffer: b.address,
+    }
+}
+
+// The spare's cylinder stands where others have a count, and its head in the first byte of the address.
+fn pair(b: Block) -> Pair
+    ensures { λ r. ⌜ r ≡ pairOf b ⌝ }
+{
+    Pair {
+        bad_cylinder: b.cylinder,
+        bad_head: b.head,
+        spare_cylinder: b.count,
+        spare_head: (b.address / 16_777_216) as u8,
     }
 }
 

@@ -16,7 +16,7 @@ ghost use Rattle.iopb.specs.Layout.{blockAt, elementAt, optionsOf, uibAt
 mod ask;
 
 pub use ask::request;
-pub use ask::unit;
+pub use ask::unit_at;
 
 // The options byte, bit 7 down.
 pub struct Options {

@@ -20,7 +20,7 @@ use Rattle.judge.specs.declared.Plan.{Plan}
 use Rattle.judge.specs.declared.Verdict.{Verdict}
 use Rattle.judge.specs.Asks.{firstChecks, beforeBuffer, bytesOf, checks, dataMisplaced, ofBuffer, ownChecks}
 use Rattle.judge.specs.Checks.{Check, None, before, first}
-use Rattle.judge.specs.Given.{Asked}
+use Rattle.judge.specs.Given.{Asked, on}
 use Rattle.judge.specs.Reads.{InList}
 use Rattle.judge.proofs.First.{early, none?, pass, skip, stop}
 use Rattle.unit.specs.Standing.{UnitRecord}
@@ -51,10 +51,6 @@ pub before-list :
 before-list a m at n asks buffer none =
     subst (λ (t : Task). None (before Refusal.ListBad (firstChecks a ++ ownChecks a t))) (sym asks)
     (subst (λ (b : Buffer). None (before Refusal.ListBad (firstChecks a ++ beforeBuffer a m ++ ofBuffer a b (bytesOf a m)))) (sym buffer) none)
-
--- What is judged of a task on a unit.
-abbrev pub on : UnitRecord → ℕ → Task → List ℕ → Asked
-on u image t host = record { task = t; unit = u; image = image; host = host }
 
 module _ (u : UnitRecord) (image : ℕ) (h k : List ℕ) (long : length h ≡ length k) where
   pub same-range : (t : Task) (at bytes : ℕ) (p : Plan) → first (dataMisplaced (on u image t h) at bytes ∷ []) p ≡ first (dataMisplaced (on u image t k) at bytes ∷ []) p

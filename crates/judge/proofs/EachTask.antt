@@ -14,23 +14,24 @@ use Rattle.request.specs.declared.Buffer.{Buffer}
 use Rattle.request.specs.declared.Buffer.the-variants.{Piece, List as Elements}
 use Rattle.request.specs.declared.Shape.the-variants.{Misplaced, Given as Uib}
 use Rattle.request.specs.declared.Task.{Task}
-use Rattle.request.specs.declared.Task.the-variants.{Unknown, Move as Moves, Handshake, Initialize, Restore, Seek, Format}
+use Rattle.request.specs.declared.Task.the-variants.{Unknown, Move as Moves, Handshake, Initialize, Restore, Seek, Format, Map}
+use Rattle.spares.proofs.Decided.{free?}
 use Rattle.unit.specs.Landing.{spotOf}
-use Rattle.unit.specs.Standing.{UnitRecord, geometry}
+use Rattle.unit.specs.Standing.{UnitRecord, geometry, pairs, table}
 use Rattle.unit.proofs.Decided.{counts?}
 use Rattle.unit.proofs.Laws.{track-inside, track-whole}
 use Rattle.wire.specs.Memory.{inMemory?}
 use Rattle.judge.specs.declared.Leaving.{Leaving}
 use Rattle.judge.specs.Asks.{beforeBuffer, bytesOf, firstChecks, found, imageShort, jobOf, notInitialized, ofBuffer, ownChecks, planOf, trackOutside, unlisted}
 use Rattle.judge.specs.Checks.{Check, None, answersOf}
-use Rattle.judge.specs.Decided.{covers?}
+use Rattle.judge.specs.Decided.{covers?, hasTracks?}
 use Rattle.judge.specs.Fits.{SpanGood}
-use Rattle.judge.specs.Given.{Asked, beginsAt}
+use Rattle.judge.specs.Given.{Asked, badNumber, beginsAt, on, spareNumber}
 use Rattle.judge.specs.Reads.{InList}
 use Rattle.judge.specs.Table.{inOrder, keepsOrder, rows}
 use Rattle.judge.specs.Verdict.{verdict}
-use Rattle.judge.proofs.Known.{Accepted, covered, good-buffer, heads-only, seek-inside, so}
-use Rattle.judge.proofs.Buffers.{after-the-same, before-list, on, same-buffer, same-range}
+use Rattle.judge.proofs.Known.{Accepted, covered, good-buffer, has-number, heads-only, seek-inside, so}
+use Rattle.judge.proofs.Buffers.{after-the-same, before-list, same-buffer, same-range}
 use Rattle.judge.proofs.First.{none-of-all}
 
 -- ---- what is asked first, and in which order
@@ -59,6 +60,7 @@ asked-in-order a t = by-task t
     by-task Restore = tt
     by-task (Seek t) = tt
     by-task (Format k) = tt
+    by-task (Map k) = tt
 
 -- ---- the same in two memories
 
@@ -79,6 +81,7 @@ module _ (u : UnitRecord) (image : ℕ) (h k : List ℕ) (long : length h ≡ le
       let a = on u image (Format x) h in
       after-the-same (firstChecks a ++ notInitialized a ∷ trackOutside a x ∷ imageShort a ∷ []) _ _ (planOf u (Format x))
       (λ passed. same-range u image h k long (Format x) (x .buffer) (B (geometry u)) (planOf u (Format x)))
+  verdict-local (Map x) alike = refl
 
 -- ---- what its plan is known to be
 
@@ -155,3 +158,15 @@ module _ (u : UnitRecord) (image : ℕ) (host : List ℕ) where
         quiet = tt;
         list = tt;
       }
+  accepted (Map k) first (initialized, (inside, (taken, (full, rest)))) =
+      let counts = so (counts? u) initialized in
+      let on = so (hasTracks? u k) inside in
+      heads-only u image host _ (Leaving.Mapped (badNumber k) (spareNumber k)) (
+        counts,
+        record {
+          bad-on = has-number u image host counts (k .«bad_cylinder») (k .«bad_head») (on .0);
+          spare-on = has-number u image host counts (k .«spare_cylinder») (k .«spare_head») (on .1);
+          free = so (free? (pairs u) (table u) (badNumber k) (spareNumber k)) taken;
+          room = omega arith;
+        },
+      )

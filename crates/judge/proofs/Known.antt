@@ -12,6 +12,7 @@ use Rattle.geometry.specs.declared.Number.{Number}
 use Rattle.geometry.specs.declared.Number.the-variants.{Is, Outside}
 use Rattle.geometry.specs.declared.VolumeNumber.{VolumeNumber}
 use Rattle.geometry.specs.Drive.{C, S, volumeSectors}
+use Rattle.geometry.proofs.Ends.{heads-of-within}
 use Rattle.request.specs.declared.Buffer.{Buffer}
 use Rattle.request.specs.declared.Buffer.the-variants.{Piece, List as Elements}
 use Rattle.request.specs.declared.Move.{Move}
@@ -19,7 +20,9 @@ use Rattle.request.specs.declared.Track.{Track as Tracks}
 use Rattle.request.specs.declared.Task.{Task}
 use Rattle.request.specs.declared.Task.the-variants.{Move as Moves, Handshake, Format}
 use Rattle.unit.specs.Landing.{spotOf}
-use Rattle.unit.specs.Standing.{UnitRecord, geometry}
+use Rattle.spares.specs.Tracks.{TrackOn, trackNumber}
+use Rattle.spares.proofs.Laws.{on-drive-by-parts}
+use Rattle.unit.specs.Standing.{CountsAsInitialized, UnitRecord, geometry}
 use Rattle.unit.proofs.Laws.{spot-inside}
 use Rattle.memory.proofs.Decided.{listGood?, ranges?}
 use Rattle.judge.specs.declared.Plan.{Plan}
@@ -32,9 +35,8 @@ use Rattle.judge.specs.declared.Verdict.{Verdict}
 use Rattle.judge.specs.Asks.{found, ofBuffer, only}
 use Rattle.judge.specs.Checks.{Check, None, first}
 use Rattle.judge.specs.Fits.{BufferGood, LeavingFits, PlanFits}
-use Rattle.judge.specs.Given.{Asked, Covers}
+use Rattle.judge.specs.Given.{Asked, Covers, HasTrack, on}
 use Rattle.judge.specs.Reads.{InList}
-use Rattle.judge.proofs.Buffers.{on}
 use Rattle.judge.proofs.First.{done, skip, stop}
 
 no-refusal : {r : Refusal} {p : Plan} → Verdict.Refused r ≡ Verdict.Do p → ⊥
@@ -105,6 +107,12 @@ module _ (u : UnitRecord) (image : ℕ) (host : List ℕ) where
   pub seek-inside : (v : VolumeNumber) (x : Number) → Covers u v x 1 → spotOf u v (found x) .cylinder < C (geometry u)
   seek-inside v (Is n) c = spot-inside u v n (c .0) .cylinder
   seek-inside v Outside c = absurd c
+
+  -- A track of a drive that counts as initialized has its number in a table.
+  pub has-number : CountsAsInitialized u → (c h : ℕ) → HasTrack u c h → TrackOn (geometry u) (trackNumber c h)
+  has-number counts c h has =
+      let low : h < 256 = omega (arith, has .head, heads-of-within (geometry u) (counts .within .volumes)) in
+      on-drive-by-parts c h low (geometry u) .1 (has .cylinder, has .head)
 
   pub heads-only : (t : Task) (l : Leaving) → LeavingFits u l → Accepted (asking t) (only l)
   heads-only t l fits = record { fits = record { moving = tt; report = tt; leaving = fits }; mover = tt; report = tt; quiet = tt; list = tt }

@@ -8,7 +8,7 @@ use Rattle.request.specs.declared.Buffer.the-variants.{List as Elements}
 use Rattle.request.specs.declared.Task.{Task}
 use Rattle.request.specs.declared.Task.the-variants.{Handshake, Format}
 use Rattle.request.specs.declared.Track.{Track}
-use Rattle.unit.specs.Standing.{byValue, geometry, table}
+use Rattle.unit.specs.Standing.{geometry}
 use Rattle.judge.specs.declared.Job.{Job}
 use Rattle.judge.specs.declared.Plan.{Plan}
 use Rattle.judge.specs.declared.Leaving.{Leaving}
@@ -19,13 +19,12 @@ use Rattle.judge.specs.declared.Report.the-variants.{Nothing, Formatted}
 use Rattle.judge.specs.declared.Verdict.{Verdict}
 use Rattle.judge.specs.Asks.{firstChecks, ownChecks, checks, plan, planOf}
 use Rattle.judge.specs.Fits.{PlanFits}
-use Rattle.judge.specs.Given.{Asked}
+use Rattle.judge.specs.Given.{Asked, on}
 use Rattle.judge.specs.Reads.{InList}
 use Rattle.judge.specs.Verdict.{verdict}
 use Rattle.judge.proofs.First.{none-of-parts}
 use Rattle.judge.proofs.Tasks.{handshake}
 use Rattle.judge.proofs.Known.{Accepted, ListKnown, MoverKnown, Quiet, ReportKnown, all-passed}
-use Rattle.judge.proofs.Buffers.{on}
 use Rattle.judge.proofs.EachTask.{accepted}
 
 let-through : (a : Asked) (p : Plan) → verdict a ≡ Verdict.Do p → Accepted a p
@@ -67,7 +66,7 @@ pub handshake-reports :
     (a : Asked) → a .task ≡ Handshake → verdict a ≡ Verdict.Do (plan Moving.Nothing Report.Identity Leaving.AsItWas)
 handshake-reports a is =
     subst (λ (t : Task). verdict (on (a .unit) (a .image) t (a .host)) ≡ Verdict.Do (plan Moving.Nothing Report.Identity Leaving.AsItWas)) (sym is)
-    (handshake (record { «record» = byValue (a .unit); image = a .image }) (table (a .unit)) (a .host))
+    (handshake (a .unit) (a .image) (a .host))
 
 pub format-reports :
     (a : Asked) (k : Track) (p : Plan) → a .task ≡ Format k → verdict a ≡ Verdict.Do p → p .report ≡ Formatted (S (geometry (a .unit)))

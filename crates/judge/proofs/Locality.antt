@@ -21,12 +21,11 @@ use Rattle.request.specs.declared.Task.the-variants.{Move as Moves, Initialize}
 use Rattle.wire.specs.Memory.{Among}
 use Rattle.judge.specs.Asks.{firstChecks, checks, ownChecks, uibMisplaced}
 use Rattle.judge.specs.Checks.{None, before}
-use Rattle.judge.specs.Given.{Asked, BadPlace}
+use Rattle.judge.specs.Given.{Asked, BadPlace, on}
 use Rattle.judge.specs.Reads.{InList, InUib}
 use Rattle.judge.specs.Verdict.{verdict}
 use Rattle.judge.proofs.First.{early, none-of-all, none-of-parts, none?}
 use Rattle.unit.specs.Standing.{UnitRecord}
-use Rattle.judge.proofs.Buffers.{on}
 use Rattle.judge.proofs.EachTask.{verdict-local}
 
 module _ (u : UnitRecord) (image : ℕ) (h k : List ℕ) (long : length h ≡ length k) where

@@ -10,7 +10,7 @@ use Rattle.answers.specs.declared.Refusal.{Refusal}
 use Rattle.iopb.specs.declared.Block.{Block}
 use Rattle.iopb.specs.Ask.{taskAt, taskOf, tasks}
 use Rattle.request.specs.declared.Task.{Task}
-use Rattle.unit.specs.Standing.{UnitRecord}
+use Rattle.unit.specs.Standing.{UnitRecord, unitOf}
 use Rattle.judge.specs.declared.Report.{Report}
 use Rattle.judge.specs.declared.Report.the-variants.{Nothing as Silent, Identity, Formatted}
 use Rattle.judge.specs.declared.Standing.{Standing}
@@ -60,7 +60,7 @@ pub every-other-is-10 :
     verdict (asked (taskOf host b) s ts host) ≡ Verdict.Refused Refusal.CommandUnknown
 unfolding taskOf
 every-other-is-10 b s ts host none =
-    ap (λ (t : Task). verdict (asked t s ts host)) (no-task (b .command) (tasks host b) none) ∙ unknown s ts host
+    ap (λ (t : Task). verdict (asked t s ts host)) (no-task (b .command) (tasks host b) none) ∙ unknown (unitOf (s .record) ts) (s .image) host
 
 -- Only the plan of 86 has the identity to report, and only that of 8C a number of sectors; every other command's reports nothing.
 abbrev identifies : Report → Bool

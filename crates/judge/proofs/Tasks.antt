@@ -12,66 +12,64 @@ use Rattle.geometry.specs.Drive.{B, need, volume, volumeSectors}
 use Rattle.geometry.specs.Limits.{Present, Within}
 use Rattle.request.specs.declared.Buffer.{Buffer}
 use Rattle.request.specs.declared.Move.{Move}
+use Rattle.request.specs.declared.Pair.{Pair}
 use Rattle.request.specs.declared.Shape.{Shape}
 use Rattle.request.specs.declared.Target.{Target}
 use Rattle.request.specs.declared.Task.{Task}
 use Rattle.request.specs.declared.Track.{Track}
+use Rattle.spares.specs.Table.{Free}
 use Rattle.unit.specs.Landing.{spotOf}
-use Rattle.unit.specs.Standing.{CountsAsInitialized, UnitRecord, geometry, unitOf}
+use Rattle.unit.specs.Standing.{CountsAsInitialized, UnitRecord, geometry, pairs, table}
 use Rattle.memory.specs.Lists.{ListGood, Ranges}
 use Rattle.wire.specs.Memory.{InMemory}
 use Rattle.judge.specs.declared.Leaving.{Leaving}
 use Rattle.judge.specs.declared.Moving.{Moving}
 use Rattle.judge.specs.declared.Report.{Report}
-use Rattle.judge.specs.declared.Standing.{Standing}
 use Rattle.judge.specs.declared.Verdict.{Verdict}
 use Rattle.judge.specs.Asks.{carrying, jobOf, ofUnit, only, plan, planOf, unlisted}
 use Rattle.judge.specs.Checks.{None}
-use Rattle.judge.specs.Given.{Asked, Covers, HasTrack, asked, beginsAt}
-use Rattle.judge.specs.Verdict.{byItsOwn, fromAddress, fromBuffer, fromData, fromImage, fromSectors, verdict}
+use Rattle.judge.specs.Given.{Asked, Covers, HasTrack, HasTracks, badNumber, beginsAt, on, spareNumber}
+use Rattle.judge.specs.Verdict.{byItsOwn, fromAddress, fromBuffer, fromData, fromImage, fromSectors, fromTable, verdict}
 use Rattle.judge.proofs.EachTask.{passes-first}
 use Rattle.judge.proofs.First.{done, never, on-its-own, pass, skip, stop}
 
-module _ (s : Standing) (ts host : List ℕ) where
-  abbrev u : UnitRecord
-  u = unitOf (s .record) ts
-
+module _ (u : UnitRecord) (image : ℕ) (host : List ℕ) where
   abbrev g : Geometry
   g = geometry u
 
-  pub own : (t : Task) → (T (unlisted t) → ⊥) → verdict (asked t s ts host) ≡ byItsOwn (asked t s ts host)
-  own t listed = on-its-own (asked t s ts host) (passes-first (asked t s ts host) listed)
+  pub own : (t : Task) → (T (unlisted t) → ⊥) → verdict (on u image t host) ≡ byItsOwn (on u image t host)
+  own t listed = on-its-own (on u image t host) (passes-first (on u image t host) listed)
 
-  pub unknown : verdict (asked Task.Unknown s ts host) ≡ Verdict.Refused Refusal.CommandUnknown
+  pub unknown : verdict (on u image Task.Unknown host) ≡ Verdict.Refused Refusal.CommandUnknown
   unfolding verdict
   unknown = stop _ _ _ tt
 
-  pub handshake : verdict (asked Task.Handshake s ts host) ≡ Verdict.Do (plan Moving.Nothing Report.Identity Leaving.AsItWas)
+  pub handshake : verdict (on u image Task.Handshake host) ≡ Verdict.Do (plan Moving.Nothing Report.Identity Leaving.AsItWas)
   unfolding byItsOwn
   handshake = own Task.Handshake never ∙ done _
 
   -- ---- 87
 
-  pub shape-misplaced : byItsOwn (asked (Task.Initialize Shape.Misplaced) s ts host) ≡ Verdict.Refused Refusal.UibMisplaced
+  pub shape-misplaced : byItsOwn (on u image (Task.Initialize Shape.Misplaced) host) ≡ Verdict.Refused Refusal.UibMisplaced
   unfolding byItsOwn
   shape-misplaced = stop _ _ _ tt
 
   module _ (x : Geometry) where
-    pub shape-outside : (Within x → ⊥) → byItsOwn (asked (Task.Initialize (Shape.Given x)) s ts host) ≡ Verdict.Refused Refusal.UibOutsideLimits
+    pub shape-outside : (Within x → ⊥) → byItsOwn (on u image (Task.Initialize (Shape.Given x)) host) ≡ Verdict.Refused Refusal.UibOutsideLimits
     unfolding byItsOwn
     shape-outside out = skip _ _ _ never ∙ stop _ _ _ out
 
-    pub shape-given : Within x → byItsOwn (asked (Task.Initialize (Shape.Given x)) s ts host) ≡ Verdict.Do (only (Leaving.Fresh x))
+    pub shape-given : Within x → byItsOwn (on u image (Task.Initialize (Shape.Given x)) host) ≡ Verdict.Do (only (Leaving.Fresh x))
     unfolding byItsOwn
     shape-given within = skip _ _ _ never ∙ skip _ _ _ (λ n. n within) ∙ done _
 
   -- ---- 89
 
-  pub restore-refused : (CountsAsInitialized u → ⊥) → byItsOwn (asked Task.Restore s ts host) ≡ Verdict.Refused Refusal.NotInitialized
+  pub restore-refused : (CountsAsInitialized u → ⊥) → byItsOwn (on u image Task.Restore host) ≡ Verdict.Refused Refusal.NotInitialized
   unfolding byItsOwn
   restore-refused not-it = stop _ _ _ not-it
 
-  pub restore-done : CountsAsInitialized u → byItsOwn (asked Task.Restore s ts host) ≡ Verdict.Do (only (Leaving.HeadsAt 0))
+  pub restore-done : CountsAsInitialized u → byItsOwn (on u image Task.Restore host) ≡ Verdict.Do (only (Leaving.HeadsAt 0))
   unfolding byItsOwn
   restore-done counts = skip _ _ _ (λ n. n counts) ∙ done _
 
@@ -79,7 +77,7 @@ module _ (s : Standing) (ts host : List ℕ) where
 
   module _ (t : Target) where
     abbrev seek : Asked
-    seek = asked (Task.Seek t) s ts host
+    seek = on u image (Task.Seek t) host
 
     abbrev at : Number
     at = beginsAt u t
@@ -118,23 +116,23 @@ module _ (s : Standing) (ts host : List ℕ) where
 
   module _ (k : Track) where
     abbrev format : Asked
-    format = asked (Task.Format k) s ts host
+    format = on u image (Task.Format k) host
 
     pub format-11 : (CountsAsInitialized u → ⊥) → byItsOwn format ≡ Verdict.Refused Refusal.NotInitialized
     unfolding byItsOwn
     format-11 not-it = stop _ _ _ not-it
 
     module _ (counts : CountsAsInitialized u) where
-      pub format-16 : (HasTrack u k → ⊥) → byItsOwn format ≡ Verdict.Refused Refusal.SectorOutside
+      pub format-16 : (HasTrack u (k .cylinder) (k .head) → ⊥) → byItsOwn format ≡ Verdict.Refused Refusal.SectorOutside
       unfolding byItsOwn
       format-16 out = skip _ _ _ (λ n. n counts) ∙ stop _ _ _ out
 
-      module _ (has : HasTrack u k) where
-        pub format-17 : s .image < need g → byItsOwn format ≡ Verdict.Refused Refusal.ImageShort
+      module _ (has : HasTrack u (k .cylinder) (k .head)) where
+        pub format-17 : image < need g → byItsOwn format ≡ Verdict.Refused Refusal.ImageShort
         unfolding byItsOwn
         format-17 short = skip _ _ _ (λ n. n counts) ∙ skip _ _ _ (λ n. n has) ∙ stop _ _ _ short
 
-        pub format-on : need g ≤ s .image → byItsOwn format ≡ fromData format k
+        pub format-on : need g ≤ image → byItsOwn format ≡ fromData format k
         unfolding byItsOwn fromData
         format-on long = skip _ _ _ (λ n. n counts) ∙ skip _ _ _ (λ n. n has) ∙ skip _ _ _ (λ n. omega arith)
 
@@ -146,11 +144,46 @@ module _ (s : Standing) (ts host : List ℕ) where
     unfolding fromData
     data-done held = skip _ _ _ (λ n. n held) ∙ done _
 
+  -- ---- 85
+
+  module _ (k : Pair) where
+    abbrev maps : Asked
+    maps = on u image (Task.Map k) host
+
+    pub map-11 : (CountsAsInitialized u → ⊥) → byItsOwn maps ≡ Verdict.Refused Refusal.NotInitialized
+    unfolding byItsOwn
+    map-11 not-it = stop _ _ _ not-it
+
+    module _ (counts : CountsAsInitialized u) where
+      pub map-16 : (HasTracks u k → ⊥) → byItsOwn maps ≡ Verdict.Refused Refusal.SectorOutside
+      unfolding byItsOwn
+      map-16 out = skip _ _ _ (λ n. n counts) ∙ stop _ _ _ out
+
+      pub map-on : HasTracks u k → byItsOwn maps ≡ fromTable maps k
+      unfolding byItsOwn fromTable
+      map-on has = skip _ _ _ (λ n. n counts) ∙ skip _ _ _ (λ n. n has)
+
+    abbrev Untaken : Type 0
+    Untaken = Free (pairs u) (table u) (badNumber k) (spareNumber k)
+
+    pub table-22 : (Untaken → ⊥) → fromTable maps k ≡ Verdict.Refused Refusal.TracksTaken
+    unfolding fromTable
+    table-22 taken = stop _ _ _ taken
+
+    module _ (free : Untaken) where
+      pub table-23 : 32 ≤ pairs u → fromTable maps k ≡ Verdict.Refused Refusal.TableFull
+      unfolding fromTable
+      table-23 full = skip _ _ _ (λ n. n free) ∙ stop _ _ _ full
+
+      pub table-done : pairs u < 32 → fromTable maps k ≡ Verdict.Do (only (Leaving.Mapped (badNumber k) (spareNumber k)))
+      unfolding fromTable
+      table-done room = skip _ _ _ (λ n. n free) ∙ skip _ _ _ (λ n. omega arith) ∙ done _
+
   -- ---- 81 82 A1 A2
 
   module _ (m : Move) where
     abbrev moves : Asked
-    moves = asked (Task.Move m) s ts host
+    moves = on u image (Task.Move m) host
 
     abbrev bytes : ℕ
     bytes = m .count * B g
@@ -200,11 +233,11 @@ module _ (s : Standing) (ts host : List ℕ) where
           0 < m .count → n + m .count ≤ volumeSectors g (m .target .volume) → Covers u (m .target .volume) begins (m .count)
       span-covers some fits = let c : Covers u (m .target .volume) (Number.Is n) (m .count) = omega arith in rw is c
 
-    pub image-17 : s .image < need g → fromImage moves m ≡ Verdict.Refused Refusal.ImageShort
+    pub image-17 : image < need g → fromImage moves m ≡ Verdict.Refused Refusal.ImageShort
     unfolding fromImage
     image-17 short = stop _ _ _ short
 
-    pub image-on : need g ≤ s .image → fromImage moves m ≡ fromBuffer moves m
+    pub image-on : need g ≤ image → fromImage moves m ≡ fromBuffer moves m
     unfolding fromImage fromBuffer
     image-on long = skip _ _ _ (λ n. omega arith)
 
@@ -213,10 +246,10 @@ module _ (s : Standing) (ts host : List ℕ) where
       unfolding fromSectors fromImage
       span-inside = skip _ _ _ (λ n. n covers)
 
-      pub span-17 : s .image < need g → fromSectors moves m ≡ Verdict.Refused Refusal.ImageShort
+      pub span-17 : image < need g → fromSectors moves m ≡ Verdict.Refused Refusal.ImageShort
       span-17 short = span-inside ∙ image-17 short
 
-      pub span-on : need g ≤ s .image → fromSectors moves m ≡ fromBuffer moves m
+      pub span-on : need g ≤ image → fromSectors moves m ≡ fromBuffer moves m
       span-on long = span-inside ∙ image-on long
 
     -- A buffer in one piece, and one that is a list.

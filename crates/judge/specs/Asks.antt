@@ -1,13 +1,13 @@
 -- What each command is asked, in the order of the answers (01, Answer numbers), and what it does where no check refuses it. Whatever
 -- goes by command stands here; Table compares it with the paper's rows.
-use Prim.Native.Nat.{ℕ, _*_, _<_}
+use Prim.Native.Nat.{ℕ, _*_, _≤_, _<_}
 use mathlib.Core.Bool.{Bool, true, false}
 use mathlib.Core.List.{List, [], _∷_, _++_}
 use mathlib.Core.Logic.{Dec·not}
 use mathlib.Core.Path.{_≡_}
-use native.Mathlib.Decide.{decLt, ℕ-discrete}
+use native.Mathlib.Decide.{decLe, decLt, ℕ-discrete}
 use lib.Dec.{T}
-use Rattle.answers.specs.declared.Refusal.the-variants.{CommandUnknown, NotInitialized, UibMisplaced, UibOutsideLimits, VolumeAbsent, CountZero, SectorOutside, ImageShort, ListBad, DataMisplaced}
+use Rattle.answers.specs.declared.Refusal.the-variants.{CommandUnknown, NotInitialized, UibMisplaced, UibOutsideLimits, VolumeAbsent, CountZero, SectorOutside, ImageShort, ListBad, DataMisplaced, TracksTaken, TableFull}
 use Rattle.geometry.specs.declared.Number.{Number}
 use Rattle.geometry.specs.declared.Number.the-variants.{Is, Outside}
 use Rattle.geometry.specs.declared.VolumeNumber.{VolumeNumber}
@@ -20,27 +20,30 @@ use Rattle.memory.proofs.Decided.{listGood?, ranges?}
 use Rattle.request.specs.declared.Buffer.{Buffer}
 use Rattle.request.specs.declared.Buffer.the-variants.{Piece, List as Elements}
 use Rattle.request.specs.declared.Move.{Move}
+use Rattle.request.specs.declared.Pair.{Pair}
 use Rattle.request.specs.declared.Shape.{Shape}
 use Rattle.request.specs.declared.Shape.the-variants.{Misplaced, Given as Uib}
 use Rattle.request.specs.declared.Target.{Target}
 use Rattle.request.specs.declared.Task.{Task}
-use Rattle.request.specs.declared.Task.the-variants.{Unknown, Move as Moves, Handshake, Initialize, Restore, Seek, Format}
+use Rattle.request.specs.declared.Task.the-variants.{Unknown, Move as Moves, Handshake, Initialize, Restore, Seek, Format, Map}
 use Rattle.request.specs.declared.Track.{Track}
+use Rattle.spares.specs.Table.{Free}
+use Rattle.spares.proofs.Decided.{free?}
 use Rattle.unit.specs.Landing.{spotOf, trackOf}
-use Rattle.unit.specs.Standing.{CountsAsInitialized, UnitRecord, geometry}
+use Rattle.unit.specs.Standing.{CountsAsInitialized, UnitRecord, geometry, pairs, table}
 use Rattle.unit.proofs.Decided.{counts?}
 use Rattle.wire.specs.Memory.{InMemory, inMemory?}
 use Rattle.judge.specs.declared.Job.{Job}
 use Rattle.judge.specs.declared.Leaving.{Leaving}
-use Rattle.judge.specs.declared.Leaving.the-variants.{AsItWas, HeadsAt, HeadsAtLastTried, Fresh}
+use Rattle.judge.specs.declared.Leaving.the-variants.{AsItWas, HeadsAt, HeadsAtLastTried, Fresh, Mapped}
 use Rattle.judge.specs.declared.Moving.{Moving}
 use Rattle.judge.specs.declared.Moving.the-variants.{Sectors, Track as Tracked}
 use Rattle.judge.specs.declared.Plan.{Plan}
 use Rattle.judge.specs.declared.Report.{Report}
 use Rattle.judge.specs.declared.Report.the-variants.{Identity, Formatted}
 use Rattle.judge.specs.Checks.{Check, check}
-use Rattle.judge.specs.Decided.{badPlace?, badShape?, covers?, test?}
-use Rattle.judge.specs.Given.{Asked, BadPlace, BadShape, Covers, HasTrack, beginsAt}
+use Rattle.judge.specs.Decided.{badPlace?, badShape?, covers?, hasTracks?, test?}
+use Rattle.judge.specs.Given.{Asked, BadPlace, BadShape, Covers, HasTrack, HasTracks, badNumber, beginsAt, spareNumber}
 
 -- "command not listed"
 abbrev pub unlisted : Task → Bool
@@ -51,6 +54,7 @@ unlisted (Initialize s) = false
 unlisted Restore = false
 unlisted (Seek t) = false
 unlisted (Format k) = false
+unlisted (Map k) = false
 
 module _ (a : Asked) where
   -- ---- the checks, each an answer with its case
@@ -88,7 +92,12 @@ module _ (a : Asked) where
   -- "8C: track outside the drive"
   abbrev pub trackOutside : Track → Check
   trackOutside k =
-      check SectorOutside (HasTrack (a .unit) k → ⊥) (Dec·not (onDrive? (geometry (a .unit)) (address (k .cylinder) (k .head) 0)))
+      check SectorOutside (HasTrack (a .unit) (k .cylinder) (k .head) → ⊥)
+      (Dec·not (onDrive? (geometry (a .unit)) (address (k .cylinder) (k .head) 0)))
+
+  -- 85: "16 (either track)" (02, K5)
+  abbrev pub tracksOutside : Pair → Check
+  tracksOutside k = check SectorOutside (HasTracks (a .unit) k → ⊥) (Dec·not (hasTracks? (a .unit) k))
 
   -- "image shorter than the geometry needs"
   abbrev pub imageShort : Check
@@ -104,6 +113,17 @@ module _ (a : Asked) where
 
   abbrev pub elementMisplaced : ℕ → ℕ → Check
   elementMisplaced at n = check DataMisplaced (Ranges (a .host) at n → ⊥) (Dec·not (ranges? (a .host) at n))
+
+  -- "the tracks are equal or either is in the table already" (02, K5)
+  abbrev pub tracksTaken : Pair → Check
+  tracksTaken k =
+      let u = a .unit in
+      check TracksTaken (Free (pairs u) (table u) (badNumber k) (spareNumber k) → ⊥)
+      (Dec·not (free? (pairs u) (table u) (badNumber k) (spareNumber k)))
+
+  -- "32 pairs stand" (02, K5)
+  abbrev pub tableFull : Check
+  tableFull = check TableFull (32 ≤ pairs (a .unit)) (decLe 32 (pairs (a .unit)))
 
   -- ---- what is asked, in order
 
@@ -137,6 +157,7 @@ module _ (a : Asked) where
   ownChecks Restore = notInitialized ∷ []
   ownChecks (Seek t) = notInitialized ∷ volumeAbsent (t .volume) ∷ sectorOutside t 1 ∷ []
   ownChecks (Format k) = notInitialized ∷ trackOutside k ∷ imageShort ∷ dataMisplaced (k .buffer) (B (geometry (a .unit))) ∷ []
+  ownChecks (Map k) = notInitialized ∷ tracksOutside k ∷ tracksTaken k ∷ tableFull ∷ []
 
   abbrev pub checks : List Check
   checks = firstChecks ++ ownChecks (a .task)
@@ -190,3 +211,5 @@ planOf u (Seek t) = only (HeadsAt (spotOf u (t .volume) (found (beginsAt u t)) .
 planOf u (Format k) =
     let spot = trackOf u (k .cylinder) (k .head) in
     plan (Tracked spot (k .buffer)) (Formatted (S (geometry u))) (HeadsAt (spot .cylinder))
+-- "85 moves neither data nor heads" (02, K5)
+planOf u (Map k) = only (Mapped (badNumber k) (spareNumber k))

@@ -7,13 +7,15 @@ use Rattle.geometry.specs.Limits.{Within}
 use Rattle.memory.specs.Lists.{ListGood, Ranges}
 use Rattle.request.specs.declared.Buffer.{Buffer}
 use Rattle.request.specs.declared.Buffer.the-variants.{Piece, List as Elements}
+use Rattle.spares.specs.Table.{Free}
+use Rattle.spares.specs.Tracks.{TrackOn}
 use Rattle.unit.specs.declared.Span.{Span}
 use Rattle.unit.specs.declared.Spot.{Spot}
-use Rattle.unit.specs.Standing.{CountsAsInitialized, UnitRecord, geometry}
+use Rattle.unit.specs.Standing.{CountsAsInitialized, UnitRecord, geometry, pairs, table}
 use Rattle.wire.specs.Memory.{InMemory}
 use Rattle.judge.specs.declared.Job.{Job}
 use Rattle.judge.specs.declared.Leaving.{Leaving}
-use Rattle.judge.specs.declared.Leaving.the-variants.{AsItWas, HeadsAt, HeadsAtLastTried, Fresh}
+use Rattle.judge.specs.declared.Leaving.the-variants.{AsItWas, HeadsAt, HeadsAtLastTried, Fresh, Mapped}
 use Rattle.judge.specs.declared.Moving.{Moving}
 use Rattle.judge.specs.declared.Moving.the-variants.{Nothing, Sectors, Track}
 use Rattle.judge.specs.declared.Plan.{Plan}
@@ -46,12 +48,21 @@ MovingFits u image host Nothing = Unit {0}
 MovingFits u image host (Sectors j) = JobGood u image host j
 MovingFits u image host (Track spot at) = TrackGood u image host spot at
 
--- The heads are moved on a unit that counts as initialized, and to a cylinder of its drive; a new record has a geometry inside the limits.
+-- Two tracks that can become one more pair of a table: both are on the drive and neither is taken, and there is room.
+pub record PairFits (u : UnitRecord) (bad spare : ℕ) : Type 0 where
+  pub bad-on : TrackOn (geometry u) bad
+  pub spare-on : TrackOn (geometry u) spare
+  pub free : Free (pairs u) (table u) bad spare
+  pub room : pairs u < 32
+
+-- The heads are moved on a unit that counts as initialized, and to a cylinder of its drive; a new record has a geometry inside the limits, and a
+-- pair more fits.
 abbrev pub LeavingFits : UnitRecord → Leaving → Type 0
 LeavingFits u AsItWas = Unit {0}
 LeavingFits u (HeadsAt c) = CountsAsInitialized u × (c < C (geometry u))
 LeavingFits u (HeadsAtLastTried s) = CountsAsInitialized u × SpanGood u s
 LeavingFits u (Fresh g) = Within g
+LeavingFits u (Mapped bad spare) = CountsAsInitialized u × PairFits u bad spare
 
 -- The numbers that a format reports fit a byte: "sectors a track S 1 to 255".
 abbrev pub ReportFits : Report → Type 0

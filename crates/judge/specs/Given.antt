@@ -1,4 +1,4 @@
--- What is judged, and the cases of the answers 10 to 19 that need words of their own (01, Answer numbers).
+-- What is judged, and the cases of the answers before transfer that need words of their own (01, Answer numbers).
 use Prim.Native.Nat.{ℕ, _+_, _-_, _<_}
 use mathlib.Core.List.{List}
 use Rattle.geometry.specs.declared.Geometry.{Geometry}
@@ -8,13 +8,14 @@ use Rattle.geometry.specs.declared.VolumeNumber.{VolumeNumber}
 use Rattle.geometry.specs.Drive.{volumeSectors}
 use Rattle.geometry.specs.Limits.{Within}
 use Rattle.geometry.specs.Sectors.{OnDrive, address}
+use Rattle.request.specs.declared.Pair.{Pair}
 use Rattle.request.specs.declared.Shape.{Shape}
 use Rattle.request.specs.declared.Shape.the-variants.{Misplaced, Given as Uib}
 use Rattle.request.specs.declared.Start.{Start}
 use Rattle.request.specs.declared.Start.the-variants.{Logical, Physical}
 use Rattle.request.specs.declared.Target.{Target}
 use Rattle.request.specs.declared.Task.{Task}
-use Rattle.request.specs.declared.Track.{Track}
+use Rattle.spares.specs.Tracks.{trackNumber}
 use Rattle.unit.specs.Landing.{numberOn}
 use Rattle.unit.specs.Standing.{UnitRecord, geometry, unitOf}
 use Rattle.judge.specs.declared.Standing.{Standing}
@@ -26,8 +27,12 @@ pub record Asked : Type 0 where
   pub image : ℕ
   pub host : List ℕ
 
+abbrev pub on : UnitRecord → (image : ℕ) → Task → (host : List ℕ) → Asked
+on u image t host = record { task = t; unit = u; image = image; host = host }
+
+-- The same as the judge is handed it.
 abbrev pub asked : Task → Standing → (tracks host : List ℕ) → Asked
-asked t s tracks host = record { task = t; unit = unitOf (s .record) tracks; image = s .image; host = host }
+asked t s tracks host = on (unitOf (s .record) tracks) (s .image) t host
 
 -- The number at which a request begins: a logical number as it came, and a physical address's where the volume has it.
 abbrev pub numberOf : Geometry → VolumeNumber → Start → Number
@@ -42,9 +47,20 @@ abbrev pub Covers : UnitRecord → VolumeNumber → Number → ℕ → Type 0
 Covers u v (Is n) count = (n < volumeSectors (geometry u) v) × (n + (count - 1) < volumeSectors (geometry u) v)
 Covers u v Outside count = ⊥
 
--- "8C: track outside the drive": it is not.
-abbrev pub HasTrack : UnitRecord → Track → Type 0
-HasTrack u k = OnDrive (geometry u) (address (k .cylinder) (k .head) 0)
+-- "8C: track outside the drive": a track, its head counted over the whole drive, is not.
+abbrev pub HasTrack : UnitRecord → (cylinder head : ℕ) → Type 0
+HasTrack u c h = OnDrive (geometry u) (address c h 0)
+
+-- 85 names two tracks; "16 (either track)" asks that the drive has both.
+abbrev pub HasTracks : UnitRecord → Pair → Type 0
+HasTracks u k = HasTrack u (k .«bad_cylinder») (k .«bad_head») × HasTrack u (k .«spare_cylinder») (k .«spare_head»)
+
+-- Their numbers in the table.
+abbrev pub badNumber : Pair → ℕ
+badNumber k = trackNumber (k .«bad_cylinder») (k .«bad_head»)
+
+abbrev pub spareNumber : Pair → ℕ
+spareNumber k = trackNumber (k .«spare_cylinder») (k .«spare_head»)
 
 -- The two cases of 87: its UIB does not lie where it can be read, or it does and says a geometry that is outside the limits.
 abbrev pub BadPlace : Shape → Type 0

@@ -1,11 +1,11 @@
--- The table of 10 to 19 as the paper has it, by rows (01, Answer numbers). The checks are listed by command (Asks); proofs/Table computes
+-- The table of the answers before transfer as the papers have it, by rows (01, Answer numbers; 02, K5). The checks are listed by command (Asks); proofs/Table computes
 -- the rows from those lists, and that each list keeps the rows' order. The case of each answer stands with its check.
 use Prim.Native.Nat.{ℕ}
 use mathlib.Core.Bool.{Bool, true, false, cond, _||_}
 use mathlib.Core.List.{List, [], _∷_}
 use lib.Dec.{T, eqb}
 use Rattle.answers.specs.declared.Refusal.{Refusal}
-use Rattle.answers.specs.declared.Refusal.the-variants.{CommandUnknown, NotInitialized, UibMisplaced, UibOutsideLimits, VolumeAbsent, CountZero, SectorOutside, ImageShort, ListBad, DataMisplaced}
+use Rattle.answers.specs.declared.Refusal.the-variants.{CommandUnknown, NotInitialized, UibMisplaced, UibOutsideLimits, VolumeAbsent, CountZero, SectorOutside, ImageShort, ListBad, DataMisplaced, TracksTaken, TableFull}
 use Rattle.answers.specs.Numbers.{refusalNumber}
 use Rattle.iopb.specs.declared.Block.{Block}
 use Rattle.iopb.specs.Ask.{taskOf}
@@ -22,23 +22,25 @@ pub record Row : Type 0 where
 abbrev row : Refusal → List ℕ → Row
 row answer commands = record { answer = answer; commands = commands }
 
--- The commands that there are (01, What the board answers for).
+-- The commands that there are (01, What the board answers for; 02, K5).
 abbrev pub listed : List ℕ
-listed = 0x81 ∷ 0x82 ∷ 0x86 ∷ 0x87 ∷ 0x89 ∷ 0x8a ∷ 0x8c ∷ 0xa1 ∷ 0xa2 ∷ []
+listed = 0x81 ∷ 0x82 ∷ 0x86 ∷ 0x87 ∷ 0x89 ∷ 0x8a ∷ 0x8c ∷ 0xa1 ∷ 0xa2 ∷ 0x85 ∷ []
 
 abbrev pub rows : List Row
 rows =
     -- "any": of the commands that there are none is refused so, and every other is (proofs/Table)
     row CommandUnknown listed ∷
-    row NotInitialized (0x81 ∷ 0x82 ∷ 0x89 ∷ 0x8a ∷ 0x8c ∷ 0xa1 ∷ 0xa2 ∷ []) ∷
+    row NotInitialized (0x81 ∷ 0x82 ∷ 0x89 ∷ 0x8a ∷ 0x8c ∷ 0xa1 ∷ 0xa2 ∷ 0x85 ∷ []) ∷
     row UibMisplaced (0x87 ∷ []) ∷
     row UibOutsideLimits (0x87 ∷ []) ∷
     row VolumeAbsent (0x81 ∷ 0x82 ∷ 0x8a ∷ 0xa1 ∷ 0xa2 ∷ []) ∷
     row CountZero (0x81 ∷ 0x82 ∷ 0xa1 ∷ 0xa2 ∷ []) ∷
-    row SectorOutside (0x81 ∷ 0x82 ∷ 0x8a ∷ 0x8c ∷ 0xa1 ∷ 0xa2 ∷ []) ∷
+    row SectorOutside (0x81 ∷ 0x82 ∷ 0x8a ∷ 0x8c ∷ 0xa1 ∷ 0xa2 ∷ 0x85 ∷ []) ∷
     row ImageShort (0x81 ∷ 0x82 ∷ 0x8c ∷ 0xa1 ∷ 0xa2 ∷ []) ∷
     row ListBad (0xa1 ∷ 0xa2 ∷ []) ∷
     row DataMisplaced (0x81 ∷ 0x82 ∷ 0x8c ∷ 0xa1 ∷ 0xa2 ∷ []) ∷
+    row TracksTaken (0x85 ∷ []) ∷
+    row TableFull (0x85 ∷ []) ∷
     []
 
 -- "Block answers, in order"
@@ -54,8 +56,8 @@ hasNumber n (s ∷ ss) = eqb (refusalNumber s) n || hasNumber n ss
 abbrev pub has : Refusal → List Refusal → Bool
 has r ss = hasNumber (refusalNumber r) ss
 
--- An answer that refuses a block before its transfer: one of these rows has it. "For 10 to 19 only the block's word 1 and its event entry
--- change".
+-- An answer that refuses a block before its transfer: one of these rows has it. "For 10 to 19", and for 22 and 23, "only the block's word 1 and
+-- its event entry change".
 abbrev pub BeforeTransfer : Refusal → Type 0
 BeforeTransfer r = T (has r (inOrder rows))
 

@@ -5,12 +5,13 @@ use mathlib.Core.Path.{_≡_}
 use Rattle.geometry.specs.Drive.{B}
 use Rattle.geometry.specs.declared.Number.the-variants.{Is}
 use Rattle.request.specs.declared.Move.{Move}
+use Rattle.request.specs.declared.Pair.{Pair}
 use Rattle.request.specs.declared.Target.{Target}
-use Rattle.request.specs.declared.Task.the-variants.{Move as Moves, Seek, Format}
+use Rattle.request.specs.declared.Task.the-variants.{Move as Moves, Seek, Format, Map}
 use Rattle.request.specs.declared.Track.{Track}
 use Rattle.unit.specs.Standing.{geometry}
 use Rattle.judge.specs.declared.Verdict.{Verdict}
-use Rattle.judge.specs.Asks.{ownChecks, bytesOf, checks, dataMisplaced, imageShort, ofBuffer, ofSectors, planOf, sectorOutside}
+use Rattle.judge.specs.Asks.{ownChecks, bytesOf, checks, dataMisplaced, imageShort, ofBuffer, ofSectors, planOf, sectorOutside, tableFull, tracksTaken}
 use Rattle.judge.specs.Checks.{first}
 use Rattle.judge.specs.Given.{Asked, beginsAt}
 
@@ -37,6 +38,10 @@ fromAddress a t = first (sectorOutside a t 1 ∷ []) (planOf (a .unit) (Seek t))
 
 unfoldable pub fromData : Asked → Track → Verdict
 fromData a k = first (dataMisplaced a (k .buffer) (B (geometry (a .unit))) ∷ []) (planOf (a .unit) (Format k))
+
+-- A pair by what the table says of it.
+unfoldable pub fromTable : Asked → Pair → Verdict
+fromTable a k = first (tracksTaken a k ∷ tableFull a ∷ []) (planOf (a .unit) (Map k))
 
 -- A transfer that begins at a number and is for some sectors.
 pub record Begins (a : Asked) (m : Move) (n : ℕ) : Type 0 where

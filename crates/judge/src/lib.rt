@@ -1,14 +1,17 @@
-// Checks 10 to 19 on a request, its unit's standing and the host memory: a refusal, or what is to be done.
+// The checks before transfer on a request, its unit's standing and the host memory: a refusal, or what is to be done.
 // Whatever is refused before a transfer is refused here, before anything is touched, by the first check that fails.
 // It changes nothing, holds for every input, and knows no block; a list's elements are the 3200's.
 use answers::Refusal;
+use geometry::Address;
 use geometry::Geometry;
 use geometry::Number;
+use geometry::Place;
 use geometry::VolumeNumber;
 use memory::Listed;
 use memory::list;
 use request::Buffer;
 use request::Move;
+use request::Pair;
 use request::Request;
 use request::Shape;
 use request::Start;
@@ -25,22 +28,23 @@ ghost use mathlib.Core.Path.{_≡_};
 ghost use Prim.Native.Nat.{ℕ, _<_};
 ghost use Rattle.geometry.specs.Drive.{B, S, need, volume, volumeSectors};
 ghost use Rattle.geometry.specs.Limits.{Present};
-ghost use Rattle.judge.specs.Given.{asked, numberOf};
+ghost use Rattle.judge.specs.Given.{HasTrack, HasTracks, asked, numberOf, on};
 ghost use Rattle.judge.specs.Asks.{carrying, jobOf, only, plan};
-ghost use Rattle.judge.specs.Verdict.{Begins, byItsOwn, fromAddress, fromBuffer, fromData, fromImage, fromSectors, verdict};
+ghost use Rattle.judge.specs.Verdict.{Begins, byItsOwn, fromAddress, fromBuffer, fromData, fromImage, fromSectors, fromTable, verdict};
 ghost use Rattle.judge.specs.declared.Leaving.{Leaving};
 ghost use Rattle.judge.specs.declared.Moving.{Moving};
 ghost use Rattle.judge.specs.declared.Report.{Report};
-ghost use Rattle.judge.specs.declared.Standing.{Standing};
 ghost use Rattle.judge.specs.declared.Verdict.{Verdict};
 ghost use Rattle.request.specs.declared.Task.{Task};
 ghost use Rattle.wire.specs.Promise.{Says};
 ghost use Rattle.unit.specs.Landing.{trackOf};
-ghost use Rattle.unit.specs.Standing.{bare, geometry, unitOf};
+ghost use Rattle.unit.specs.Standing.{CountsAsInitialized, UnitRecord, bare, geometry, unitOf};
 
-// What is judged of a unit beside the request: its record, and how long its image is.
+// What is judged of a unit beside the request: its record, whether that counts as initialized, and how long its image is. Whoever runs several
+// blocks has asked the second once: a table of many pairs is long to look through.
 pub struct Standing {
     pub record: Record,
+    pub counts: bool,
     pub image: usize,
 }
 
@@ -66,12 +70,14 @@ pub enum Report {
     Formatted(u16),
 }
 
-// What becomes of the unit's record: it stays as it was, its heads go to a cylinder or to that of the last sector tried, or it is a new one.
+// What becomes of the unit's record: it stays as it was, its heads go to a cylinder or to that of the last sector tried, it is a new one, or it
+// gets a pair more, a bad track and its spare.
 pub enum Leaving {
     AsItWas,
     HeadsAt(u16),
     HeadsAtLastTried(Span),
     Fresh(Geometry),
+    Mapped(u32, u32),
 }
 
 // What an accepted block does.
@@ -88,6 +94,7 @@ pub enum Verdict {
 
 // The verdict on a request.
 pub fn judge(r: Request, standing: Standing, table: &[u32; 64], host: &[u8]) -> Verdict
+    requires { ⌜ Says (standing .counts) (CountsAsInitialized (unitOf (standing .record) (now table))) ⌝ }
     ensures { λ v. ⌜ v ≡ verdict (asked (r .task) standing (now (table .entry)) (now (host .entry))) ⌝ }
 {
     let task = r.task;
@@ -100,9 +107,10 @@ pub fn judge(r: Request, standing: Standing, table: &[u32; 64], host: &[u8]) -> 
             leaving: Leaving::AsItWas,
         }),
         Task::Initialize(s) => judge_shape(s),
-        Task::Restore => judge_restore(standing, table),
+        Task::Restore => judge_restore(standing),
         Task::Seek(t) => judge_seek(t, standing, table),
         Task::Format(k) => judge_format(k, standing, table, host),
+        Task::Map(k) => judge_map(k, standing, table),
     }
 }
 
@@ -118,7 +126,7 @@ fn only(leaving: Leaving) -> Verdict
 }
 
 fn judge_shape(s: Shape) -> Verdict
-    ensures { λ v. ⌜ ((standing : Standing) (ts host : List ℕ) → v ≡ byItsOwn (asked (Task.Initialize s) standing ts host)) ⌝ }
+    ensures { λ v. ⌜ ((u : UnitRecord) (image : ℕ) (host : List ℕ) → v ≡ byItsOwn (on u image (Task.Initialize s) host)) ⌝ }
 {
     match s {
         Shape::Misplaced => Verdict::Refused(Refusal::UibMisplaced),
@@ -132,11 +140,10 @@ fn judge_shape(s: Shape) -> Verdict
     }
 }
 
-fn judge_restore(standing: Standing, table: &[u32; 64]) -> Verdict
-    ensures { λ v. ⌜ ((host : List ℕ) → v ≡ byItsOwn (asked Task.Restore standing (now (table .entry)) host)) ⌝ }
+fn judge_restore(standing: Standing) -> Verdict
+    ensures { λ v. ⌜ ((ts host : List ℕ) → Says (standing .counts) (CountsAsInitialized (unitOf (standing .record) ts)) → v ≡ byItsOwn (asked Task.Restore standing ts host)) ⌝ }
 {
-    let u = standing.record;
-    if u.counts_as_initialized(table) {
+    if standing.counts {
         restored()
     } else {
         Verdict::Refused(Refusal::NotInitialized)
@@ -192,11 +199,12 @@ fn number(u: Record, v: VolumeNumber, start: Start) -> Number
 
 // Checks 11 and 14 of a seek.
 fn judge_seek(t: Target, standing: Standing, table: &[u32; 64]) -> Verdict
+    requires { ⌜ Says (standing .counts) (CountsAsInitialized (unitOf (standing .record) (now table))) ⌝ }
     ensures { λ v. ⌜ ((host : List ℕ) → v ≡ byItsOwn (asked (Task.Seek t) standing (now (table .entry)) host)) ⌝ }
 {
     let u = standing.record;
     let volume = t.volume;
-    if !u.counts_as_initialized(table) {
+    if !standing.counts {
         return Verdict::Refused(Refusal::NotInitialized);
     }
     if !has_volume(u, volume) {
@@ -223,10 +231,11 @@ fn judge_address(t: Target, standing: Standing, table: &[u32; 64]) -> Verdict
 
 // Checks 11, 16 and 17 of a format.
 fn judge_format(k: Track, standing: Standing, table: &[u32; 64], host: &[u8]) -> Verdict
+    requires { ⌜ Says (standing .counts) (CountsAsInitialized (unitOf (standing .record) (now table))) ⌝ }
     ensures { λ v. ⌜ v ≡ byItsOwn (asked (Task.Format k) standing (now (table .entry)) (now (host .entry))) ⌝ }
 {
     let u = standing.record;
-    if !u.counts_as_initialized(table) {
+    if !standing.counts {
         return Verdict::Refused(Refusal::NotInitialized);
     }
     match u.land_track(table, k.cylinder, k.head) {
@@ -263,14 +272,68 @@ fn formatted(k: Track, spot: Spot, u: Record) -> Verdict
     })
 }
 
+// Checks 11 and 16 of a pair, the second for either track.
+fn judge_map(k: Pair, standing: Standing, table: &[u32; 64]) -> Verdict
+    requires { ⌜ Says (standing .counts) (CountsAsInitialized (unitOf (standing .record) (now table))) ⌝ }
+    ensures { λ v. ⌜ ((host : List ℕ) → v ≡ byItsOwn (asked (Task.Map k) standing (now (table .entry)) host)) ⌝ }
+{
+    if !standing.counts {
+        return Verdict::Refused(Refusal::NotInitialized);
+    }
+    if !has_tracks(standing.record, k) {
+        return Verdict::Refused(Refusal::SectorOutside);
+    }
+    judge_pair(k, standing, table)
+}
+
+fn has_track(u: Record, cylinder: u16, head: u8) -> bool
+    ensures { λ r. ⌜ Says r (HasTrack (bare u) cylinder head) ⌝ }
+{
+    let named = Address {
+        cylinder,
+        head: head as u16,
+        sector: 0,
+    };
+    match u.geometry().place(named) {
+        Place::At(_) => true,
+        Place::Outside => false,
+    }
+}
+
+fn has_tracks(u: Record, k: Pair) -> bool
+    ensures { λ r. ⌜ Says r (HasTracks (bare u) k) ⌝ }
+{
+    if !has_track(u, k.bad_cylinder, k.bad_head) {
+        return false;
+    }
+    has_track(u, k.spare_cylinder, k.spare_head)
+}
+
+// Checks 22 and 23 of a pair.
+fn judge_pair(k: Pair, standing: Standing, table: &[u32; 64]) -> Verdict
+    ensures { λ v. ⌜ ((host : List ℕ) → v ≡ fromTable (asked (Task.Map k) standing (now (table .entry)) host) k) ⌝ }
+{
+    let u = standing.record;
+    let bad = spares::number(k.bad_cylinder, k.bad_head);
+    let spare = spares::number(k.spare_cylinder, k.spare_head);
+    if !spares::are_free(table, u.pairs(), bad, spare) {
+        return Verdict::Refused(Refusal::TracksTaken);
+    }
+    if 32 <= u.pairs() {
+        return Verdict::Refused(Refusal::TableFull);
+    }
+    only(Leaving::Mapped(bad, spare))
+}
+
 // Checks 11, 14 and 15 of a transfer.
 fn judge_move(m: Move, standing: Standing, table: &[u32; 64], host: &[u8]) -> Verdict
+    requires { ⌜ Says (standing .counts) (CountsAsInitialized (unitOf (standing .record) (now table))) ⌝ }
     ensures { λ v. ⌜ v ≡ byItsOwn (asked (Task.Move m) standing (now (table .entry)) (now (host .entry))) ⌝ }
 {
     let record = standing.record;
     let target = m.target;
     let volume = target.volume;
-    if !record.counts_as_initialized(table) {
+    if !standing.counts {
         return Verdict::Refused(Refusal::NotInitialized);
     }
     if !has_volume(record, volume) {

@@ -48,6 +48,14 @@ pub struct Track {
     pub buffer: u32,
 }
 
+// A bad track and the one that is to serve for it, both counted over the whole drive.
+pub struct Pair {
+    pub bad_cylinder: u16,
+    pub bad_head: u8,
+    pub spare_cylinder: u16,
+    pub spare_head: u8,
+}
+
 // A geometry as its block of numbers gave it, where that block could be read.
 pub enum Shape {
     Misplaced,
@@ -62,6 +70,7 @@ pub enum Task {
     Restore,
     Seek(Target),
     Format(Track),
+    Map(Pair),
 }
 
 pub struct Request {

@@ -12,7 +12,7 @@ use lib.ListN.{getD, length, length-set, set}
 use lib.Seq.{getD-set-other, getD-set-same}
 use Rattle.geometry.specs.declared.Geometry.{Geometry}
 use Rattle.spares.specs.declared.Served.the-variants.{By}
-use Rattle.spares.specs.Table.{Good, InTable, Serves, badOf, served, servedFrom, serves?, spareOf, withPair}
+use Rattle.spares.specs.Table.{Free, Good, InTable, Serves, badOf, served, servedFrom, serves?, spareOf, withPair}
 use Rattle.spares.specs.Tracks.{TrackOn, standsFor}
 use Rattle.spares.proofs.Laws.{served-by-its-spare, serves-first, serves-later, serves-none}
 
@@ -50,6 +50,9 @@ module _ (n : ℕ) (ts : List ℕ) (b s : ℕ) (room : n < 32) (long : length ts
   stored : withPair n ts b s ≡ set (set ts (2 * n) b) (2 * n + 1) s
   stored = if-pos (decLt n 32) room _ _
 
+  pub long-still : length (withPair n ts b s) ≡ 64
+  long-still = ap length stored ∙ simp length-set long
+
   pub before-the-pair : (i : ℕ) → i < 2 * n → getD (withPair n ts b s) i 0 ≡ getD ts i 0
   before-the-pair i less =
       ap (λ (l : List ℕ). getD l i 0) stored ∙ getD-set-other (set ts (2 * n) b) (2 * n + 1) i s 0 (λ same. omega arith) ∙
@@ -80,8 +83,7 @@ module _ (n : ℕ) (ts : List ℕ) (b s : ℕ) (room : n < 32) (long : length ts
         (λ first. let here : i ≡ 2 * n = omega arith in bad here (rw here its-bad)))
 
     module _
-        (good : Good g n ts) (bad-on : TrackOn g b) (spare-on : TrackOn g s) (differ : b ≡ s → ⊥)
-        (bad-new : InTable n ts b → ⊥) (spare-new : InTable n ts s → ⊥) where
+        (good : Good g n ts) (bad-on : TrackOn g b) (spare-on : TrackOn g s) (free : Free n ts b s) where
       all-count : min n 32 ≡ n
       all-count = min-eq-left (omega arith)
 
@@ -91,6 +93,7 @@ module _ (n : ℕ) (ts : List ℕ) (b s : ℕ) (room : n < 32) (long : length ts
       pub stays-good : Good g (n + 1) (withPair n ts b s)
       stays-good =
           record {
+            long = long-still;
             room = omega arith;
             on = λ i less. on-drive i (place i less);
             once = λ i j less j-in same. apart i j less (place i (omega arith)) (place j j-in) same;
@@ -103,11 +106,11 @@ module _ (n : ℕ) (ts : List ℕ) (b s : ℕ) (room : n < 32) (long : length ts
 
           apart : (i j : ℕ) → i < j → Place i → Place j → getD (withPair n ts b s) i 0 ≡ getD (withPair n ts b s) j 0 → ⊥
           apart i j less (earlier i-in is) (earlier j-in js) same = good .once i j less j-in (sym is ∙ same ∙ js)
-          apart i j less (earlier i-in is) (bad here js) same = new b bad-new i i-in (sym is ∙ same ∙ js)
-          apart i j less (earlier i-in is) (spare here js) same = new s spare-new i i-in (sym is ∙ same ∙ js)
+          apart i j less (earlier i-in is) (bad here js) same = new b (free .bad-new) i i-in (sym is ∙ same ∙ js)
+          apart i j less (earlier i-in is) (spare here js) same = new s (free .spare-new) i i-in (sym is ∙ same ∙ js)
           apart i j less (bad there is) (earlier j-in js) same = omega arith
           apart i j less (bad there is) (bad here js) same = omega arith
-          apart i j less (bad there is) (spare here js) same = differ (sym is ∙ same ∙ js)
+          apart i j less (bad there is) (spare here js) same = free .differ (sym is ∙ same ∙ js)
           apart i j less (spare there is) (earlier j-in js) same = omega arith
           apart i j less (spare there is) (bad here js) same = omega arith
           apart i j less (spare there is) (spare here js) same = omega arith

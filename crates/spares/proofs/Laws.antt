@@ -8,7 +8,7 @@ use native.Mathlib.Decide.{decLt}
 use native.Mathlib.Nat.{min-eq-left}
 use native.Mathlib.Numerals.{add-one}
 use native.Mathlib.Omega.{arith}
-use lib.ListN.{getD}
+use lib.ListN.{getD, length}
 use Rattle.geometry.specs.declared.Geometry.{Geometry}
 use Rattle.wire.proofs.Promises.{never}
 use Rattle.geometry.specs.Drive.{C, driveHeads}
@@ -165,8 +165,8 @@ module _ (c h : ℕ) (less : h < 256) where
   )
 
 -- A table without pairs is good, and every track serves itself.
-pub empty-is-good : (g : Geometry) (ts : List ℕ) → Good g 0 ts
-empty-is-good g ts = record { room = omega arith; on = λ i less. absurd (omega arith); once = λ i j less j-in. absurd (omega arith) }
+pub empty-is-good : (g : Geometry) (ts : List ℕ) → length ts ≡ 64 → Good g 0 ts
+empty-is-good g ts long = record { long = long; room = omega arith; on = λ i less. absurd (omega arith); once = λ i j less j-in. absurd (omega arith) }
 
 pub empty-serves-itself : (g : Geometry) (ts : List ℕ) (t : ℕ) → served g 0 ts t ≡ Itself
 empty-serves-itself g ts t = serves-itself g 0 ts t (λ i less. omega arith)

@@ -5,7 +5,7 @@ use mathlib.Core.List.{List}
 use mathlib.Core.Logic.{ite, Dec·and}
 use mathlib.Core.Path.{_≡_}
 use native.Mathlib.Decide.{decLt, map-dec, ℕ-discrete}
-use lib.ListN.{getD, set}
+use lib.ListN.{getD, length, set, take}
 use Rattle.geometry.specs.declared.Geometry.{Geometry}
 use Rattle.spares.specs.declared.Served.{Served}
 use Rattle.spares.specs.declared.Served.the-variants.{Itself, By}
@@ -17,9 +17,10 @@ badOf ts i = getD ts (2 * i) 0
 abbrev pub spareOf : List ℕ → ℕ → ℕ
 spareOf ts i = getD ts (2 * i + 1) 0
 
--- A table of n pairs is good: at most 32 pairs, every track of them on the drive, and none there twice. One that is not, with "over 32 pairs, a
--- track outside the drive, or one track twice in the table", makes its record count as not initialized.
+-- A table of n pairs is good: of "32 pairs" in all at most so many count, every track of them is on the drive, and none is there twice. One that
+-- is not, with "over 32 pairs, a track outside the drive, or one track twice in the table", makes its record count as not initialized.
 pub record Good (g : Geometry) (n : ℕ) (ts : List ℕ) : Type 0 where
+  pub long : length ts ≡ 64
   pub room : n ≤ 32
   pub on : (i : ℕ) → i < 2 * n → TrackOn g (getD ts i 0)
   pub once : (i j : ℕ) → i < j → j < 2 * n → getD ts i 0 ≡ getD ts j 0 → ⊥
@@ -30,9 +31,15 @@ pub record OneOf (m : ℕ) (ts : List ℕ) (t : ℕ) : Type 0 where
   pub less : at < m
   pub here : getD ts at 0 ≡ t
 
--- It is in the table, as bad or as spare: 22 is given where "either is in the table already".
+-- It is in the table, as bad or as spare.
 abbrev pub InTable : ℕ → List ℕ → ℕ → Type 0
 InTable n ts t = OneOf (2 * min n 32) ts t
+
+-- Two tracks can become a pair: it is not so that "the tracks are equal or either is in the table already".
+pub record Free (n : ℕ) (ts : List ℕ) (bad spare : ℕ) : Type 0 where
+  pub differ : bad ≡ spare → ⊥
+  pub bad-new : InTable n ts bad → ⊥
+  pub spare-new : InTable n ts spare → ⊥
 
 -- Pair i serves a track: it has it as bad, and a spare that the drive has.
 pub record Serves (g : Geometry) (ts : List ℕ) (i t : ℕ) : Type 0 where
@@ -64,6 +71,18 @@ numberServing t (By k) = trackNumber (k .cylinder) (k .head)
 abbrev pub landsOn : Geometry → ℕ → List ℕ → ℕ → ℕ
 landsOn g n ts t = numberServing t (served g n ts t)
 
--- The table with a pair more after its n, where it has room.
+-- The tracks of the pairs that count; past them a table may hold anything.
+abbrev pub counted : ℕ → List ℕ → List ℕ
+counted n ts = take (2 * min n 32) ts
+
+-- Past the pairs that count there is nothing but zeros: so is a table that was cleared and got its pairs one after the other.
+pub record BlankPast (n : ℕ) (ts : List ℕ) : Type 0 where
+  pub long : length ts ≡ 64
+  pub blank : (i : ℕ) → 2 * min n 32 ≤ i → getD ts i 0 ≡ 0
+
+-- One pair more after the n of a table, and how many there are then: where there is room, and else as it was.
+abbrev pub onePairMore : ℕ → ℕ
+onePairMore n = ite (decLt n 32) (n + 1) n
+
 abbrev pub withPair : ℕ → List ℕ → ℕ → ℕ → List ℕ
 withPair n ts bad spare = ite (decLt n 32) (set (set ts (2 * n) bad) (2 * n + 1) spare) ts

@@ -4,8 +4,8 @@
 use geometry::Geometry;
 ghost use mathlib.Core.Path.{_≡_};
 ghost use Prim.Native.Nat.{ℕ, _*_, _≤_, _<_, min};
-ghost use lib.ListN.{getD};
-ghost use Rattle.spares.specs.Table.{Good, InTable, OneOf, Serves, served, servedAt, withPair};
+ghost use lib.ListN.{getD, length};
+ghost use Rattle.spares.specs.Table.{Free, Good, InTable, OneOf, Serves, onePairMore, served, servedAt, withPair};
 ghost use Rattle.spares.specs.Tracks.{TrackOn, trackNumber, standsFor};
 ghost use Rattle.wire.specs.Promise.{Says};
 
@@ -97,10 +97,19 @@ fn all_are_on_drive(table: &[u32; 64], m: usize, g: Geometry) -> bool
     true
 }
 
+// How many numbers a table has, which its type says and a definition has to be told.
+fn numbers(table: &[u32; 64]) -> usize
+    ensures { λ _. ⌜ length (now (table .entry)) ≡ 64 ⌝ }
+{
+    let all = &table[..];
+    all.len()
+}
+
 // Whether a table of so many pairs is good.
 pub fn is_good(table: &[u32; 64], pairs: u16, g: Geometry) -> bool
     ensures { λ r. ⌜ Says r (Good g pairs (now (table .entry))) ⌝ }
 {
+    let _long = numbers(table);
     if 32 < pairs {
         return false;
     }
@@ -112,7 +121,7 @@ pub fn is_good(table: &[u32; 64], pairs: u16, g: Geometry) -> bool
 }
 
 // So many pairs, but no more than there is room for.
-fn in_room(pairs: u16) -> usize
+pub fn in_room(pairs: u16) -> usize
     ensures { λ r. ⌜ r ≡ min pairs 32 ⌝ }
 {
     if pairs <= 32 { pairs as usize } else { 32 }
@@ -123,6 +132,22 @@ pub fn is_in(table: &[u32; 64], pairs: u16, t: u32) -> bool
     ensures { λ r. ⌜ Says r (InTable pairs (now (table .entry)) t) ⌝ }
 {
     is_one_of(table, 2 * in_room(pairs), t)
+}
+
+// Whether two tracks can become a pair: they are not one, and neither is in the table.
+pub fn are_free(table: &[u32; 64], pairs: u16, bad: u32, spare: u32) -> bool
+    ensures { λ r. ⌜ Says r (Free pairs (now (table .entry)) bad spare) ⌝ }
+{
+    if bad == spare {
+        return false;
+    }
+    if is_in(table, pairs, bad) {
+        return false;
+    }
+    if is_in(table, pairs, spare) {
+        return false;
+    }
+    true
 }
 
 // Whether pair i of a table serves a track.
@@ -159,6 +184,13 @@ pub fn serving(table: &[u32; 64], pairs: u16, g: Geometry, cylinder: u16, head: 
         return server(table, pairs, g, number(cylinder, head as u8));
     }
     Served::Itself
+}
+
+// How many pairs there are with one more. Where there is no room for it they stay as many.
+pub fn one_more(pairs: u16) -> u16
+    ensures { λ r. ⌜ r ≡ onePairMore pairs ⌝ }
+{
+    if pairs < 32 { pairs + 1 } else { pairs }
 }
 
 // A pair more, after so many. A table without room is left as it is.

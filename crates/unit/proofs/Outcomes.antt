@@ -14,6 +14,8 @@ use Rattle.unit.proofs.Record.land_track.Reads as land-track
 use Rattle.unit.proofs.Record.moved_to.Reads as moved-to
 use Rattle.unit.proofs.Record.new.Reads as new
 use Rattle.unit.proofs.Record.number.Reads as number
+use Rattle.unit.proofs.Record.one_pair_more.Reads as one-pair-more
+use Rattle.unit.proofs.Record.pairs.Reads as pairs
 use Rattle.unit.proofs.Record.same.Reads as same
 
 blank-once : OneResult blank.Post
@@ -51,3 +53,9 @@ number-once κ a x y e f p q = p ∙ sym q
 
 same-once : OneResult same.Post
 same-once κ a x y e f p q = says-once x y _ p q
+
+pairs-once : OneResult pairs.Post
+pairs-once κ a x y e f p q = p ∙ sym q
+
+one-pair-more-once : OneResult one-pair-more.Post
+one-pair-more-once κ a x y e f p q = p ∙ sym q

@@ -7,7 +7,7 @@ use lib.ListN.{replicate}
 use Rattle.geometry.specs.declared.Geometry.{Geometry}
 use Rattle.geometry.specs.Drive.{C, geometryOf, volumeOf}
 use Rattle.geometry.specs.Limits.{Within}
-use Rattle.spares.specs.Table.{Good}
+use Rattle.spares.specs.Table.{Good, onePairMore, withPair}
 use Rattle.unit.specs.declared.Record.{Record}
 
 -- A unit's record: "whether the unit is initialized, its geometry and its cylinder", and "a table of 32 pairs" (02, K5), of which so many count.
@@ -51,12 +51,16 @@ heldOf initialized geometry cylinder pairs =
 abbrev pub recordOf : Bool → Geometry → ℕ → ℕ → List ℕ → UnitRecord
 recordOf initialized geometry cylinder pairs ts = unitOf (heldOf initialized geometry cylinder pairs) ts
 
--- A unit that has just been initialized: "cylinder 0" (01, One run, 87), and "A successful 87 clears the table": no pair of it counts.
+-- A table without pairs.
+abbrev pub noTracks : List ℕ
+noTracks = replicate 64 0
+
+-- A unit that has just been initialized: "cylinder 0" (01, One run, 87), and "A successful 87 clears the table" (02, K5).
 abbrev pub freshly : Geometry → Record
 freshly g = heldOf true g 0 0
 
-abbrev pub fresh : Geometry → List ℕ → UnitRecord
-fresh g ts = unitOf (freshly g) ts
+abbrev pub fresh : Geometry → UnitRecord
+fresh g = unitOf (freshly g) noTracks
 
 -- The same unit with its heads on a cylinder.
 abbrev pub headsOn : Record → ℕ → Record
@@ -65,10 +69,14 @@ headsOn r c = heldOf (r .initialized) (r .geometry) c (r .pairs)
 abbrev pub movedTo : UnitRecord → ℕ → UnitRecord
 movedTo u c = unitOf (headsOn (u .held) c) (u .tracks)
 
--- A unit of which nothing is said.
-abbrev pub noTracks : List ℕ
-noTracks = replicate 64 0
+-- The same unit with a pair more at the end of its table (02, K5): 85 "moves neither data nor heads".
+abbrev pub moreHeld : Record → Record
+moreHeld r = heldOf (r .initialized) (r .geometry) (r .cylinder) (onePairMore (r .pairs))
 
+abbrev pub mapped : UnitRecord → (bad spare : ℕ) → UnitRecord
+mapped u bad spare = unitOf (moreHeld (u .held)) (withPair (pairs u) (table u) bad spare)
+
+-- A unit of which nothing is said.
 abbrev pub nothingSaid : Record
 nothingSaid = heldOf false (geometryOf 0 0 0 (volumeOf 0 0) (volumeOf 0 0)) 0 0
 

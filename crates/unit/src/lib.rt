@@ -15,7 +15,7 @@ ghost use Rattle.geometry.specs.Drive.{C};
 ghost use Rattle.geometry.specs.Sectors.{OnDrive};
 ghost use Rattle.spares.specs.Table.{Good};
 ghost use Rattle.unit.specs.Landing.{landing, landingAt, numberOn, spotAt, spotted, trackLanding};
-ghost use Rattle.unit.specs.Standing.{CountsAsInitialized, bare, cylinder, freshly, geometry, headsOn, heldOf, initialized, nothingSaid, pairs, unitOf};
+ghost use Rattle.unit.specs.Standing.{CountsAsInitialized, bare, cylinder, freshly, geometry, headsOn, heldOf, initialized, moreHeld, nothingSaid, pairs, unitOf};
 ghost use Rattle.wire.specs.Promise.{Says};
 
 // A unit's record, of any contents: what it says of itself is judged by `counts_as_initialized`. Its table of bad tracks is lent beside it; here
@@ -105,6 +105,13 @@ impl Record {
         self.cylinder
     }
 
+    // How many pairs of its table count.
+    pub fn pairs(self) -> u16
+        ensures { λ r. ⌜ r ≡ pairs (bare self) ⌝ }
+    {
+        self.pairs
+    }
+
     // The record once its heads stand on another cylinder.
     pub fn moved_to(self, to: u16) -> Record
         ensures { λ r. ⌜ r ≡ headsOn self to ⌝ }
@@ -115,6 +122,19 @@ impl Record {
             geometry,
             cylinder: to,
             pairs: self.pairs,
+        }
+    }
+
+    // The record once a pair more is in its table.
+    pub fn one_pair_more(self) -> Record
+        ensures { λ r. ⌜ r ≡ moreHeld self ⌝ }
+    {
+        let geometry = self.geometry;
+        Record {
+            initialized: self.initialized,
+            geometry,
+            cylinder: self.cylinder,
+            pairs: spares::one_more(self.pairs),
         }
     }
 

@@ -2,6 +2,7 @@
 -- Each law takes the answer's two values apart.
 use Prim.Native.Nat.{ℕ, suc, _<_, _≤_}
 use mathlib.Core.Bool.{Bool, true, false, not, _&&_, false≢true, true≢false}
+use mathlib.Core.Logic.{ite}
 use mathlib.Core.Path.{_≡_, refl}
 use native.Mathlib.Omega.{arith}
 use borrow.Author.Tests.{eqb-false, eqb-true, leb-false, leb-true}
@@ -69,3 +70,14 @@ says-once true true P s r = refl
 says-once true false P s r = absurd (r s)
 says-once false true P s r = absurd (s r)
 says-once false false P s r = refl
+
+-- An answer about a statement is the one that its decision gives.
+pub says-decided : {P : Type 0} (d : Dec P) (t : Bool) → Says t P → t ≡ ite d true false
+says-decided (yes p) true s = refl
+says-decided (yes p) false s = absurd (s p)
+says-decided (no n) true s = absurd (n s)
+says-decided (no n) false s = refl
+
+pub decided-says : {P : Type 0} (d : Dec P) → Says (ite d true false) P
+decided-says (yes p) = p
+decided-says (no n) = n

@@ -33,7 +33,7 @@ counts =
                 };
           };
       cylinder = omega arith;
-      good = empty-is-good drive noTracks;
+      good = empty-is-good drive noTracks refl;
     }
 
 pub present : Present (volume drive Zero)

@@ -18,9 +18,8 @@ use Rattle.geometry.specs.Limits.{Has, Present}
 use Rattle.geometry.specs.Sectors.Inside.{addressOf-is, markByte-is, placeOf-is}
 use Rattle.geometry.proofs.Ends.{end-absent, end-present}
 use Rattle.judge.specs.declared.Moving.{Moving}
-use Rattle.judge.specs.declared.Standing.{Standing}
 use Rattle.judge.specs.declared.Verdict.{Verdict}
-use Rattle.judge.specs.Given.{asked}
+use Rattle.judge.specs.Given.{on}
 use Rattle.judge.specs.Asks.{carrying, jobOf, planOf}
 use Rattle.judge.specs.Verdict.{verdict}
 use Rattle.judge.proofs.First.{never}
@@ -37,12 +36,12 @@ use Rattle.spares.proofs.Laws.{empty-is-good}
 use Rattle.unit.proofs.Laws.{no-pairs-lands-there}
 use Rattle.unit.specs.Landing.{spotOf, trackOf}
 use Rattle.unit.specs.Landing.Behind.{spotAt-is, spotOf-is, trackOf-is}
-use Rattle.unit.specs.Standing.{CountsAsInitialized, UnitRecord, byValue, fresh, movedTo, noTracks}
+use Rattle.unit.specs.Standing.{CountsAsInitialized, UnitRecord, fresh, movedTo, noTracks}
 use Rattle.worked.specs.TwoChains.{tiny}
 
 -- With its heads on a cylinder.
 abbrev pub unit : ℕ → UnitRecord
-unit cylinder = movedTo (fresh tiny noTracks) cylinder
+unit cylinder = movedTo (fresh tiny) cylinder
 
 pub counts : (c : ℕ) → c < 2 → CountsAsInitialized (unit c)
 unfolding Has Present
@@ -60,7 +59,7 @@ counts c less =
                 };
           };
       cylinder = less;
-      good = empty-is-good tiny noTracks;
+      good = empty-is-good tiny noTracks refl;
     }
 
 pub present : Present (volume tiny Zero)
@@ -91,9 +90,6 @@ place-is c n = rw (spotOf-is, no-pairs-lands-there (unit c) refl, spotAt-is, pla
 
 -- ---- what passes
 
-abbrev pub standing : ℕ → ℕ → Standing
-standing c image = record { «record» = byValue (unit c); image = image }
-
 abbrev target : ℕ → Target
 target n = record { volume = Zero; start = Start.Logical n }
 
@@ -104,15 +100,14 @@ moveOf to-host n count at =
 module _ (host : List ℕ) (c : ℕ) (heads : c < 2) where
   pub move-passes :
       (to-host : Bool) (n count at : ℕ) → 0 < count → n + count ≤ 2 → InMemory host at (count * 64) →
-      verdict (asked (Task.Move (moveOf to-host n count at)) (standing c 130) noTracks host) ≡
+      verdict (on (unit c) 130 (Task.Move (moveOf to-host n count at)) host) ≡
       Verdict.Do (carrying (jobOf (moveOf to-host n count at) n))
   move-passes to-host n count at some fits held =
       let m = moveOf to-host n count at in
-      let s = standing c 130 in
-      own s noTracks host _ never ∙
-      move-on s noTracks host m (counts c heads) present (λ none. omega arith) ∙
-      span-on s noTracks host m (span-covers s noTracks host m n refl some (omega (arith, sectors-2))) (omega (arith, need-130)) ∙
-      piece-done s noTracks host m at refl n refl held
+      own (unit c) 130 host _ never ∙
+      move-on (unit c) 130 host m (counts c heads) present (λ none. omega arith) ∙
+      span-on (unit c) 130 host m (span-covers (unit c) 130 host m n refl some (omega (arith, sectors-2))) (omega (arith, need-130)) ∙
+      piece-done (unit c) 130 host m at refl n refl held
 
 -- A format of the first track, with its data at 256.
 abbrev pub track : Track
@@ -124,13 +119,12 @@ heads-there = rw (trackOf-is, no-pairs-lands-there (unit 0) refl, spotAt-is)
 
 pub format-passes :
     (host : List ℕ) → InMemory host 256 64 →
-    verdict (asked (Task.Format track) (standing 0 130) noTracks host) ≡ Verdict.Do (planOf (unit 0) (Task.Format track))
+    verdict (on (unit 0) 130 (Task.Format track) host) ≡ Verdict.Do (planOf (unit 0) (Task.Format track))
 format-passes host held =
-    let s = standing 0 130 in
-    own s noTracks host _ never ∙
-    format-on s noTracks host track (counts 0 (omega arith))
+    own (unit 0) 130 host _ never ∙
+    format-on (unit 0) 130 host track (counts 0 (omega arith))
     (record { cylinder = omega arith; head = omega (arith, heads-1); sector = omega arith })
-    (omega (arith, need-130)) ∙ data-done s noTracks host track held
+    (omega (arith, need-130)) ∙ data-done (unit 0) 130 host track held
 
 -- ---- what stops a transfer
 

@@ -29,7 +29,7 @@ use Rattle.judge.proofs.First.{never}
 use Rattle.judge.proofs.Locality.{placed-uib-read}
 use Rattle.wire.proofs.Promises.{never as impossible}
 use Rattle.judge.proofs.Tasks.{format-11, handshake, move-11, own, restore-done, restore-refused, shape-given, shape-outside}
-use Rattle.unit.specs.Standing.{CountsAsInitialized, byValue, fresh, noTracks}
+use Rattle.unit.specs.Standing.{CountsAsInitialized, fresh}
 use Rattle.transfer.specs.Data.{dataOn}
 use Rattle.transfer.specs.Progress.{progress, stopsAt}
 use Rattle.transfer.specs.Stores.{after, bytesFrom, upTo}
@@ -136,7 +136,7 @@ refused-pass = both-pass refusedData refl refl (omega arith)
 
 refused-write : verdictOf (first-of refusedData) ≡ Verdict.Refused Refusal.NotInitialized
 unfolding word taskOf
-refused-write = own _ _ _ _ never ∙ move-11 (record { «record» = byValue (newDrive .unit); image = 0 }) noTracks (refusedData .host) (moveOf false 0 1 28) not-ready
+refused-write = own _ _ _ _ never ∙ move-11 (newDrive .unit) 0 (refusedData .host) (moveOf false 0 1 28) not-ready
 
 refused-first : Alone First 0 refusedData Zero ((0, 28) ∷ []) ((2, 2) ∷ [])
 unfolding word taskOf
@@ -238,7 +238,7 @@ refused-format-pass = both-pass refusedFormat refl refl (omega arith)
 
 refused-format : verdictOf (first-of refusedFormat) ≡ Verdict.Refused Refusal.NotInitialized
 unfolding word taskOf
-refused-format = own _ _ _ _ never ∙ format-11 (record { «record» = byValue (newDrive .unit); image = 0 }) noTracks (refusedFormat .host) track not-ready
+refused-format = own _ _ _ _ never ∙ format-11 (newDrive .unit) 0 (refusedFormat .host) track not-ready
 
 refused-format-first : Alone First 0 refusedFormat Zero ((0, 28) ∷ []) ((2, 2) ∷ [])
 unfolding word taskOf
@@ -360,11 +360,11 @@ shared-initialize : verdictOf (first-of sharedUnit) ≡ Verdict.Do (only (Leavin
 unfolding word taskOf
 shared-initialize =
     rw (shapeAt-inside (sharedUnit .host) 32 (omega arith))
-    (own _ _ _ _ never ∙ shape-given (record { «record» = byValue (newDrive .unit); image = 0 }) noTracks (sharedUnit .host) tiny within-tiny)
+    (own _ _ _ _ never ∙ shape-given (newDrive .unit) 0 (sharedUnit .host) tiny within-tiny)
 
 shared-restore : verdictOf (second-of sharedUnit) ≡ Verdict.Refused Refusal.NotInitialized
 unfolding word taskOf
-shared-restore = own _ _ _ _ never ∙ restore-refused (record { «record» = byValue (newDrive .unit); image = 0 }) noTracks (sharedUnit .host) not-ready
+shared-restore = own _ _ _ _ never ∙ restore-refused (newDrive .unit) 0 (sharedUnit .host) not-ready
 
 shared-first : Alone First 0 sharedUnit Zero ((0, 28) ∷ (32, 18) ∷ []) ((2, 2) ∷ [])
 unfolding word taskOf
@@ -378,7 +378,7 @@ shared-second = idle Second sharedUnit 28 (shared-pass .1) _ shared-restore refl
 abbrev initialized-world : World
 initialized-world =
     let w = worldFor First sharedUnit in
-    changed w Zero (after (begun 0 ++ finish (blockAt (w .host) 0) 0 0 Ended (pos 0)) (buffersOf w Zero)) (fresh tiny noTracks)
+    changed w Zero (after (begun 0 ++ finish (blockAt (w .host) 0) 0 0 Ended (pos 0)) (buffersOf w Zero)) (fresh tiny)
 
 initialize-leaves : runOf First one .left sharedUnit ≡ leaving First sharedUnit initialized-world
 unfolding worldAfter bytesFrom dataOn progress upTo
@@ -395,7 +395,7 @@ then-passes = passes-at Second then-shared 28 refl refl (omega arith)
 
 then-restore : verdictOf (second-of then-shared) ≡ Verdict.Do (only (Leaving.HeadsAt 0))
 unfolding word taskOf after bytesFrom
-then-restore = own _ _ _ _ never ∙ restore-done (record { «record» = byValue (unit 0); image = 0 }) noTracks (then-shared .host) (counts 0 (omega arith))
+then-restore = own _ _ _ _ never ∙ restore-done (unit 0) 0 (then-shared .host) (counts 0 (omega arith))
 
 then-comes : ofSecond then-shared ≡ come RunAnswer.Done 0 0
 unfolding after bytesFrom
@@ -424,13 +424,13 @@ read-pass = both-pass readByOther refl refl (omega arith)
 
 read-report : verdictOf (first-of readByOther) ≡ Verdict.Do (plan Moving.Nothing Report.Identity Leaving.AsItWas)
 unfolding word taskOf
-read-report = handshake (record { «record» = byValue (unit 0); image = 130 }) noTracks (readByOther .host)
+read-report = handshake (unit 0) 130 (readByOther .host)
 
 read-initialize : verdictOf (second-of readByOther) ≡ Verdict.Do (only (Leaving.Fresh tiny))
 unfolding word taskOf
 read-initialize =
     rw (shapeAt-inside (readByOther .host) 4 (omega arith))
-    (own _ _ _ _ never ∙ shape-given (record { «record» = byValue (newDrive .unit); image = 0 }) noTracks (readByOther .host) tiny within-tiny)
+    (own _ _ _ _ never ∙ shape-given (newDrive .unit) 0 (readByOther .host) tiny within-tiny)
 
 read-first : Alone First 0 readByOther Zero ((0, 28) ∷ []) ((2, 2) ∷ (4, 12) ∷ [])
 unfolding word taskOf
@@ -468,7 +468,7 @@ then-outside : verdictOf (second-of then-read) ≡ Verdict.Refused Refusal.UibOu
 unfolding word taskOf after bytesFrom Present
 then-outside =
     rw (shapeAt-inside (then-read .host) 4 (omega arith))
-    (own _ _ _ _ never ∙ shape-outside (record { «record» = byValue (newDrive .unit); image = 0 }) noTracks (then-read .host) (uibAt (then-read .host) 4)
+    (own _ _ _ _ never ∙ shape-outside (newDrive .unit) 0 (then-read .host) (uibAt (then-read .host) 4)
     (λ within. let one-head : 0 < 0 = within .volumes .one-head in omega arith))
 
 read-differs : EitherWay one two readByOther → ⊥
@@ -512,7 +512,7 @@ format-outside : verdictOf (second-of formatRead) ≡ Verdict.Refused Refusal.Ui
 unfolding word taskOf Present
 format-outside =
     rw (shapeAt-inside (formatRead .host) 8 (omega arith))
-    (own _ _ _ _ never ∙ shape-outside (record { «record» = byValue (newDrive .unit); image = 0 }) noTracks (formatRead .host) (uibAt (formatRead .host) 8)
+    (own _ _ _ _ never ∙ shape-outside (newDrive .unit) 0 (formatRead .host) (uibAt (formatRead .host) 8)
     (λ within. let one-head : 0 < 0 = within .volumes .one-head in omega arith))
 
 format-second : Alone Second 28 formatRead One ((28, 28) ∷ (8, 18) ∷ []) ((30, 2) ∷ [])
@@ -543,7 +543,7 @@ then-within : verdictOf (second-of then-format) ≡ Verdict.Do (only (Leaving.Fr
 unfolding word taskOf after bytesFrom dataOn progress upTo stopsAt
 then-within =
     rw (shapeAt-inside (then-format .host) 8 (omega arith))
-    (own _ _ _ _ never ∙ shape-given (record { «record» = byValue (newDrive .unit); image = 0 }) noTracks (then-format .host) tiny within-tiny)
+    (own _ _ _ _ never ∙ shape-given (newDrive .unit) 0 (then-format .host) tiny within-tiny)
 
 then-format-comes : ofSecond then-format ≡ come RunAnswer.Done 0 0
 unfolding after bytesFrom dataOn progress upTo stopsAt

@@ -18,14 +18,14 @@ use Rattle.request.specs.declared.Move.{Move}
 use Rattle.request.specs.declared.Start.{Start}
 use Rattle.request.specs.declared.Task.{Task}
 use Rattle.unit.specs.Landing.{spotOf}
-use Rattle.unit.specs.Standing.{UnitRecord, fresh, noTracks}
+use Rattle.unit.specs.Standing.{UnitRecord, fresh}
 
 -- "C = 10, S = 4, B = 64, volume 0 heads 0 and 1, volume 1 head 2"
 abbrev pub drive : Geometry
 drive = geometryOf 10 4 64 (volumeOf 0 2) (volumeOf 2 1)
 
 abbrev pub unit : UnitRecord
-unit = fresh drive noTracks
+unit = fresh drive
 
 -- n elements of a list, of 64 bytes each and all of them at address 512.
 unfoldable pub elements : ℕ → List ℕ

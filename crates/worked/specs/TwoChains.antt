@@ -21,7 +21,7 @@ tiny = geometryOf 2 1 64 (volumeOf 0 1) (volumeOf 0 0)
 
 -- A drive with the heads on cylinder 0, whose data bytes are all alike, with the mark of its second sector.
 abbrev pub driveWith : ℕ → ℕ → Drive
-driveWith byte mark = record { unit = fresh tiny noTracks; image = replicate 128 byte ++ (0 ∷ mark ∷ []) }
+driveWith byte mark = record { unit = fresh tiny; image = replicate 128 byte ++ (0 ∷ mark ∷ []) }
 
 -- One that is not initialized.
 abbrev pub newDrive : Drive

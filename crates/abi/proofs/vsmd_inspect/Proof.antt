@@ -1,7 +1,8 @@
 -- A record that is too short is met before anything is stored.
 -- Past both tests the part is board's, of the records that stand in the bytes.
-use Rattle.abi.proofs.Called.{inspection-made, inspection-refused-0, inspection-refused-1}
+use Rattle.abi.proofs.Called.{inspection-made, inspection-refused-0, inspection-refused-1, tracks-read}
 use denote.Ref.{now}
+use Rattle.unit.specs.Standing.{bare}
 use native.Mathlib.Omega.{arith}
 use mathlib.Core.Path.{sym}
 use borrow.Author.Needs.{needs}
@@ -24,6 +25,18 @@ record-requires c κs = search needs
 record-requires-2 : tie.Need-record-requires-2
 record-requires-2 c κs = search needs
 
+pairs-requires : tie.Need-pairs-requires
+pairs-requires c κs = search needs
+
+read-tracks-requires : tie.Need-read-tracks-requires
+read-tracks-requires c κs = search needs
+
+pairs-requires-2 : tie.Need-pairs-requires-2
+pairs-requires-2 c κs = search needs
+
+read-tracks-requires-2 : tie.Need-read-tracks-requires-2
+read-tracks-requires-2 c κs = search needs
+
 part-of-requires : tie.Need-part-of-requires
 part-of-requires c κs = search needs
 
@@ -32,13 +45,17 @@ image-number-requires c κs = search needs
 
 returns-3 : tie.Need-returns-3
 returns-3 c =
-    let a = c .before .before .before .before .before .before .before .before .before .before .args in
+    let second = c .before .before .before .before in
+    let first = second .before .before .before in
+    let a = first .before .before .before .before .before .before .before .before .before .args in
+    let zero = tracks-read (now (a .record0)) (bare (first .before .before .before .before .«record» .result)) (first .before .before .before .before .«record» .ensures) (first .before .before .pairs .ensures) (first .read-tracks .ensures) in
+    let one = tracks-read (now (a .record1)) (bare (first .before .before .before .record2 .result)) (first .before .before .before .record2 .ensures) (second .before .before .pairs2 .ensures) (second .read-tracks2 .ensures) in
     rw (
       inspection-made (now (a .record0)) (now (a .record1)) (a .long0) (a .long1) (a .unit) (a .place) (now (a .image)) (now (a .at)) (now (a .bytes)) (omega arith) (omega arith),
       c .image-number .ensures,
       c .before .part-of .ensures,
-      c .before .before .before .before .record2 .ensures,
-      c .before .before .before .before .before .record .ensures,
+      zero,
+      one,
     )
 
 pub vsmd-inspect-spec : {M : Type 1} → statement M
@@ -49,6 +66,10 @@ vsmd-inspect-spec =
     returns-2
     record-requires
     record-requires-2
+    pairs-requires
+    read-tracks-requires
+    pairs-requires-2
+    read-tracks-requires-2
     part-of-requires
     image-number-requires
     returns-3)

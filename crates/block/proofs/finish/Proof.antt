@@ -27,7 +27,7 @@ same-length-2 c = search needs
 
 returns : tie.Need-returns
 returns c =
-    let a = c .before .before .before .before .before .before .before .before .before .before .before .before .before .before .args in (
+    let a = c .before .before .before .before .before .before .before .before .before .before .before .before .before .before .before .args in (
       refl,
       λ image.
           finish-made (a .b) (a .at) (a .i) (a .p .answer) (a .p .travel) (a .host .now) image (a .events .now) (c .before .before .before .before .before .before .before .put-status .last .0) (c .before .before .put-event .last .0)

@@ -37,6 +37,9 @@ travel-requires-2 c κs = search needs
 enum-told-4 : tie.Need-enum-told-4
 enum-told-4 c = search needs
 
+enum-told-5 : tie.Need-enum-told-5
+enum-told-5 c = search needs
+
 returns : tie.Need-returns
 returns c = rw (c .enum-told .given .1)
 
@@ -48,6 +51,9 @@ returns-3 c = rw (c .before .before .before .enum-told3 .given .1) (toZ-ofZ w32 
 
 returns-4 : tie.Need-returns-4
 returns-4 c = rw (c .enum-told4 .given .1)
+
+returns-5 : tie.Need-returns-5
+returns-5 c = rw (c .enum-told5 .given .1)
 
 pub gone-spec : {M : Type 1} → statement M
 gone-spec =
@@ -63,7 +69,9 @@ gone-spec =
     cylinder-requires-4
     travel-requires-2
     enum-told-4
+    enum-told-5
     returns
     returns-2
     returns-3
-    returns-4)
+    returns-4
+    returns-5)

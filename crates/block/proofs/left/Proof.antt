@@ -28,6 +28,12 @@ enum-known-leaving-3 c = search needs
 fresh-requires : tie.Need-fresh-requires
 fresh-requires c κs = search needs
 
+enum-told-2 : tie.Need-enum-told-2
+enum-told-2 c = search needs
+
+one-pair-more-requires : tie.Need-one-pair-more-requires
+one-pair-more-requires c κs = search needs
+
 returns : tie.Need-returns
 returns c = search needs
 
@@ -39,6 +45,9 @@ returns-3 c = rw (c .before .before .before .leaving2 .given .1) (c .moved-to2 .
 
 returns-4 : tie.Need-returns-4
 returns-4 c = rw (c .before .before .leaving3 .given .1) (c .fresh .ensures)
+
+returns-5 : tie.Need-returns-5
+returns-5 c = rw (c .before .enum-told2 .given .1) (c .one-pair-more .ensures)
 
 pub left-spec : {M : Type 1} → statement M
 left-spec =
@@ -52,7 +61,10 @@ left-spec =
     moved-to-requires-2
     enum-known-leaving-3
     fresh-requires
+    enum-told-2
+    one-pair-more-requires
     returns
     returns-2
     returns-3
-    returns-4)
+    returns-4
+    returns-5)

@@ -1,23 +1,31 @@
 -- The verdict is that on the block's request. A refused block is only finished; an accepted one is performed first.
-use mathlib.Core.Path.{_≡_, refl, sym, _∙_}
+use mathlib.Core.Path.{_≡_, refl, sym, ap, _∙_}
 use native.Mathlib.Omega.{arith}
 use Rattle.unit.specs.Standing.{unitOf}
 use Rattle.iopb.specs.Ask.{taskOf}
 use Rattle.judge.specs.declared.Verdict.{Verdict}
 use Rattle.judge.specs.Verdict.{verdict}
 use Rattle.judge.proofs.LetThrough.{plan-fits}
-use Rattle.block.specs.Block.{asking, finish, judged}
-use Rattle.block.specs.Steps.{driveWith}
-use Rattle.block.proofs.Effects.{effect-judged, then-made}
+use Rattle.block.specs.Block.{asking, finish, finished, judged}
+use Rattle.iopb.specs.declared.Block.{Block}
+use Rattle.block.specs.Steps.{doneOf, driveWith}
+use Rattle.block.specs.World.{Drive}
+use Rattle.block.proofs.Effects.{effect-judged, then-made, told-of-it}
 use borrow.Author.Needs.{needs}
 use Rattle.block.proofs.run_block.Statement.{statement}
 use Rattle.block.proofs.run_block.Tie as tie
+
+read-requires : tie.Need-read-requires
+read-requires c κs = search needs
+
+settled-requires : tie.Need-settled-requires
+settled-requires c κs = search needs
 
 request-requires : tie.Need-request-requires
 request-requires c κs = search needs
 
 judge-requires : tie.Need-judge-requires
-judge-requires c κs = search needs
+judge-requires c κs = c .before .before .before .before .settled .ensures
 
 enum-known-r : tie.Need-enum-known-r
 enum-known-r c = search needs
@@ -25,29 +33,47 @@ enum-known-r c = search needs
 refuse-requires : tie.Need-refuse-requires
 refuse-requires c κs = search needs
 
-finish-requires : tie.Need-finish-requires
-finish-requires c κs = search needs
+-- Where the block begins, the drive that it works on, and the block as it was read.
+begins : tie.After-judge → tie.Start
+begins c = c .before .before .before .before .before .before .before .before .before .before .before .before
 
-enum-known-plan : tie.Need-enum-known-plan
-enum-known-plan c = search needs
+drive : tie.After-judge → Drive
+drive c =
+    let a = begins c .args in
+    driveWith (unitOf (a .u) (a .table .now)) (a .image .now)
+
+block : tie.After-judge → Block
+block c = c .before .before .before .before .before .before .before .read .result
 
 -- The verdict is that on the block's request.
 judgement :
     (c : tie.After-judge) →
-    c .judge .result ≡
-    verdict (asking (taskOf (c .before .before .before .before .before .before .before .before .args .host .now) (c .before .before .before .before .before .before .before .before .args .b)) (driveWith (unitOf (c .before .before .before .before .before .before .before .before .args .u) (c .before .before .before .before .before .before .before .before .args .table .now)) (c .before .before .before .before .before .before .before .before .args .image .now)) (c .before .before .before .before .before .before .before .before .args .host .now))
+    c .judge .result ≡ verdict (asking (taskOf (begins c .args .host .now) (block c)) (drive c) (begins c .args .host .now))
+unfolding begins drive block
 judgement c = rw (c .before .before .before .request .ensures) at (c .judge .ensures)
 
+finish-requires : tie.Need-finish-requires
+unfolding begins
+finish-requires c κs = begins (c .before .before .before .before .before .before) .pre .0
+
+enum-known-plan : tie.Need-enum-known-plan
+enum-known-plan c = search needs
+
+counts-then-requires : tie.Need-counts-then-requires
+counts-then-requires c κs = search needs
+
 perform-requires : tie.Need-perform-requires
+unfolding begins drive block
 perform-requires c κs =
-    let a = c .before .before .before .before .before .before .before .before .before .before .before .before .before .before .args in (
-      c .before .before .before .before .before .before .before .before .before .before .before .before .before .before .pre .0 .block,
-      plan-fits (asking (taskOf (a .host .now) (a .b)) (driveWith (unitOf (a .u) (a .table .now)) (a .image .now)) (a .host .now)) _
-          (sym (judgement (c .before .before .before .before .before .before)) ∙ c .before .before .before .before .plan .given .1),
-    )
+    let j = c .before .before .before .before .before .before .before in
+    let host = begins j .args .host .now in
+    (begins j .pre .0 .block, plan-fits (asking (taskOf host (block j)) (drive j) host) _ (sym (judgement j) ∙ c .before .before .before .before .before .plan .given .1))
 
 finish-requires-2 : tie.Need-finish-requires-2
-finish-requires-2 c κs = record { block = omega (arith, c .before .before .before .before .before .before .before .before .before .before .before .before .before .before .before .before .before .before .before .before .before .pre .0 .block, c .before .before .before .before .before .before .perform .kept .0); entry = c .before .before .before .before .before .before .before .before .before .before .before .before .before .before .before .before .before .before .before .before .before .pre .0 .entry }
+unfolding begins
+finish-requires-2 c κs =
+    let room = begins (c .before .before .before .before .before .before .before .before .before .before .before .before .before .before) .pre .0 in
+    record { block = omega (arith, room .block, c .before .before .before .before .before .before .perform .kept .0); entry = room .entry }
 
 same-length : tie.Need-same-length
 same-length c = search needs
@@ -56,14 +82,21 @@ same-length-2 : tie.Need-same-length-2
 same-length-2 c = search needs
 
 returns : tie.Need-returns
+unfolding begins drive block
 returns c =
-    let a = c .before .before .before .before .before .before .before .before .before .before .before .before .before .before .before .before .before .before .before .args in
-    let r = c .before .before .before .before .before .before .before .before .before .r .given .0 .0 in
+    let j = c .before .before .before .before .before .before .before .before .before .before .before in
+    let a = begins j .args in
+    let read = j .before .before .before .before .before .before .before .read .ensures in
+    let met = c .before .before .before .before .before .before .before .before .before .r .given in
+    let p = judged (a .host .now) (drive j) (a .at) (Verdict.Refused (met .0 .0)) in
+    let e = finished (block j) (a .at) (a .i) p in
     let f = c .before .before .before .before .finish in
     let is = c .before .before .before .before .before .refuse .ensures in
-    rw (effect-judged (a .host .now) (driveWith (unitOf (a .u) (a .table .now)) (a .image .now)) (a .at) (a .i) (a .b) (Verdict.Refused r) (c .before .before .before .before .before .before .before .before .before .before .before .before .before .before .before .before .before .before .before .pre .1) (sym (judgement (c .before .before .before .before .before .before .before .before .before .before .before)) ∙ c .before .before .before .before .before .before .before .before .before .r .given .1))
+    rw (effect-judged (a .host .now) (drive j) (a .at) (a .i) (block j) (Verdict.Refused (met .0 .0)) read (sym (judgement j) ∙ met .1))
     (record {
-      result = rw is at (f .ensures .0);
+      result =
+          told-of-it (block j) e _ _ (rw is at (f .ensures .0)) (j .before .before .before .before .before .settled .ensures)
+          ∙ ap (λ (x : Block). doneOf x e) read;
       table = refl;
       stored = rw is at (f .ensures .1 (a .image .now));
     })
@@ -78,20 +111,29 @@ same-length-5 : tie.Need-same-length-5
 same-length-5 c = search needs
 
 returns-2 : tie.Need-returns-2
+unfolding begins drive block
 returns-2 c =
-    let a = c .before .before .before .before .before .before .before .before .before .before .before .before .before .before .before .before .before .before .before .before .before .before .before .before .before .before .args in
-    let plan = c .before .before .before .before .before .before .before .before .before .before .before .before .before .before .before .before .plan .given .0 .0 in
+    let j = c .before .before .before .before .before .before .before .before .before .before .before .before .before .before .before .before .before .before .before in
+    let a = begins j .args in
+    let read = j .before .before .before .before .before .before .before .read .ensures in
+    let met = c .before .before .before .before .before .before .before .before .before .before .before .before .before .before .before .before .before .plan .given in
+    let d = drive j in
+    let q = judged (a .host .now) d (a .at) (Verdict.Do (met .0 .0)) in
+    let e = finished (block j) (a .at) (a .i) q in
+    let is-plan = sym (judgement j) ∙ met .1 in
     let f = c .before .before .before .before .finish2 in
     let p = c .before .before .before .before .before .before .before .before .before .before .before .perform in
     let is = p .ensures .result in
-    let d = driveWith (unitOf (a .u) (a .table .now)) (a .image .now) in
-    let q = judged (a .host .now) d (a .at) (Verdict.Do plan) in
-    rw (effect-judged (a .host .now) d (a .at) (a .i) (a .b) (Verdict.Do plan) (c .before .before .before .before .before .before .before .before .before .before .before .before .before .before .before .before .before .before .before .before .before .before .before .before .before .before .pre .1) (sym (judgement (c .before .before .before .before .before .before .before .before .before .before .before .before .before .before .before .before .before .before)) ∙ c .before .before .before .before .before .before .before .before .before .before .before .before .before .before .before .before .plan .given .1))
+    rw (effect-judged (a .host .now) d (a .at) (a .i) (block j) (Verdict.Do (met .0 .0)) read is-plan)
     (record {
-      result = rw is at (f .ensures .0);
+      result =
+          told-of-it (block j) e _ _ (rw is at (f .ensures .0))
+          (c .before .before .before .before .before .before .before .before .before .before .before .before .before .before .before .counts-then .ensures (d .unit) _ (j .before .before .before .before .before .settled .ensures)
+          (plan-fits (asking (taskOf (a .host .now) (block j)) d (a .host .now)) (met .0 .0) is-plan .leaving))
+          ∙ ap (λ (x : Block). doneOf x e) read;
       table = p .ensures .table;
       stored =
-          then-made (q .stores) (finish (a .b) (a .at) (a .i) (q .answer) (q .travel)) _ _ _ (p .ensures .stored (a .events .now))
+          then-made (q .stores) (finish (block j) (a .at) (a .i) (q .answer) (q .travel)) _ _ _ (p .ensures .stored (a .events .now))
           (rw is at (f .ensures .1 (p .last .1 .0)));
     })
 
@@ -99,12 +141,15 @@ pub run-block-spec : {M : Type 1} → statement M
 run-block-spec =
     tie.close
     (tie.spec
+    read-requires
+    settled-requires
     request-requires
     judge-requires
     enum-known-r
     refuse-requires
     finish-requires
     enum-known-plan
+    counts-then-requires
     perform-requires
     finish-requires-2
     same-length

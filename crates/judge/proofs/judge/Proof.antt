@@ -43,6 +43,12 @@ enum-known-task-4 c = search needs
 judge-format-requires : tie.Need-judge-format-requires
 judge-format-requires c κs = search needs
 
+enum-known-task-5 : tie.Need-enum-known-task-5
+enum-known-task-5 c = search needs
+
+judge-map-requires : tie.Need-judge-map-requires
+judge-map-requires c κs = search needs
+
 returns : tie.Need-returns
 returns c = rw (c .enum-told .given .1) (sym (unknown _ _ _))
 
@@ -56,13 +62,16 @@ returns-4 : tie.Need-returns-4
 returns-4 c = rw (c .before .before .task2 .given .1) (c .judge-shape .ensures _ _ _ ∙ sym (own _ _ _ _ never))
 
 returns-5 : tie.Need-returns-5
-returns-5 c = rw (c .before .enum-told3 .given .1) (c .judge-restore .ensures _ ∙ sym (own _ _ _ _ never))
+returns-5 c = rw (c .before .enum-told3 .given .1) (c .judge-restore .ensures _ _ (c .before .before .before .before .pre) ∙ sym (own _ _ _ _ never))
 
 returns-6 : tie.Need-returns-6
 returns-6 c = rw (c .before .before .task3 .given .1) (c .judge-seek .ensures _ ∙ sym (own _ _ _ _ never))
 
 returns-7 : tie.Need-returns-7
 returns-7 c = rw (c .before .before .task4 .given .1) (c .judge-format .ensures ∙ sym (own _ _ _ _ never))
+
+returns-8 : tie.Need-returns-8
+returns-8 c = rw (c .before .before .task5 .given .1) (c .judge-map .ensures _ ∙ sym (own _ _ _ _ never))
 
 pub judge-spec : {M : Type 1} → statement M
 judge-spec =
@@ -80,10 +89,13 @@ judge-spec =
     judge-seek-requires
     enum-known-task-4
     judge-format-requires
+    enum-known-task-5
+    judge-map-requires
     returns
     returns-2
     returns-3
     returns-4
     returns-5
     returns-6
-    returns-7)
+    returns-7
+    returns-8)

@@ -9,13 +9,8 @@ use Rattle.judge.proofs.Tasks.{format-11, format-16, format-17, format-
 use Rattle.judge.proofs.judge_format.Statement.{statement}
 use Rattle.judge.proofs.judge_format.Tie as tie
 
-counts-as-initialized-requires : tie.Need-counts-as-initialized-requires
-counts-as-initialized-requires c κs = search needs
-
 returns : tie.Need-returns
-returns c =
-    let u = c .before .counts-as-initialized in
-    sym (format-11 _ _ _ _ (denied (u .result) _ (c .if1 .taken) (u .ensures)))
+returns c = sym (format-11 _ _ _ _ (denied (c .before .before .before .before .args .standing .counts) _ (c .if1 .taken) (c .before .before .before .before .pre)))
 
 land-track-requires : tie.Need-land-track-requires
 land-track-requires c κs = search needs
@@ -28,12 +23,11 @@ is-short-requires c κs = search needs
 
 returns-2 : tie.Need-returns-2
 returns-2 c =
-    let u = c .before .before .before .before .before .before .before .counts-as-initialized in
     let short = c .before .is-short in
     let spot = c .before .before .before .spot .given in
     let on = at-track _ _ _ _ (sym (c .before .before .before .before .before .land-track .ensures) ∙ spot .1) in
     sym
-    (format-17 _ _ _ _ (granted (u .result) _ (c .before .before .before .before .before .before .if1 .left) (u .ensures)) (on .0)
+    (format-17 _ _ _ _ (granted (c .before .before .before .before .before .before .before .before .before .before .args .standing .counts) _ (c .before .before .before .before .before .before .if1 .left) (c .before .before .before .before .before .before .before .before .before .before .pre)) (on .0)
     (says-yes (short .result) _ (c .if2 .taken) (short .ensures)))
 
 judge-data-requires : tie.Need-judge-data-requires
@@ -47,28 +41,25 @@ enum-told c = search needs
 returns-3 : tie.Need-returns-3
 returns-3 c =
     let b = c .before in
-    let u = b .before .before .before .before .before .before .before .counts-as-initialized in
     let short = b .before .is-short in
     let long = says-no (short .result) _ (b .if2 .left) (short .ensures) in
     let spot = b .before .before .before .spot .given in
     let on = at-track _ _ _ _ (sym (b .before .before .before .before .before .land-track .ensures) ∙ spot .1) in
     c .judge-data .ensures
     ∙ sym
-    (format-on _ _ _ _ (granted (u .result) _ (b .before .before .before .before .before .before .if1 .left) (u .ensures)) (on .0)
+    (format-on _ _ _ _ (granted (b .before .before .before .before .before .before .before .before .before .before .args .standing .counts) _ (b .before .before .before .before .before .before .if1 .left) (b .before .before .before .before .before .before .before .before .before .before .pre)) (on .0)
     (omega arith))
 
 returns-4 : tie.Need-returns-4
 returns-4 c =
-    let u = c .before .before .before .before .counts-as-initialized in
     sym
-    (format-16 _ _ _ _ (granted (u .result) _ (c .before .before .before .if1 .left) (u .ensures))
+    (format-16 _ _ _ _ (granted (c .before .before .before .before .before .before .before .args .standing .counts) _ (c .before .before .before .if1 .left) (c .before .before .before .before .before .before .before .pre))
     (no-track _ _ _ (sym (c .before .before .land-track .ensures) ∙ c .enum-told .given .1)))
 
 pub judge-format-spec : {M : Type 1} → statement M
 judge-format-spec =
     tie.close
     (tie.spec
-    counts-as-initialized-requires
     returns
     land-track-requires
     enum-known-spot

@@ -7,22 +7,14 @@ use Rattle.judge.proofs.Tasks.{restore-done, restore-refused}
 use Rattle.judge.proofs.judge_restore.Statement.{statement}
 use Rattle.judge.proofs.judge_restore.Tie as tie
 
-counts-as-initialized-requires : tie.Need-counts-as-initialized-requires
-counts-as-initialized-requires c κs = search needs
-
 restored-requires : tie.Need-restored-requires
 restored-requires c κs = search needs
 
 returns : tie.Need-returns
-returns c host =
-    let u = c .before .before .counts-as-initialized in
-    c .restored .ensures ∙ sym (restore-done _ _ host (says-yes (u .result) _ (c .before .if1 .taken) (u .ensures)))
+returns c ts host told = c .restored .ensures ∙ sym (restore-done _ _ host (says-yes _ _ (c .before .if1 .taken) told))
 
 returns-2 : tie.Need-returns-2
-returns-2 c host =
-    let u = c .before .counts-as-initialized in
-    sym (restore-refused _ _ host (says-no (u .result) _ (c .if1 .left) (u .ensures)))
+returns-2 c ts host told = sym (restore-refused _ _ host (says-no _ _ (c .if1 .left) told))
 
 pub judge-restore-spec : {M : Type 1} → statement M
-judge-restore-spec =
-    tie.close (tie.spec counts-as-initialized-requires restored-requires returns returns-2)
+judge-restore-spec = tie.close (tie.spec restored-requires returns returns-2)

@@ -3,6 +3,7 @@
 use mathlib.Core.Path.{sym, _∙_}
 use native.Mathlib.Omega.{arith}
 use borrow.Author.Needs.{needs}
+use Rattle.unit.specs.Standing.{unitOf}
 use Rattle.judge.proofs.Tasks.{span-covers, span-first, span-inside, span-last}
 use Rattle.judge.proofs.judge_span.Statement.{statement}
 use Rattle.judge.proofs.judge_span.Tie as tie
@@ -33,7 +34,7 @@ returns-3 : tie.Need-returns-3
 returns-3 c =
     let a = c .before .before .before .before .before .before .before .before .args in
     let begins = c .before .before .before .before .before .before .before .before .pre in
-    let covers = span-covers (a .standing) (a .table .now) (a .host .now) (a .m) (a .n) (begins .starts) (begins .some) (omega arith) in
+    let covers = span-covers (unitOf (a .standing .record) (a .table .now)) (a .standing .image) (a .host .now) (a .m) (a .n) (begins .starts) (begins .some) (omega arith) in
     c .judge-image .ensures ∙ sym (span-inside _ _ _ _ covers)
 
 pub judge-span-spec : {M : Type 1} → statement M

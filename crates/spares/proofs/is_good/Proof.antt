@@ -4,6 +4,9 @@ use borrow.Author.Needs.{needs}
 use Rattle.spares.proofs.is_good.Statement.{statement}
 use Rattle.spares.proofs.is_good.Tie as tie
 
+numbers-requires : tie.Need-numbers-requires
+numbers-requires c κs = search needs
+
 returns : tie.Need-returns
 returns c = search needs
 
@@ -25,10 +28,10 @@ returns-3 : tie.Need-returns-3
 returns-3 c =
     let asked = c .before .before .all-are-on-drive in
     says-same (c .none-is-twice .result) _ _
-    (λ once. record { room = c .before .before .before .if1 .left; on = granted (asked .result) _ (c .before .if2 .left) (asked .ensures); once = once })
+    (λ once. record { long = c .before .before .before .before .numbers .ensures; room = c .before .before .before .if1 .left; on = granted (asked .result) _ (c .before .if2 .left) (asked .ensures); once = once })
     (λ good. good .once) (c .none-is-twice .ensures)
 
 pub is-good-spec : {M : Type 1} → statement M
 is-good-spec =
     tie.close
-    (tie.spec returns mul-m all-are-on-drive-requires returns-2 none-is-twice-requires returns-3)
+    (tie.spec numbers-requires returns mul-m all-are-on-drive-requires returns-2 none-is-twice-requires returns-3)

@@ -1,11 +1,11 @@
--- Three stores, one after the other, are the sixteen bytes of a record in a row.
--- What is stored is what the record answered.
-use denote.Ref.{now}
+-- Six stores, one after the other, are the bytes of a record in a row.
+-- What is stored is what the record answered, and the tracks of the pairs that count.
 use Rattle.abi.proofs.Stored.{record-stored}
+use Rattle.spares.specs.Table.{counted}
+use Rattle.unit.specs.Standing.{bare, cylinder, geometry, initialized, pairs}
 use borrow.Author.Needs.{needs}
 use Rattle.abi.proofs.layouts.put_record.Statement.{statement}
 use Rattle.abi.proofs.layouts.put_record.Tie as tie
-use Rattle.unit.specs.Standing.{bare, cylinder, geometry, initialized}
 
 initialized-requires : tie.Need-initialized-requires
 initialized-requires c κs = search needs
@@ -25,23 +25,47 @@ cylinder-requires c κs = search needs
 put16-requires : tie.Need-put16-requires
 put16-requires c κs = search needs
 
+put-two-requires : tie.Need-put-two-requires
+put-two-requires c κs = search needs
+
+pairs-requires : tie.Need-pairs-requires
+pairs-requires c κs = search needs
+
+put16-requires-2 : tie.Need-put16-requires-2
+put16-requires-2 c κs = search needs
+
+pairs-requires-2 : tie.Need-pairs-requires-2
+pairs-requires-2 c κs = search needs
+
+put-tracks-requires : tie.Need-put-tracks-requires
+put-tracks-requires c κs = search needs
+
 same-length : tie.Need-same-length
 same-length c = search needs
 
 returns : tie.Need-returns
 returns c =
-    let third = c .before .before in
+    let sixth = c .before .before in
+    let fifth = sixth .before .before .before .before .before in
+    let fourth = fifth .before .before .before .before .before in
+    let third = fourth .before .before .before .before in
     let second = third .before .before .before .before .before in
     let first = second .before .before .before .before .before in
     let a = first .before .before .before .before .args in
+    let u = bare (a .u) in
     rw (
+      sixth .put-tracks .ensures,
+      fifth .put162 .ensures,
+      fourth .put-two .ensures,
       third .put16 .ensures,
       second .put-geometry .ensures,
       first .put-opening .ensures,
+      sixth .before .pairs2 .ensures,
+      fifth .before .pairs .ensures,
       third .before .cylinder .ensures,
       second .before .geometry .ensures,
       first .before .initialized .ensures,
-    ) (record-stored (now (a .bytes)) (initialized (bare (a .u))) (geometry (bare (a .u))) (cylinder (bare (a .u))))
+    ) (record-stored (a .bytes .now) (initialized u) (geometry u) (cylinder u) (pairs u) (counted (pairs u) (a .table .now)))
 
 pub put-record-spec : {M : Type 1} → statement M
 put-record-spec =
@@ -53,5 +77,10 @@ put-record-spec =
     put-geometry-requires
     cylinder-requires
     put16-requires
+    put-two-requires
+    pairs-requires
+    put16-requires-2
+    pairs-requires-2
+    put-tracks-requires
     same-length
     returns)

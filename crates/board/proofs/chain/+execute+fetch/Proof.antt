@@ -28,10 +28,10 @@ use Rattle.board.proofs.chain.+execute+fetch.{statement}
 use Rattle.board.proofs.chain.+execute+fetch.Tie.{close}
 
 abbrev μ-execute : Measures 6 execute-kinds.ps ℕ
-μ-execute κs a = 2 * a .1 .1 .1 .1 .1 .1 .1 .1 .0 + 1
+μ-execute κs a = 2 * a .1 .1 .1 .1 .1 .1 .1 .1 .1 .0 + 1
 
 abbrev μ-fetch : Measures 6 fetch-kinds.ps ℕ
-μ-fetch κs a = 2 * a .1 .1 .1 .1 .1 .1 .1 .1 .0
+μ-fetch κs a = 2 * a .1 .1 .1 .1 .1 .1 .1 .1 .1 .0
 
 abbrev execute-at : ℕ → In 6 execute-kinds.ps
 execute-at t = and 6 execute-kinds.ps (is 6 execute-kinds.ps μ-execute t) execute.Pre
@@ -50,11 +50,13 @@ module _ (t : ℕ) where
   execute-cast-step c = search needs
 
   execute-step-requires : execute-lts.Need-step-requires (step-reads.Asked, step-reads.Learnt, counted-reads.Asked, counted-reads.Learnt, failed-reads.Asked, failed-reads.Learnt, fetch-below t, fetch.Post, ended-reads.Asked, ended-reads.Learnt) (execute-at t) execute.Post
-  execute-step-requires c κs = search needs
+  execute-step-requires c κs =
+      let pre = c .before .before .before .before .before .before .before .before .before .before .before .pre .1 in
+      (record { block = pre .0 .inside; entry = omega (arith, pre .1 .entries) }, pre .2)
 
   execute-counted-requires : execute-lts.Need-counted-requires (step-reads.Asked, step-reads.Learnt, counted-reads.Asked, counted-reads.Learnt, failed-reads.Asked, failed-reads.Learnt, fetch-below t, fetch.Post, ended-reads.Asked, ended-reads.Learnt) (execute-at t) execute.Post
   execute-counted-requires c κs =
-      let spare = c .before .before .before .before .before .before .before .before .before .before .before .before .before .before .before .before .before .before .before .before .before .pre .1 .1 in
+      let spare = c .before .before .before .before .before .before .before .before .before .before .before .before .before .before .before .before .before .before .before .before .before .before .before .pre .1 .1 in
       (omega (arith, spare .blocks), spare .sectors)
 
   execute-enum-known-answer : execute-lts.Need-enum-known-answer (step-reads.Asked, step-reads.Learnt, counted-reads.Asked, counted-reads.Learnt, failed-reads.Asked, failed-reads.Learnt, fetch-below t, fetch.Post, ended-reads.Asked, ended-reads.Learnt) (execute-at t) execute.Post
@@ -68,82 +70,85 @@ module _ (t : ℕ) where
 
   execute-fetch-requires : execute-lts.Need-fetch-requires (step-reads.Asked, step-reads.Learnt, counted-reads.Asked, counted-reads.Learnt, failed-reads.Asked, failed-reads.Learnt, fetch-below t, fetch.Post, ended-reads.Asked, ended-reads.Learnt) (execute-at t) execute.Post
   execute-fetch-requires c κs =
-      let a = c .before .before .before .before .before .before .before .before .before .before .before .before .before .before .before .before .before .before .before .before .before .before .before .before .before .before .before .before .before .before .before .args in
-      let pre = c .before .before .before .before .before .before .before .before .before .before .before .before .before .before .before .before .before .before .before .before .before .before .before .before .before .before .before .before .before .before .before .pre in
-      let s = c .before .before .before .before .before .before .before .before .before .before .before .before .before .before .before .before .before .before .before .step in (
+      let a = c .before .before .before .before .before .before .before .before .before .before .before .before .before .before .before .before .before .before .before .before .before .before .before .before .before .before .before .before .before .before .before .before .before .args in
+      let pre = c .before .before .before .before .before .before .before .before .before .before .before .before .before .before .before .before .before .before .before .before .before .before .before .before .before .before .before .before .before .before .before .before .before .pre in
+      let s = c .before .before .before .before .before .before .before .before .before .before .before .before .before .before .before .before .before .before .before .before .before .step in (
         omega (arith, pre .0),
-        rw (c .before .before .before .before .before .before .before .before .before .counted .ensures)
-            (spare-less (s .last .1 .1 .1 .0) (a .left) (a .count) (s .result .sectors) (omega arith)
-            (spare-kept (a .events .now) (s .last .1 .1 .1 .0) (a .left + 1) (tallyOf (a .count)) (s .kept .1 .1 .1 .0) (pre .1 .1))),
+        (
+          rw (c .before .before .before .before .before .before .before .before .before .counted .ensures)
+              (spare-less (s .last .1 .1 .1 .0) (a .left) (a .count) (s .result .stepped .sectors) (omega arith)
+              (spare-kept (a .events .now) (s .last .1 .1 .1 .0) (a .left + 1) (tallyOf (a .count)) (s .kept .1 .1 .1 .0) (pre .1 .1))),
+          s .ensures .knows,
+        ),
       )
 
   execute-ended-requires : execute-lts.Need-ended-requires (step-reads.Asked, step-reads.Learnt, counted-reads.Asked, counted-reads.Learnt, failed-reads.Asked, failed-reads.Learnt, fetch-below t, fetch.Post, ended-reads.Asked, ended-reads.Learnt) (execute-at t) execute.Post
   execute-ended-requires c κs = search needs
 
   execute-same-length : execute-lts.Need-same-length (step-reads.Asked, step-reads.Learnt, counted-reads.Asked, counted-reads.Learnt, failed-reads.Asked, failed-reads.Learnt, fetch-below t, fetch.Post, ended-reads.Asked, ended-reads.Learnt) (execute-at t) execute.Post
-  execute-same-length c = c .before .before .before .before .before .before .before .before .before .before .before .before .before .before .step .kept .0
+  execute-same-length c = c .before .before .before .before .before .before .before .before .before .before .before .before .before .before .before .before .step .kept .0
 
   execute-same-length-2 : execute-lts.Need-same-length-2 (step-reads.Asked, step-reads.Learnt, counted-reads.Asked, counted-reads.Learnt, failed-reads.Asked, failed-reads.Learnt, fetch-below t, fetch.Post, ended-reads.Asked, ended-reads.Learnt) (execute-at t) execute.Post
-  execute-same-length-2 c = c .before .before .before .before .before .before .before .before .before .before .before .before .before .before .step .kept .1 .0
+  execute-same-length-2 c = c .before .before .before .before .before .before .before .before .before .before .before .before .before .before .before .before .step .kept .1 .0
 
   execute-same-length-3 : execute-lts.Need-same-length-3 (step-reads.Asked, step-reads.Learnt, counted-reads.Asked, counted-reads.Learnt, failed-reads.Asked, failed-reads.Learnt, fetch-below t, fetch.Post, ended-reads.Asked, ended-reads.Learnt) (execute-at t) execute.Post
-  execute-same-length-3 c = c .before .before .before .before .before .before .before .before .before .before .before .before .before .before .step .kept .1 .1 .0
+  execute-same-length-3 c = c .before .before .before .before .before .before .before .before .before .before .before .before .before .before .before .before .step .kept .1 .1 .0
 
   execute-same-length-4 : execute-lts.Need-same-length-4 (step-reads.Asked, step-reads.Learnt, counted-reads.Asked, counted-reads.Learnt, failed-reads.Asked, failed-reads.Learnt, fetch-below t, fetch.Post, ended-reads.Asked, ended-reads.Learnt) (execute-at t) execute.Post
-  execute-same-length-4 c = c .before .before .before .before .before .before .before .before .before .before .before .before .before .before .step .kept .1 .1 .1 .0
+  execute-same-length-4 c = c .before .before .before .before .before .before .before .before .before .before .before .before .before .before .before .before .step .kept .1 .1 .1 .0
 
   execute-returns : execute-lts.Need-returns (step-reads.Asked, step-reads.Learnt, counted-reads.Asked, counted-reads.Learnt, failed-reads.Asked, failed-reads.Learnt, fetch-below t, fetch.Post, ended-reads.Asked, ended-reads.Learnt) (execute-at t) execute.Post
   execute-returns c =
-      let a = c .before .before .before .before .before .before .before .before .before .before .before .before .before .before .before .before .before .before .before .before .before .before .before .before .before .before .args in
-      let s = c .before .before .before .before .before .before .before .before .before .before .before .before .before .before .step in
+      let a = c .before .before .before .before .before .before .before .before .before .before .before .before .before .before .before .before .before .before .before .before .before .before .before .before .before .before .before .before .args in
+      let s = c .before .before .before .before .before .before .before .before .before .before .before .before .before .before .before .before .step in
       let w = (worldOf (a .host .now) (a .image0 .now) (a .image1 .now) (a .events .now) (a .map0 .now) (a .map1 .now) (a .units)) in
       let r = c .before .before .answer .given .0 .0 in
       rw (c .failed .ensures, c .before .before .before .before .counted .ensures)
-      (came-to RunAnswer.BlockFailed (refusalNumber r) (countedOf (a .count) (s .result .sectors)) (s .result .units) (s .last .0) (s .last .1 .0) (s .last .1 .1 .0) (s .last .1 .1 .1 .0) (s .last .1 .1 .1 .1 .0) (s .last .1 .1 .1 .1 .1 .0) _
-      (executed-failed (fetched (a .left)) (a .count) (a .at) w (worldOf (s .last .0) (s .last .1 .0) (s .last .1 .1 .0) (s .last .1 .1 .1 .0) (s .last .1 .1 .1 .1 .0) (s .last .1 .1 .1 .1 .1 .0) (s .result .units)) (s .result) (s .ensures) r (c .before .before .answer .given .1)))
+      (came-to RunAnswer.BlockFailed (refusalNumber r) (countedOf (a .count) (s .result .stepped .sectors)) (s .result .stepped .units) (s .last .0) (s .last .1 .0) (s .last .1 .1 .0) (s .last .1 .1 .1 .0) (s .last .1 .1 .1 .1 .0) (s .last .1 .1 .1 .1 .1 .0) _
+      (executed-failed (fetched (a .left)) (a .count) (a .at) w (worldOf (s .last .0) (s .last .1 .0) (s .last .1 .1 .0) (s .last .1 .1 .1 .0) (s .last .1 .1 .1 .1 .0) (s .last .1 .1 .1 .1 .1 .0) (s .result .stepped .units)) (s .result .stepped) (s .ensures .to) r (c .before .before .answer .given .1)))
 
   execute-same-length-5 : execute-lts.Need-same-length-5 (step-reads.Asked, step-reads.Learnt, counted-reads.Asked, counted-reads.Learnt, failed-reads.Asked, failed-reads.Learnt, fetch-below t, fetch.Post, ended-reads.Asked, ended-reads.Learnt) (execute-at t) execute.Post
-  execute-same-length-5 c = c .before .before .before .before .before .before .before .before .fetch .kept .0 ∙ c .before .before .before .before .before .before .before .before .before .before .before .before .before .before .before .before .before .before .before .before .before .before .before .before .before .before .before .before .step .kept .0
+  execute-same-length-5 c = c .before .before .before .before .before .before .before .before .fetch .kept .0 ∙ c .before .before .before .before .before .before .before .before .before .before .before .before .before .before .before .before .before .before .before .before .before .before .before .before .before .before .before .before .before .before .step .kept .0
 
   execute-same-length-6 : execute-lts.Need-same-length-6 (step-reads.Asked, step-reads.Learnt, counted-reads.Asked, counted-reads.Learnt, failed-reads.Asked, failed-reads.Learnt, fetch-below t, fetch.Post, ended-reads.Asked, ended-reads.Learnt) (execute-at t) execute.Post
-  execute-same-length-6 c = c .before .before .before .before .before .before .before .before .fetch .kept .1 .0 ∙ c .before .before .before .before .before .before .before .before .before .before .before .before .before .before .before .before .before .before .before .before .before .before .before .before .before .before .before .before .step .kept .1 .0
+  execute-same-length-6 c = c .before .before .before .before .before .before .before .before .fetch .kept .1 .0 ∙ c .before .before .before .before .before .before .before .before .before .before .before .before .before .before .before .before .before .before .before .before .before .before .before .before .before .before .before .before .before .before .step .kept .1 .0
 
   execute-same-length-7 : execute-lts.Need-same-length-7 (step-reads.Asked, step-reads.Learnt, counted-reads.Asked, counted-reads.Learnt, failed-reads.Asked, failed-reads.Learnt, fetch-below t, fetch.Post, ended-reads.Asked, ended-reads.Learnt) (execute-at t) execute.Post
-  execute-same-length-7 c = c .before .before .before .before .before .before .before .before .fetch .kept .1 .1 .0 ∙ c .before .before .before .before .before .before .before .before .before .before .before .before .before .before .before .before .before .before .before .before .before .before .before .before .before .before .before .before .step .kept .1 .1 .0
+  execute-same-length-7 c = c .before .before .before .before .before .before .before .before .fetch .kept .1 .1 .0 ∙ c .before .before .before .before .before .before .before .before .before .before .before .before .before .before .before .before .before .before .before .before .before .before .before .before .before .before .before .before .before .before .step .kept .1 .1 .0
 
   execute-same-length-8 : execute-lts.Need-same-length-8 (step-reads.Asked, step-reads.Learnt, counted-reads.Asked, counted-reads.Learnt, failed-reads.Asked, failed-reads.Learnt, fetch-below t, fetch.Post, ended-reads.Asked, ended-reads.Learnt) (execute-at t) execute.Post
-  execute-same-length-8 c = c .before .before .before .before .before .before .before .before .fetch .kept .1 .1 .1 .0 ∙ c .before .before .before .before .before .before .before .before .before .before .before .before .before .before .before .before .before .before .before .before .before .before .before .before .before .before .before .before .step .kept .1 .1 .1 .0
+  execute-same-length-8 c = c .before .before .before .before .before .before .before .before .fetch .kept .1 .1 .1 .0 ∙ c .before .before .before .before .before .before .before .before .before .before .before .before .before .before .before .before .before .before .before .before .before .before .before .before .before .before .before .before .before .before .step .kept .1 .1 .1 .0
 
   execute-returns-2 : execute-lts.Need-returns-2 (step-reads.Asked, step-reads.Learnt, counted-reads.Asked, counted-reads.Learnt, failed-reads.Asked, failed-reads.Learnt, fetch-below t, fetch.Post, ended-reads.Asked, ended-reads.Learnt) (execute-at t) execute.Post
   execute-returns-2 c =
-      let a = c .before .before .before .before .before .before .before .before .before .before .before .before .before .before .before .before .before .before .before .before .before .before .before .before .before .before .before .before .before .before .before .before .before .before .before .before .before .before .before .before .args in
-      let s = c .before .before .before .before .before .before .before .before .before .before .before .before .before .before .before .before .before .before .before .before .before .before .before .before .before .before .before .before .step in
+      let a = c .before .before .before .before .before .before .before .before .before .before .before .before .before .before .before .before .before .before .before .before .before .before .before .before .before .before .before .before .before .before .before .before .before .before .before .before .before .before .before .before .before .before .args in
+      let s = c .before .before .before .before .before .before .before .before .before .before .before .before .before .before .before .before .before .before .before .before .before .before .before .before .before .before .before .before .before .before .step in
       let w = (worldOf (a .host .now) (a .image0 .now) (a .image1 .now) (a .events .now) (a .map0 .now) (a .map1 .now) (a .units)) in
       let f = c .before .before .before .before .before .before .before .before .fetch in
       came-the-same _ _ _ (f .result)
-      (executed-on (fetched (a .left)) (a .count) (a .at) w (worldOf (s .last .0) (s .last .1 .0) (s .last .1 .1 .0) (s .last .1 .1 .1 .0) (s .last .1 .1 .1 .1 .0) (s .last .1 .1 .1 .1 .1 .0) (s .result .units)) (s .result) (s .ensures) (c .before .before .before .before .before .before .before .before .before .before .before .before .before .before .before .before .enum-told .given .1) (c .before .before .before .before .before .before .before .before .before .before .before .before .before .before .before .if1 .taken))
+      (executed-on (fetched (a .left)) (a .count) (a .at) w (worldOf (s .last .0) (s .last .1 .0) (s .last .1 .1 .0) (s .last .1 .1 .1 .0) (s .last .1 .1 .1 .1 .0) (s .last .1 .1 .1 .1 .1 .0) (s .result .stepped .units)) (s .result .stepped) (s .ensures .to) (c .before .before .before .before .before .before .before .before .before .before .before .before .before .before .before .before .enum-told .given .1) (c .before .before .before .before .before .before .before .before .before .before .before .before .before .before .before .if1 .taken))
       (rw (c .before .before .before .before .before .before .before .before .before .before .before .before .before .before .before .before .before .before .counted .ensures) at (f .ensures))
 
   execute-same-length-9 : execute-lts.Need-same-length-9 (step-reads.Asked, step-reads.Learnt, counted-reads.Asked, counted-reads.Learnt, failed-reads.Asked, failed-reads.Learnt, fetch-below t, fetch.Post, ended-reads.Asked, ended-reads.Learnt) (execute-at t) execute.Post
-  execute-same-length-9 c = c .before .before .before .before .before .before .before .before .before .before .before .before .before .before .step .kept .0
+  execute-same-length-9 c = c .before .before .before .before .before .before .before .before .before .before .before .before .before .before .before .before .step .kept .0
 
   execute-same-length-10 : execute-lts.Need-same-length-10 (step-reads.Asked, step-reads.Learnt, counted-reads.Asked, counted-reads.Learnt, failed-reads.Asked, failed-reads.Learnt, fetch-below t, fetch.Post, ended-reads.Asked, ended-reads.Learnt) (execute-at t) execute.Post
-  execute-same-length-10 c = c .before .before .before .before .before .before .before .before .before .before .before .before .before .before .step .kept .1 .0
+  execute-same-length-10 c = c .before .before .before .before .before .before .before .before .before .before .before .before .before .before .before .before .step .kept .1 .0
 
   execute-same-length-11 : execute-lts.Need-same-length-11 (step-reads.Asked, step-reads.Learnt, counted-reads.Asked, counted-reads.Learnt, failed-reads.Asked, failed-reads.Learnt, fetch-below t, fetch.Post, ended-reads.Asked, ended-reads.Learnt) (execute-at t) execute.Post
-  execute-same-length-11 c = c .before .before .before .before .before .before .before .before .before .before .before .before .before .before .step .kept .1 .1 .0
+  execute-same-length-11 c = c .before .before .before .before .before .before .before .before .before .before .before .before .before .before .before .before .step .kept .1 .1 .0
 
   execute-same-length-12 : execute-lts.Need-same-length-12 (step-reads.Asked, step-reads.Learnt, counted-reads.Asked, counted-reads.Learnt, failed-reads.Asked, failed-reads.Learnt, fetch-below t, fetch.Post, ended-reads.Asked, ended-reads.Learnt) (execute-at t) execute.Post
-  execute-same-length-12 c = c .before .before .before .before .before .before .before .before .before .before .before .before .before .before .step .kept .1 .1 .1 .0
+  execute-same-length-12 c = c .before .before .before .before .before .before .before .before .before .before .before .before .before .before .before .before .step .kept .1 .1 .1 .0
 
   execute-returns-3 : execute-lts.Need-returns-3 (step-reads.Asked, step-reads.Learnt, counted-reads.Asked, counted-reads.Learnt, failed-reads.Asked, failed-reads.Learnt, fetch-below t, fetch.Post, ended-reads.Asked, ended-reads.Learnt) (execute-at t) execute.Post
   execute-returns-3 c =
-      let a = c .before .before .before .before .before .before .before .before .before .before .before .before .before .before .before .before .before .before .before .before .before .before .before .before .before .before .args in
-      let s = c .before .before .before .before .before .before .before .before .before .before .before .before .before .before .step in
+      let a = c .before .before .before .before .before .before .before .before .before .before .before .before .before .before .before .before .before .before .before .before .before .before .before .before .before .before .before .before .args in
+      let s = c .before .before .before .before .before .before .before .before .before .before .before .before .before .before .before .before .step in
       let w = (worldOf (a .host .now) (a .image0 .now) (a .image1 .now) (a .events .now) (a .map0 .now) (a .map1 .now) (a .units)) in
       rw (c .ended .ensures, c .before .before .before .before .counted .ensures)
-      (came-to RunAnswer.Done 0 (countedOf (a .count) (s .result .sectors)) (s .result .units) (s .last .0) (s .last .1 .0) (s .last .1 .1 .0) (s .last .1 .1 .1 .0) (s .last .1 .1 .1 .1 .0) (s .last .1 .1 .1 .1 .1 .0) _
-      (executed-done (fetched (a .left)) (a .count) (a .at) w (worldOf (s .last .0) (s .last .1 .0) (s .last .1 .1 .0) (s .last .1 .1 .1 .0) (s .last .1 .1 .1 .1 .0) (s .last .1 .1 .1 .1 .1 .0) (s .result .units)) (s .result) (s .ensures) (c .before .before .enum-told .given .1) (c .before .if1 .left)))
+      (came-to RunAnswer.Done 0 (countedOf (a .count) (s .result .stepped .sectors)) (s .result .stepped .units) (s .last .0) (s .last .1 .0) (s .last .1 .1 .0) (s .last .1 .1 .1 .0) (s .last .1 .1 .1 .1 .0) (s .last .1 .1 .1 .1 .1 .0) _
+      (executed-done (fetched (a .left)) (a .count) (a .at) w (worldOf (s .last .0) (s .last .1 .0) (s .last .1 .1 .0) (s .last .1 .1 .1 .0) (s .last .1 .1 .1 .1 .0) (s .last .1 .1 .1 .1 .1 .0) (s .result .stepped .units)) (s .result .stepped) (s .ensures .to) (c .before .before .enum-told .given .1) (c .before .if1 .left)))
 
   fetch-ended-requires : fetch-lts.Need-ended-requires (ended-reads.Asked, ended-reads.Learnt, holds-block-reads.Asked, holds-block-reads.Learnt, execute-below t, execute.Post) (fetch-at t) fetch.Post
   fetch-ended-requires c κs = search needs
@@ -181,7 +186,7 @@ module _ (t : ℕ) where
       let pre = c .before .before .before .before .before .before .before .before .before .before .before .before .before .before .pre in
       let held = c .before .before .before .before .before .before .before .holds-block in
       let one : a .left - 1 + 1 ≡ a .left = omega arith in
-      (omega (arith, pre .0), (granted (held .result) _ (c .before .before .before .before .before .before .if2 .left) (held .ensures), rw one (pre .1)))
+      (omega (arith, pre .0), (granted (held .result) _ (c .before .before .before .before .before .before .if2 .left) (held .ensures), rw one (pre .1 .0), pre .1 .1))
 
   fetch-same-length-2 : fetch-lts.Need-same-length-2 (ended-reads.Asked, ended-reads.Learnt, holds-block-reads.Asked, holds-block-reads.Learnt, execute-below t, execute.Post) (fetch-at t) fetch.Post
   fetch-same-length-2 c = search needs

@@ -82,16 +82,19 @@ returns-3 c =
     (granted (allowed .result) _ (c .before .before .before .before .before .if2 .left) (allowed .ensures))
     (denied (held .result) _ (c .before .before .if3 .taken) (held .ensures))))
 
+unasked-requires : tie.Need-unasked-requires
+unasked-requires c κs = search needs
+
 nothing-requires-4 : tie.Need-nothing-requires-4
 nothing-requires-4 c κs = search needs
 
 fetch-requires : tie.Need-fetch-requires
 fetch-requires c κs =
-    let room = c .before .before .before .before .before .before .before .before .before .before .before .before .before .holds-entries in
-    let allowed = c .before .before .before .before .before .before .before .before .before .before .before .is-allowance in
-    let long = granted (room .result) _ (c .before .before .before .before .before .before .before .before .before .before .before .before .if1 .left) (room .ensures) in
-    let few = granted (allowed .result) _ (c .before .before .before .before .before .before .before .before .before .before .if2 .left) (allowed .ensures) in
-    rw (c .nothing4 .ensures) (record { entries = omega arith; blocks = omega arith; sectors = omega arith })
+    let room = c .before .before .before .before .before .before .before .before .before .before .before .before .before .before .holds-entries in
+    let allowed = c .before .before .before .before .before .before .before .before .before .before .before .before .is-allowance in
+    let long = granted (room .result) _ (c .before .before .before .before .before .before .before .before .before .before .before .before .before .if1 .left) (room .ensures) in
+    let few = granted (allowed .result) _ (c .before .before .before .before .before .before .before .before .before .before .before .if2 .left) (allowed .ensures) in
+    rw (c .before .unasked .ensures, c .nothing4 .ensures) (record { entries = omega arith; blocks = omega arith; sectors = omega arith }, (tt, tt))
 
 same-length-5 : tie.Need-same-length-5
 same-length-5 c = search needs
@@ -107,16 +110,16 @@ same-length-8 c = search needs
 
 returns-4 : tie.Need-returns-4
 returns-4 c =
-    let a = c .before .before .before .before .before .before .before .before .before .before .before .before .before .before .before .before .before .before .before .before .before .before .before .before .before .before .before .before .args in
-    let room = c .before .before .before .before .before .before .before .before .before .before .before .before .before .before .before .before .before .before .before .before .before .before .holds-entries in
-    let allowed = c .before .before .before .before .before .before .before .before .before .before .before .before .before .before .before .before .before .before .before .before .is-allowance in
-    let held = c .before .before .before .before .before .before .before .before .before .before .before .before .before .before .before .before .before .holds-block in
+    let a = c .before .before .before .before .before .before .before .before .before .before .before .before .before .before .before .before .before .before .before .before .before .before .before .before .before .before .before .before .before .args in
+    let room = c .before .before .before .before .before .before .before .before .before .before .before .before .before .before .before .before .before .before .before .before .before .before .before .holds-entries in
+    let allowed = c .before .before .before .before .before .before .before .before .before .before .before .before .before .before .before .before .before .before .before .before .before .is-allowance in
+    let held = c .before .before .before .before .before .before .before .before .before .before .before .before .before .before .before .before .before .before .holds-block in
     let f = c .before .before .before .before .before .before .before .before .fetch in
     came-the-same _ _ _ (f .result)
     (ran-chain (a .first) (a .allowance) (worldOf (a .host .now) (a .image0 .now) (a .image1 .now) (a .events .now) (a .map0 .now) (a .map1 .now) (a .units))
-    (granted (room .result) _ (c .before .before .before .before .before .before .before .before .before .before .before .before .before .before .before .before .before .before .before .before .before .if1 .left) (room .ensures))
-    (granted (allowed .result) _ (c .before .before .before .before .before .before .before .before .before .before .before .before .before .before .before .before .before .before .before .if2 .left) (allowed .ensures))
-    (granted (held .result) _ (c .before .before .before .before .before .before .before .before .before .before .before .before .before .before .before .before .if3 .left) (held .ensures)))
+    (granted (room .result) _ (c .before .before .before .before .before .before .before .before .before .before .before .before .before .before .before .before .before .before .before .before .before .before .if1 .left) (room .ensures))
+    (granted (allowed .result) _ (c .before .before .before .before .before .before .before .before .before .before .before .before .before .before .before .before .before .before .before .before .if2 .left) (allowed .ensures))
+    (granted (held .result) _ (c .before .before .before .before .before .before .before .before .before .before .before .before .before .before .before .before .before .if3 .left) (held .ensures)))
     (rw (c .before .before .before .before .before .before .before .before .before .nothing4 .ensures) at (f .ensures))
 
 pub run-spec : {M : Type 1} → statement M
@@ -139,6 +142,7 @@ run-spec =
     same-length-3
     same-length-4
     returns-3
+    unasked-requires
     nothing-requires-4
     fetch-requires
     same-length-5

@@ -29,11 +29,14 @@ same-length-2 c = search needs
 returns-2 : tie.Need-returns-2
 returns-2 c = search needs
 
+unasked-requires : tie.Need-unasked-requires
+unasked-requires c κs = search needs
+
 step-requires : tie.Need-step-requires
 step-requires c κs =
-    let held = c .before .before .before .before .before .before .before .before .holds-block in
-    let place = granted (held .result) _ (c .before .before .before .before .before .before .before .if1 .left) (held .ensures) in
-    record { block = place .inside; entry = omega arith }
+    let held = c .before .before .before .before .before .before .before .before .before .holds-block in
+    let place = granted (held .result) _ (c .before .before .before .before .before .before .before .before .if1 .left) (held .ensures) in
+    (record { block = place .inside; entry = omega arith }, rw (c .unasked .ensures) (tt, tt))
 
 same-length-3 : tie.Need-same-length-3
 same-length-3 c = search needs
@@ -49,8 +52,8 @@ same-length-6 c = search needs
 
 returns-3 : tie.Need-returns-3
 returns-3 c =
-    let held = c .before .before .before .before .before .before .before .before .before .before .before .before .before .before .before .before .before .holds-block in
-    (record { place = granted (held .result) _ (c .before .before .before .before .before .before .before .before .before .before .before .before .before .before .before .before .if1 .left) (held .ensures); entry = omega (arith, c .before .before .before .before .before .before .before .before .before .before .before .before .before .before .before .if2 .left) }, c .before .before .before .before .before .before .before .before .step .ensures)
+    let held = c .before .before .before .before .before .before .before .before .before .before .before .before .before .before .before .before .before .before .before .holds-block in
+    (record { place = granted (held .result) _ (c .before .before .before .before .before .before .before .before .before .before .before .before .before .before .before .before .before .before .if1 .left) (held .ensures); entry = omega (arith, c .before .before .before .before .before .before .before .before .before .before .before .before .before .before .before .before .before .if2 .left) }, c .before .before .before .before .before .before .before .before .before .step .ensures .to)
 
 pub run-one-spec : {M : Type 1} → statement M
 run-one-spec =
@@ -63,6 +66,7 @@ run-one-spec =
     add-if2
     same-length-2
     returns-2
+    unasked-requires
     step-requires
     same-length-3
     same-length-4

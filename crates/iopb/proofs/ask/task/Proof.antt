@@ -1,5 +1,5 @@
 -- A command that equals a code picks that code's case, and its parts are what their functions promise.
--- A command that equals none of the nine codes passes every case.
+-- A command that equals none of the codes passes every case.
 use borrow.Author.Needs.{needs}
 use borrow.Author.Tests.{ne-eqb}
 use Rattle.iopb.specs.Ask.{taskOf}
@@ -32,6 +32,9 @@ list-requires-2 c κs = search needs
 
 moving-requires-4 : tie.Need-moving-requires-4
 moving-requires-4 c κs = search needs
+
+pair-requires : tie.Need-pair-requires
+pair-requires c κs = search needs
 
 returns : tie.Need-returns
 unfolding taskOf
@@ -71,7 +74,11 @@ returns-9 c = rw (c .before .before .match .keys9, c .moving4 .ensures, c .befor
 
 returns-10 : tie.Need-returns-10
 unfolding taskOf
-returns-10 c =
+returns-10 c = rw (c .before .match .keys10, c .pair .ensures)
+
+returns-11 : tie.Need-returns-11
+unfolding taskOf
+returns-11 c =
     let none = c .match .rest in
     simp (
       ne-eqb _ _ (none .1),
@@ -83,6 +90,7 @@ returns-10 c =
       ne-eqb _ _ (none .0 .0 .0 .0 .0 .0 .1),
       ne-eqb _ _ (none .0 .0 .0 .0 .0 .0 .0 .1),
       ne-eqb _ _ (none .0 .0 .0 .0 .0 .0 .0 .0 .1),
+      ne-eqb _ _ (none .0 .0 .0 .0 .0 .0 .0 .0 .0 .1),
     )
 
 pub task-spec : {M : Type 1} → statement M
@@ -98,6 +106,7 @@ task-spec =
     moving-requires-3
     list-requires-2
     moving-requires-4
+    pair-requires
     returns
     returns-2
     returns-3
@@ -107,4 +116,5 @@ task-spec =
     returns-7
     returns-8
     returns-9
-    returns-10)
+    returns-10
+    returns-11)

@@ -1,0 +1,90 @@
+-- Every track before the k-th stands in the bytes; the loop is left at the first that does not, or at the end.
+-- The words are the tracks of the pairs that count where each of them is.
+use Prim.Native.Nat.{ℕ, _+_, _*_, _-_, _≤_, _<_, min}
+use mathlib.Core.Path.{_≡_, sym, _∙_}
+use native.Mathlib.Numerals.{add-one}
+use native.Mathlib.Omega.{arith}
+use borrow.Author.Needs.{needs}
+use lib.ListN.{getD}
+use Rattle.wire.specs.Words.{be32}
+use Rattle.wire.proofs.Decided.{all-more}
+use Rattle.abi.proofs.Tracks.{each-is-there, there-is-each}
+use Rattle.abi.proofs.layouts.holds_tracks.Statement.{statement}
+use Rattle.abi.proofs.layouts.holds_tracks.Tie as tie
+
+abbrev Inv-loop : tie.InvT-loop
+Inv-loop bytes pairs table tracks m k₀ k = (k ≤ m) × ((i : ℕ) → i < k → be32 bytes (20 + 4 * i) ≡ getD table i 0)
+
+abbrev μ-loop : tie.MeasureT-loop
+μ-loop bytes pairs table tracks m k₀ k = m - k
+
+in-room-requires : tie.Need-in-room-requires Inv-loop μ-loop
+in-room-requires c κs = search needs
+
+mul-m : tie.Need-mul-m Inv-loop μ-loop
+mul-m c = omega arith
+
+loop-holds : tie.Need-loop-holds Inv-loop μ-loop
+loop-holds c = (omega arith, λ i h. absurd (omega arith))
+
+mul-be32 : tie.Need-mul-be32 Inv-loop μ-loop
+mul-be32 c = omega arith
+
+add-be32 : tie.Need-add-be32 Inv-loop μ-loop
+add-be32 c = omega arith
+
+be32-requires : tie.Need-be32-requires Inv-loop μ-loop
+be32-requires c κs = omega arith
+
+mul-if1 : tie.Need-mul-if1 Inv-loop μ-loop
+mul-if1 c = omega arith
+
+shared-slice-read-if1 : tie.Need-shared-slice-read-if1 Inv-loop μ-loop
+shared-slice-read-if1 c = omega arith
+
+returns : tie.Need-returns Inv-loop μ-loop
+returns c =
+    let a = c .before .before .before .before .before .before .before .before .args in
+    let k = c .before .before .before .before .loop .k in
+    λ there.
+    c .if1 .taken
+    (c .before .before .be32 .ensures ∙ there-is-each (a .bytes .now) (a .table .now) (2 * min (a .pairs) 32) there k (omega arith))
+
+add-k : tie.Need-add-k Inv-loop μ-loop
+add-k c = omega arith
+
+loop-less : tie.Need-loop-less Inv-loop μ-loop
+loop-less c = omega arith
+
+loop-again : tie.Need-loop-again Inv-loop μ-loop
+loop-again c =
+    let at-loop = c .before .before .before .before .loop in
+    let same = sym (c .before .before .be32 .ensures) ∙ c .if1 .left in (
+      omega arith,
+      rw add-one (all-more _ (at-loop .k) (at-loop .inv .1) same),
+    )
+
+returns-2 : tie.Need-returns-2 Inv-loop μ-loop
+returns-2 c =
+    let a = c .before .before .before .before .before .args in
+    each-is-there (a .bytes .now) (a .table .now) (2 * min (a .pairs) 32) (omega arith) (λ k less. c .before .loop .inv .1 k (omega arith))
+
+pub holds-tracks-spec : {M : Type 1} → statement M
+holds-tracks-spec =
+    tie.close
+    (tie.spec
+    Inv-loop
+    μ-loop
+    in-room-requires
+    mul-m
+    loop-holds
+    mul-be32
+    add-be32
+    be32-requires
+    mul-if1
+    shared-slice-read-if1
+    returns
+    add-k
+    loop-less
+    loop-again
+    returns-2)

@@ -1,0 +1,91 @@
+-- After i turns the first i tracks are stored, and nothing else has changed.
+-- A turn stores the four bytes of one track more; after the last the tracks of all pairs that count are stored.
+use Prim.Native.Nat.{_*_, _-_, _≤_, min}
+use mathlib.Core.Path.{_≡_, refl, _∙_}
+use native.Mathlib.Numerals.{add-one}
+use native.Mathlib.Omega.{arith}
+use borrow.Author.Needs.{needs}
+use lib.ListN.{length, take}
+use Rattle.block.specs.Steps.{written}
+use Rattle.abi.specs.Layouts.{trackBytes}
+use Rattle.abi.proofs.Tracks.{one-more-stored}
+use Rattle.abi.proofs.layouts.put_tracks.Statement.{statement}
+use Rattle.abi.proofs.layouts.put_tracks.Tie as tie
+
+abbrev Inv-loop : tie.InvT-loop
+Inv-loop bytes₀ table pairs tracks m i₀ bytes i = (i ≤ m) × ((bytes ≡ written bytes₀ 20 (trackBytes (take i table))) × (length bytes ≡ length bytes₀))
+
+abbrev μ-loop : tie.MeasureT-loop
+μ-loop bytes₀ table pairs tracks m i₀ bytes i = m - i
+
+in-room-requires : tie.Need-in-room-requires Inv-loop μ-loop
+in-room-requires c κs = search needs
+
+mul-m : tie.Need-mul-m Inv-loop μ-loop
+mul-m c = omega arith
+
+loop-holds : tie.Need-loop-holds Inv-loop μ-loop
+unfolding written trackBytes
+loop-holds c = (omega arith, (refl, refl))
+
+mul-put32 : tie.Need-mul-put32 Inv-loop μ-loop
+mul-put32 c = omega arith
+
+add-put32 : tie.Need-add-put32 Inv-loop μ-loop
+add-put32 c = omega arith
+
+mul-put32-2 : tie.Need-mul-put32-2 Inv-loop μ-loop
+mul-put32-2 c = omega arith
+
+shared-slice-read-put32 : tie.Need-shared-slice-read-put32 Inv-loop μ-loop
+shared-slice-read-put32 c = omega arith
+
+put32-requires : tie.Need-put32-requires Inv-loop μ-loop
+put32-requires c κs = omega arith
+
+add-i : tie.Need-add-i Inv-loop μ-loop
+add-i c = omega arith
+
+loop-less : tie.Need-loop-less Inv-loop μ-loop
+loop-less c = omega arith
+
+loop-again : tie.Need-loop-again Inv-loop μ-loop
+loop-again c =
+    let a = c .before .before .before .before .before .before .before .before .before .before .args in
+    let at-loop = c .before .before .before .before .before .before .loop in
+    let put = c .before .before .put32 in (
+      omega arith,
+      (
+        put .ensures ∙ rw (at-loop .inv .1 .0, add-one (at-loop .i)) (one-more-stored (a .bytes .now) (a .table .now) (at-loop .i) (omega arith)),
+        put .kept .0 ∙ at-loop .inv .1 .1,
+      ),
+    )
+
+same-length : tie.Need-same-length Inv-loop μ-loop
+same-length c = omega arith
+
+returns : tie.Need-returns Inv-loop μ-loop
+returns c =
+    let a = c .before .before .before .before .before .args in
+    let done : c .before .loop .i ≡ 2 * min (a .pairs) 32 = omega arith in
+    rw done at (c .before .loop .inv .1 .0)
+
+pub put-tracks-spec : {M : Type 1} → statement M
+put-tracks-spec =
+    tie.close
+    (tie.spec
+    Inv-loop
+    μ-loop
+    in-room-requires
+    mul-m
+    loop-holds
+    mul-put32
+    add-put32
+    mul-put32-2
+    shared-slice-read-put32
+    put32-requires
+    add-i
+    loop-less
+    loop-again
+    same-length
+    returns)
