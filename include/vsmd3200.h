@@ -30,28 +30,44 @@ extern "C" {
 
 /* ---- the unit record -----------------------------------------------------------------------------------------------------------
  *
- * What the board knows of a unit: whether it is initialized, its geometry, and the cylinder that its heads stand on. It is yours to
- * keep between calls, in RAM or in flash. 16 bytes, numbers big-endian:
+ * What the board knows of a unit: whether it is initialized, its geometry, the cylinder that its heads stand on, and its bad tracks with
+ * their spares. It is yours to keep between calls, in RAM or in flash. 276 bytes, numbers big-endian:
  *
- *    0      version of the layout, 01
- *    1      01 initialized, any other not
- *    2, 3   length, 0010 hex
- *    4, 5   cylinders C, 1 to 4,096
- *    6, 7   sectors a track S, 1 to 255
- *    8, 9   bytes a sector B, even, 64 to 4,096
- *   10, 11  volume 0: start head, heads (at least 1)
- *   12, 13  volume 1: start head, heads (0: there is no volume 1)
- *   14, 15  the cylinder that the heads stand on, below C
+ *    0       version of the layout, 02
+ *    1       01 initialized, any other not
+ *    2, 3    length, 0114 hex
+ *    4, 5    cylinders C, 1 to 4,096
+ *    6, 7    sectors a track S, 1 to 255
+ *    8, 9    bytes a sector B, even, 64 to 4,096
+ *   10, 11   volume 0: start head, heads (at least 1)
+ *   12, 13   volume 1: start head, heads (0: there is no volume 1)
+ *   14, 15   the cylinder that the heads stand on, below C
+ *   16       order, 00
+ *   17       holder, 00
+ *   18, 19   how many pairs count, 0 to 32
+ *   20..275  room for 32 pairs of 8 bytes, each a bad track and then its spare; a track is its cylinder (2 bytes), its head (1) and 00
  *
- * A unit is initialized where its record opens with 01 01 00 10 and the rest keeps the limits: those above, start head plus heads at
- * most 64 for each volume present, and no head in two volumes. Any other 16 bytes are a unit that is not initialized: zeros, erased
+ * With H the greater end (start head plus heads) of the volumes present, a track is on the drive where its cylinder is below C, its head
+ * below H, counted over the whole drive whatever volume has it, and its last byte 00.
+ *
+ * A unit is initialized where its record opens with 02 01 01 14, bytes 16 and 17 are 00, and the rest keeps the limits: those above, start
+ * head plus heads at most 64 for each volume present, no head in two volumes, at most 32 pairs, each of their tracks on the drive, and
+ * none of them twice in the table, as a bad one or as a spare. Any other 276 bytes are a unit that is not initialized: zeros, erased
  * flash, a record of another version. Handing such bytes over is no error.
  *
- * With H the greater end (start head plus heads) of the volumes present, an image has C x H x S sectors of B bytes, one after the
- * other, and then a mark byte for each sector: 00 for a good one, anything else for one that cannot be read. An image may be
- * longer; what comes after the marks is never touched. */
-#define VSMD_LAYOUT_VERSION 1u
-#define VSMD_RECORD_LEN 16u
+ * A block that lands on a bad track works on its spare instead: reads, writes, scatters and gathers sector by sector, seeks, and
+ * formats. The spare's sectors and marks are used as they stand, and the heads then stand on the spare's cylinder. A spare may lie in any
+ * volume or in none, and may be named itself. Command 85 adds a pair at the end of the table and moves neither data nor heads: word 2 of
+ * its block is the bad track's cylinder, the upper byte of word 3 its head, word 4 and the upper byte of word 5 name the spare. An
+ * initialize that succeeds clears the table.
+ *
+ * The bytes after the last pair that counts are neither read nor written. A record that a block changed is stored anew up to there: an 85
+ * stores its pair after the others, and a table that was cleared has its old bytes still, under the number 0.
+ *
+ * An image has C x H x S sectors of B bytes, one after the other, and then a mark byte for each sector: 00 for a good one, anything else
+ * for one that cannot be read. An image may be longer; what comes after the marks is never touched. */
+#define VSMD_LAYOUT_VERSION 2u
+#define VSMD_RECORD_LEN 276u
 
 #define VSMD_RECORD_AT_VERSION 0u
 #define VSMD_RECORD_AT_INITIALIZED 1u
@@ -64,12 +80,29 @@ extern "C" {
 #define VSMD_RECORD_AT_VOLUME1_START_HEAD 12u
 #define VSMD_RECORD_AT_VOLUME1_HEADS 13u
 #define VSMD_RECORD_AT_CYLINDER 14u
+#define VSMD_RECORD_AT_ORDER 16u
+#define VSMD_RECORD_AT_HOLDER 17u
+#define VSMD_RECORD_AT_PAIRS 18u
+#define VSMD_RECORD_AT_TABLE 20u
+
+#define VSMD_PAIRS_MOST 32u
+#define VSMD_PAIR_LEN 8u
+#define VSMD_PAIR_AT_BAD 0u
+#define VSMD_PAIR_AT_SPARE 4u
+
+#define VSMD_TRACK_AT_CYLINDER 0u
+#define VSMD_TRACK_AT_HEAD 2u
+#define VSMD_TRACK_AT_LAST 3u
+
+/* A record of version 1 of the layouts had the first 16 bytes alone, and opened with 01 01 00 10. To this library it is a unit that is not
+ * initialized; vsmd_record_upgrade makes a record of this version of it. */
+#define VSMD_RECORD_LEN_V1 16u
 
 /* ---- the outcome of a run --------------------------------------------------------------------------------------------------------
  *
  * 16 bytes, numbers big-endian:
  *
- *    0      version of the layout, 01
+ *    0      version of the layout, 02
  *    1      00
  *    2, 3   length, 0010 hex
  *    4      the run's answer, VSMD_DONE to VSMD_ALLOWANCE_SPENT
@@ -119,18 +152,20 @@ extern "C" {
 #define VSMD_LINK_BAD 5u        /* a link leads to a block that is as bad as in 3 */
 #define VSMD_ALLOWANCE_SPENT 6u /* the allowance is spent, and the last block has a link */
 
-/* Why a block failed. With 10 to 19 it changed nothing but its own status word and its event entry. */
-#define VSMD_COMMAND_UNKNOWN 10u     /* the command is not one of the nine */
+/* Why a block failed. With 10 to 19, 22 and 23 it changed nothing but its own status word and its event entry. */
+#define VSMD_COMMAND_UNKNOWN 10u     /* the command is not one of the ten */
 #define VSMD_NOT_INITIALIZED 11u     /* the unit is not initialized */
 #define VSMD_UIB_MISPLACED 12u       /* the UIB is at an odd address or not wholly in host memory */
 #define VSMD_UIB_OUTSIDE_LIMITS 13u  /* the UIB is outside the limits of a geometry */
 #define VSMD_VOLUME_ABSENT 14u       /* the unit has no volume 1 */
 #define VSMD_COUNT_ZERO 15u          /* the sector count is 0 */
-#define VSMD_SECTOR_OUTSIDE 16u      /* the first sector or the last is outside the volume, or the track outside the drive */
+#define VSMD_SECTOR_OUTSIDE 16u      /* the first sector or the last is outside the volume, or a track outside the drive */
 #define VSMD_IMAGE_SHORT 17u         /* the image is shorter than the geometry needs */
 #define VSMD_LIST_BAD 18u            /* the list has no elements or over 64, is misplaced, or has wrong byte counts */
 #define VSMD_DATA_MISPLACED 19u      /* a data address is odd or its range not in host memory */
 #define VSMD_UNREADABLE 20u          /* a sector is marked unreadable; the sectors before it were moved */
+#define VSMD_TRACKS_TAKEN 22u        /* the bad track and the spare are one, or one of them is in the table already */
+#define VSMD_TABLE_FULL 23u          /* the table has 32 pairs */
 
 /* What a call returns that was refused: a buffer is too short for its layout, and nothing at all was changed. No answer above has
  * the low byte of one of these. */
@@ -156,8 +191,9 @@ size_t vsmd_outcome_len(void);
  *                    and their number in word 4 of a format that ended with status 80, and the data that reads and scatters moved.
  *   image0, image1   the images of units 0 and 1. Out: the data that writes, gathers and formats moved. Their lengths may be 0.
  *   events           the event buffer. Out: an entry for each block run.
- *   record0, record1 the records of units 0 and 1. Out: stored anew where a block changed the record (an initialize, heads that
- *                    stand elsewhere), and otherwise byte for byte as they came in. Bytes after the first 16 are not touched.
+ *   record0, record1 the records of units 0 and 1. Out: stored anew up to the last pair that counts where a block changed the record
+ *                    (an initialize, heads that stand elsewhere, a pair more), and otherwise byte for byte as they came in. Bytes
+ *                    after the last pair that counts, and after the first 276, are not touched.
  *   outcome          In: anything. Out: the outcome in its first 16 bytes; those after them are not touched.
  *   first            the address of the first block.
  *   allowance        how many blocks may be fetched, 1 to 64; a chain that links in a circle ends by it.
@@ -174,7 +210,8 @@ uint32_t vsmd_run(uint8_t *host, size_t host_len, uint8_t *image0, size_t image0
  *   record0, record1        the records of units 0 and 1.
  *   image0_len, image1_len  how many bytes the images have.
  *   unit                    0 or 1.
- *   place                   which sector, counted from the start of the unit's image.
+ *   place                   which sector, counted from the start of the unit's image; a bad track and its spare are each seen where
+ *                           they stand.
  *   image                   Out: which image the part is in, 0 or 1.
  *   at                      Out: the part's first byte in that image.
  *   bytes                   Out: how many bytes it has, B.
@@ -212,10 +249,11 @@ static inline void vsmd_record_clear(uint8_t *record)
         record[k] = 0;
 }
 
-/* Makes the record of an initialized unit; whether its numbers keep the limits is judged when it is used. */
+/* Makes the record of an initialized unit without pairs; whether its numbers keep the limits is judged when it is used. */
 static inline void vsmd_record_make(uint8_t *record, uint16_t cylinders, uint16_t sectors_a_track, uint16_t bytes_a_sector,
                                     uint8_t start_head0, uint8_t heads0, uint8_t start_head1, uint8_t heads1, uint16_t cylinder)
 {
+    vsmd_record_clear(record);
     record[VSMD_RECORD_AT_VERSION] = VSMD_LAYOUT_VERSION;
     record[VSMD_RECORD_AT_INITIALIZED] = 1;
     vsmd_put16(record + VSMD_RECORD_AT_LENGTH, VSMD_RECORD_LEN);
@@ -229,10 +267,77 @@ static inline void vsmd_record_make(uint8_t *record, uint16_t cylinders, uint16_
     vsmd_put16(record + VSMD_RECORD_AT_CYLINDER, cylinder);
 }
 
-/* Whether a record opens as that of an initialized unit does. */
+/* Whether a record opens as that of an initialized unit does, with order and holder 00. */
 static inline int vsmd_record_says_initialized(const uint8_t *record)
 {
-    return vsmd_get32(record) == 0x01010010u;
+    return vsmd_get32(record) == 0x02010114u && record[VSMD_RECORD_AT_ORDER] == 0 && record[VSMD_RECORD_AT_HOLDER] == 0;
+}
+
+/* How many pairs of a record have room and count. */
+static inline uint16_t vsmd_record_pairs(const uint8_t *record)
+{
+    uint16_t pairs = vsmd_get16(record + VSMD_RECORD_AT_PAIRS);
+    return pairs < VSMD_PAIRS_MOST ? pairs : (uint16_t)VSMD_PAIRS_MOST;
+}
+
+/* Where the pair with an index stands in a record, from 0 to VSMD_PAIRS_MOST - 1. */
+static inline size_t vsmd_record_at_pair(size_t index)
+{
+    return VSMD_RECORD_AT_TABLE + VSMD_PAIR_LEN * index;
+}
+
+/* The pair with an index, told in four numbers. Returns 1; 0 where the record has no such pair, and then the numbers are as they were. */
+static inline int vsmd_record_get_pair(const uint8_t *record, size_t index, uint16_t *bad_cylinder, uint8_t *bad_head,
+                                       uint16_t *spare_cylinder, uint8_t *spare_head)
+{
+    const uint8_t *pair;
+    if (index >= vsmd_record_pairs(record))
+        return 0;
+    pair = record + vsmd_record_at_pair(index);
+    *bad_cylinder = vsmd_get16(pair + VSMD_PAIR_AT_BAD + VSMD_TRACK_AT_CYLINDER);
+    *bad_head = pair[VSMD_PAIR_AT_BAD + VSMD_TRACK_AT_HEAD];
+    *spare_cylinder = vsmd_get16(pair + VSMD_PAIR_AT_SPARE + VSMD_TRACK_AT_CYLINDER);
+    *spare_head = pair[VSMD_PAIR_AT_SPARE + VSMD_TRACK_AT_HEAD];
+    return 1;
+}
+
+static inline void vsmd_put_track(uint8_t *track, uint16_t cylinder, uint8_t head)
+{
+    vsmd_put16(track + VSMD_TRACK_AT_CYLINDER, cylinder);
+    track[VSMD_TRACK_AT_HEAD] = head;
+    track[VSMD_TRACK_AT_LAST] = 0;
+}
+
+/* Adds a pair to a record at the end of its table. Returns 1; 0 where 32 pairs stand, and then nothing was changed. Whether a drive can
+ * have the pair is judged when the record is used: command 85 adds one only where it can. */
+static inline int vsmd_record_add_pair(uint8_t *record, uint16_t bad_cylinder, uint8_t bad_head, uint16_t spare_cylinder,
+                                       uint8_t spare_head)
+{
+    uint16_t pairs = vsmd_record_pairs(record);
+    uint8_t *pair;
+    if (pairs == VSMD_PAIRS_MOST)
+        return 0;
+    pair = record + vsmd_record_at_pair(pairs);
+    vsmd_put_track(pair + VSMD_PAIR_AT_BAD, bad_cylinder, bad_head);
+    vsmd_put_track(pair + VSMD_PAIR_AT_SPARE, spare_cylinder, spare_head);
+    vsmd_put16(record + VSMD_RECORD_AT_PAIRS, (uint16_t)(pairs + 1u));
+    return 1;
+}
+
+/* Makes a record of the 16 bytes of one of version 1: the same unit without pairs. Returns 1; 0 where these bytes are not those of an
+ * initialized unit, and then the record is that of a unit that is not initialized. The two do not overlap. */
+static inline int vsmd_record_upgrade(uint8_t *record, const uint8_t *old)
+{
+    size_t k;
+    vsmd_record_clear(record);
+    if (vsmd_get32(old) != 0x01010010u)
+        return 0;
+    for (k = VSMD_RECORD_AT_CYLINDERS; k < VSMD_RECORD_LEN_V1; k++)
+        record[k] = old[k];
+    record[VSMD_RECORD_AT_VERSION] = VSMD_LAYOUT_VERSION;
+    record[VSMD_RECORD_AT_INITIALIZED] = 1;
+    vsmd_put16(record + VSMD_RECORD_AT_LENGTH, VSMD_RECORD_LEN);
+    return 1;
 }
 
 static inline uint16_t vsmd_record_cylinder(const uint8_t *record)

@@ -1,5 +1,6 @@
 /* The paper's session example through the C header: an initialize linked to a read of two sectors, laid out byte by byte. Then the
- * refusals of short buffers, and the inspection. One line where all is well; else what differs, and exit 1. */
+ * refusals of short buffers, the inspection, a bad track with its spare, and the upgrade of a record. One line where all is well; else
+ * what differs, and exit 1. */
 #include "vsmd3200.h"
 
 #include <stdio.h>
@@ -10,6 +11,7 @@
 #define AFTER 9u /* bytes after each buffer that nobody may touch */
 #define EVENTS_LEN 520u
 #define MARKS 7680u
+#define RECORD VSMD_RECORD_LEN
 
 #define BLOCK0 4u
 #define BLOCK1 40u
@@ -34,10 +36,24 @@ static const uint8_t two_sectors[28] = {
 static const uint8_t uib[18] = {0x00, 0x02, 0x02, 0x01, 0x04, 0x00, 0x00, 0x40, 0x10,
                                 0x20, 0x01, 0x03, 0x00, 0x0A, 0x04, 0x00, 0x01, 0xFF};
 
-static const uint8_t record_after[16] = {0x01, 0x01, 0x00, 0x10, 0x00, 0x0A, 0x00, 0x04,
-                                         0x00, 0x40, 0x00, 0x02, 0x02, 0x01, 0x00, 0x01};
+/* a bad track, cylinder 1 and head 0, gets cylinder 9 and head 2 for its spare; what stands between says nothing */
+static const uint8_t remap[28] = {
+    0x85, 0x50, 0xE5, 0xE6, 0x00, 0x01, 0x00, 0x77, 0x00, 0x09, 0x02, 0x77, 0x77, 0x77,
+    0x00, 0x00, 0x00, 0x00, 0x00, 0x00, 0x00, 0x00, 0x00, 0x00, 0x00, 0x00, 0x00, 0x00,
+};
 
-static const uint8_t outcome_after[16] = {0x01, 0x00, 0x00, 0x10, 0x00, 0x00, 0x00, 0x00,
+/* what a record says up to its table; the heads stand on cylinder 1 */
+static const uint8_t record_after[20] = {0x02, 0x01, 0x01, 0x14, 0x00, 0x0A, 0x00, 0x04, 0x00, 0x40,
+                                         0x00, 0x02, 0x02, 0x01, 0x00, 0x01, 0x00, 0x00, 0x00, 0x00};
+
+/* the one pair of a table */
+static const uint8_t pair_after[8] = {0x00, 0x01, 0x00, 0x00, 0x00, 0x09, 0x02, 0x00};
+
+/* the same unit in version 1 of the layouts */
+static const uint8_t record_of_version_1[16] = {0x01, 0x01, 0x00, 0x10, 0x00, 0x0A, 0x00, 0x04,
+                                                0x00, 0x40, 0x00, 0x02, 0x02, 0x01, 0x00, 0x01};
+
+static const uint8_t outcome_after[16] = {0x02, 0x00, 0x00, 0x10, 0x00, 0x00, 0x00, 0x00,
                                           0x00, 0x00, 0x00, 0x02, 0x00, 0x00, 0x00, 0x02};
 
 static const uint8_t events_after[16] = {0x80, 0x00, 0x00, 0x00, 0x00, 0x00, 0x00, 0x00,
@@ -88,7 +104,7 @@ static void expect_lent(const struct lent *got, const struct lent *wanted)
 }
 
 /* Every byte of the lent buffers gets a value of its own, as far as a byte can, and the example is laid over it. Unit 0 is not
- * initialized; record 1 is of no known version. */
+ * initialized, and what stands in the room for its pairs is anything; record 1 is of no known version. */
 static void lay_out(struct lent *l)
 {
     uint8_t *bytes = (uint8_t *)l;
@@ -97,7 +113,7 @@ static void lay_out(struct lent *l)
         bytes[k] = (uint8_t)(k * 7 + k / 64 * 13 + 5);
     for (k = MARKS; k < IMAGE_LEN; k++)
         l->image0[k] = 0;
-    vsmd_record_clear(l->record0);
+    memset(l->record0, 0, VSMD_RECORD_AT_TABLE);
     memcpy(l->host + BLOCK0, initialize, sizeof initialize);
     memcpy(l->host + BLOCK1, two_sectors, sizeof two_sectors);
     memcpy(l->host + UIB, uib, sizeof uib);
@@ -122,11 +138,12 @@ static void refusals(void)
     struct lent l, before;
     lay_out(&before);
     l = before;
-    expect_number("the answer with all three short", run_with(&l, 15, 15, 15), VSMD_RECORD0_SHORT);
-    expect_number("the answer with record 0 empty", run_with(&l, 0, 16, 16), VSMD_RECORD0_SHORT);
-    expect_number("the answer with record 1 and the outcome short", run_with(&l, 16, 15, 15), VSMD_RECORD1_SHORT);
-    expect_number("the answer with the outcome short", run_with(&l, 16, 16, 15), VSMD_OUTCOME_SHORT);
-    expect_number("the answer with the outcome empty", run_with(&l, 16, 16, 0), VSMD_OUTCOME_SHORT);
+    expect_number("the answer with all three short", run_with(&l, RECORD - 1, RECORD - 1, 15), VSMD_RECORD0_SHORT);
+    expect_number("the answer with a record 0 of version 1's length", run_with(&l, 16, RECORD, 16), VSMD_RECORD0_SHORT);
+    expect_number("the answer with record 0 empty", run_with(&l, 0, RECORD, 16), VSMD_RECORD0_SHORT);
+    expect_number("the answer with record 1 and the outcome short", run_with(&l, RECORD, RECORD - 1, 15), VSMD_RECORD1_SHORT);
+    expect_number("the answer with the outcome short", run_with(&l, RECORD, RECORD, 15), VSMD_OUTCOME_SHORT);
+    expect_number("the answer with the outcome empty", run_with(&l, RECORD, RECORD, 0), VSMD_OUTCOME_SHORT);
     expect_lent(&l, &before);
 }
 
@@ -136,7 +153,7 @@ static void the_example(struct lent *l)
     struct lent wanted;
     lay_out(l);
     wanted = *l;
-    expect_number("the answer", run_with(l, 16 + 3, 16, 16 + 3), VSMD_DONE);
+    expect_number("the answer", run_with(l, RECORD + 3, RECORD, 16 + 3), VSMD_DONE);
     /* status 80 and error 00; image bytes 448 to 511 and 768 to 831; nothing else of host memory */
     wanted.host[BLOCK0 + 2] = 0x80;
     wanted.host[BLOCK0 + 3] = 0x00;
@@ -154,7 +171,8 @@ static void helpers(const struct lent *l)
 {
     uint8_t made[VSMD_RECORD_LEN];
     vsmd_record_make(made, 10, 4, 64, 0, 2, 2, 1, 1);
-    expect_bytes("the record made", made, record_after, sizeof made);
+    expect_bytes("the record made", made, record_after, sizeof record_after);
+    expect_number("the pairs of the record made", vsmd_record_pairs(made), 0);
     expect_number("blocks", vsmd_outcome_blocks(l->outcome), 2);
     expect_number("sectors", vsmd_outcome_sectors(l->outcome), 2);
     expect_number("whether record 0 says initialized", (unsigned long)vsmd_record_says_initialized(l->record0), 1);
@@ -168,7 +186,7 @@ static void the_way_back(struct lent *l)
 {
     l->host[BLOCK0] = 0x89;
     l->host[BLOCK0 + 1] = 0x00;
-    expect_number("the answer of the restore", run_with(l, 16, 16, 16), VSMD_DONE);
+    expect_number("the answer of the restore", run_with(l, RECORD, RECORD, 16), VSMD_DONE);
     expect_number("minus the travel of the restore", (unsigned long)-vsmd_event_travel(l->events), 1);
     expect_number("the cylinder after it", vsmd_record_cylinder(l->record0), 0);
 }
@@ -177,7 +195,7 @@ static void expect_part(const struct lent *l, size_t image0_len, uint32_t unit, 
 {
     uint32_t image = 77;
     size_t got_at = 77, got_bytes = 77;
-    uint32_t code = vsmd_inspect(l->record0, 16, l->record1, 16, image0_len, 0, unit, place, &image, &got_at, &got_bytes);
+    uint32_t code = vsmd_inspect(l->record0, RECORD, l->record1, RECORD, image0_len, 0, unit, place, &image, &got_at, &got_bytes);
     expect_number("the code of an inspection", code, 0);
     expect_number("the image inspected", image, 0);
     expect_number("the part's first byte", (unsigned long)got_at, (unsigned long)at);
@@ -196,12 +214,149 @@ static void inspections(const struct lent *l)
     expect_part(l, IMAGE_LEN, 1, 12, 0, 0);
     expect_part(l, IMAGE_LEN, 2, 12, 0, 0);
     expect_number("the code with record 0 short",
-                  vsmd_inspect(l->record0, 15, l->record1, 15, IMAGE_LEN, 0, 0, 12, &image, &at, &bytes), VSMD_RECORD0_SHORT);
+                  vsmd_inspect(l->record0, RECORD - 1, l->record1, RECORD - 1, IMAGE_LEN, 0, 0, 12, &image, &at, &bytes),
+                  VSMD_RECORD0_SHORT);
     expect_number("the code with record 1 short",
-                  vsmd_inspect(l->record0, 16, l->record1, 15, IMAGE_LEN, 0, 0, 12, &image, &at, &bytes), VSMD_RECORD1_SHORT);
+                  vsmd_inspect(l->record0, RECORD, l->record1, RECORD - 1, IMAGE_LEN, 0, 0, 12, &image, &at, &bytes),
+                  VSMD_RECORD1_SHORT);
     expect_number("the image after a refused inspection", image, 77);
     expect_number("the first byte after it", (unsigned long)at, 78);
     expect_number("the length after it", (unsigned long)bytes, 79);
+}
+
+/* A block of one sector from or to the data's address, logical 8: the first sector of cylinder 1. */
+static void lay_transfer(struct lent *l, uint8_t command)
+{
+    memset(l->host + BLOCK0, 0, 28);
+    l->host[BLOCK0] = command;
+    l->host[BLOCK0 + 1] = 0x10;
+    l->host[BLOCK0 + 7] = 8;
+    l->host[BLOCK0 + 9] = 1;
+    l->host[BLOCK0 + 13] = DATA;
+}
+
+/* What every run here changes whatever it is for: the outcome, the status word of its one block, and the entry. */
+static void ended(struct lent *wanted, uint8_t status, uint8_t error, uint8_t failed, uint8_t sectors, uint8_t travel)
+{
+    memset(wanted->outcome + 4, 0, 12);
+    wanted->outcome[VSMD_OUTCOME_AT_ANSWER] = failed ? VSMD_BLOCK_FAILED : VSMD_DONE;
+    wanted->outcome[VSMD_OUTCOME_AT_FAILED] = failed;
+    wanted->outcome[VSMD_OUTCOME_AT_BLOCKS + 3] = 1;
+    wanted->outcome[VSMD_OUTCOME_AT_SECTORS + 3] = sectors;
+    wanted->host[BLOCK0 + 2] = status;
+    wanted->host[BLOCK0 + 3] = error;
+    memset(wanted->events, 0, VSMD_EVENT_LEN);
+    wanted->events[0] = status;
+    wanted->events[1] = error;
+    wanted->events[7] = travel;
+}
+
+/* An 85 adds its pair and changes nothing else; the same once more is refused. */
+static void a_pair_is_added(struct lent *l)
+{
+    struct lent wanted;
+    memcpy(l->host + BLOCK0, remap, sizeof remap);
+    wanted = *l;
+    expect_number("the answer of the 85", run_with(l, RECORD, RECORD, 16), VSMD_DONE);
+    ended(&wanted, 0x80, 0x00, 0, 0, 0);
+    wanted.record0[VSMD_RECORD_AT_PAIRS + 1] = 1;
+    memcpy(wanted.record0 + VSMD_RECORD_AT_TABLE, pair_after, sizeof pair_after);
+    expect_lent(l, &wanted);
+    expect_number("the answer of the 85 again", run_with(l, RECORD, RECORD, 16), VSMD_BLOCK_FAILED);
+    ended(&wanted, 0x82, 0xFF, VSMD_TRACKS_TAKEN, 0, 0);
+    expect_lent(l, &wanted);
+}
+
+/* A write to the bad track goes to the spare, place 116, and a read brings it back from there. Inspection sees both where they stand. */
+static void the_spare_serves(struct lent *l)
+{
+    struct lent wanted;
+    lay_transfer(l, 0x82);
+    wanted = *l;
+    expect_number("the answer of the write", run_with(l, RECORD, RECORD, 16), VSMD_DONE);
+    ended(&wanted, 0x80, 0x00, 0, 1, 9);
+    wanted.record0[VSMD_RECORD_AT_CYLINDER + 1] = 9;
+    memcpy(wanted.image0 + 7424, wanted.host + DATA, 64);
+    expect_lent(l, &wanted);
+    lay_transfer(l, 0x81);
+    memset(l->host + DATA, 0, 64);
+    wanted = *l;
+    expect_number("the answer of the read", run_with(l, RECORD, RECORD, 16), VSMD_DONE);
+    ended(&wanted, 0x80, 0x00, 0, 1, 0);
+    memcpy(wanted.host + DATA, wanted.image0 + 7424, 64);
+    expect_lent(l, &wanted);
+    expect_part(l, IMAGE_LEN, 0, 116, 7424, 64);
+    expect_part(l, IMAGE_LEN, 0, 12, 768, 64);
+}
+
+/* What the header's own functions say of the record with its pair. */
+static void pairs_told(const struct lent *l)
+{
+    uint16_t bad = 77, spare = 77;
+    uint8_t bad_head = 77, spare_head = 77, other[VSMD_RECORD_LEN];
+    int there = vsmd_record_get_pair(l->record0, 1, &bad, &bad_head, &spare, &spare_head);
+    expect_number("how many pairs count", vsmd_record_pairs(l->record0), 1);
+    expect_number("whether there is a second pair", (unsigned long)there, 0);
+    expect_number("the cylinder of a pair that is not there", bad, 77);
+    there = vsmd_record_get_pair(l->record0, 0, &bad, &bad_head, &spare, &spare_head);
+    expect_number("whether there is a pair", (unsigned long)there, 1);
+    expect_number("its bad cylinder", bad, 1);
+    expect_number("its bad head", bad_head, 0);
+    expect_number("its spare cylinder", spare, 9);
+    expect_number("its spare head", spare_head, 2);
+    vsmd_record_make(other, 10, 4, 64, 0, 2, 2, 1, 9);
+    expect_number("whether a pair can be added", (unsigned long)vsmd_record_add_pair(other, 1, 0, 9, 2), 1);
+    expect_bytes("the record made with the pair", other, l->record0, VSMD_RECORD_AT_TABLE + VSMD_PAIR_LEN);
+    other[VSMD_RECORD_AT_HOLDER] = 1;
+    expect_number("whether a record that is held says initialized", (unsigned long)vsmd_record_says_initialized(other), 0);
+}
+
+/* An initialize stores the number 0 and leaves the bytes of the table. */
+static void the_table_is_cleared(struct lent *l)
+{
+    struct lent wanted;
+    memcpy(l->host + BLOCK0, initialize, sizeof initialize);
+    l->host[BLOCK0 + 1] = 0x00;
+    memcpy(l->host + UIB, uib, sizeof uib);
+    wanted = *l;
+    expect_number("the answer of the initialize", run_with(l, RECORD, RECORD, 16), VSMD_DONE);
+    ended(&wanted, 0x80, 0x00, 0, 0, 0);
+    wanted.record0[VSMD_RECORD_AT_CYLINDER + 1] = 0;
+    wanted.record0[VSMD_RECORD_AT_PAIRS + 1] = 0;
+    expect_lent(l, &wanted);
+}
+
+/* 32 pairs on 22 cylinders leave two tracks, for which there is no room in the table. */
+static void a_full_table(struct lent *l)
+{
+    struct lent wanted;
+    uint16_t k;
+    vsmd_record_make(l->record0, 22, 4, 64, 0, 2, 2, 1, 0);
+    for (k = 0; k < VSMD_PAIRS_MOST; k++)
+        vsmd_record_add_pair(l->record0, (uint16_t)(k / 3), (uint8_t)(k % 3), (uint16_t)((k + 32) / 3), (uint8_t)((k + 32) % 3));
+    expect_number("whether a pair more can be added", (unsigned long)vsmd_record_add_pair(l->record0, 21, 1, 21, 2), 0);
+    expect_number("the pairs of a full table", vsmd_record_pairs(l->record0), 32);
+    memcpy(l->host + BLOCK0, remap, sizeof remap);
+    l->host[BLOCK0 + 5] = l->host[BLOCK0 + 9] = 21;
+    l->host[BLOCK0 + 6] = 1;
+    wanted = *l;
+    expect_number("the answer of an 85 with 32 pairs", run_with(l, RECORD, RECORD, 16), VSMD_BLOCK_FAILED);
+    ended(&wanted, 0x82, 0xFF, VSMD_TABLE_FULL, 0, 0);
+    expect_lent(l, &wanted);
+}
+
+/* A record of version 1 becomes one of this version without pairs; what was not initialized there is not here. */
+static void upgrades(void)
+{
+    uint8_t old[VSMD_RECORD_LEN_V1], made[VSMD_RECORD_LEN], zeros[VSMD_RECORD_LEN] = {0};
+    memcpy(old, record_of_version_1, sizeof old);
+    memset(made, 0x77, sizeof made);
+    expect_number("whether a record was upgraded", (unsigned long)vsmd_record_upgrade(made, old), 1);
+    expect_bytes("the record upgraded", made, record_after, sizeof record_after);
+    expect_bytes("its table", made + VSMD_RECORD_AT_TABLE, zeros, sizeof made - VSMD_RECORD_AT_TABLE);
+    old[1] = 0;
+    expect_number("whether a record that says no more was upgraded", (unsigned long)vsmd_record_upgrade(made, old), 0);
+    expect_bytes("what it became", made, zeros, sizeof made);
 }
 
 int main(void)
@@ -213,8 +368,14 @@ int main(void)
     helpers(&l);
     inspections(&l);
     the_way_back(&l);
+    a_pair_is_added(&l);
+    the_spare_serves(&l);
+    pairs_told(&l);
+    the_table_is_cleared(&l);
+    a_full_table(&l);
+    upgrades();
     if (wrong)
         return 1;
-    printf("two_sector_read: the session example, the refusals and the inspection through C are as the paper has them\n");
+    printf("two_sector_read: the session example, the refusals, the inspection and a spare track through C are as the papers have them\n");
     return 0;
 }

@@ -1,8 +1,8 @@
 //! A case: all that is handed to a run, and what is asked of it afterwards.
 
-use model::{Geometry, Record, Volume};
+use model::{Geometry, Pair, Record, Table, Track, Volume};
 
-pub const RECORD_LEN: usize = 16;
+pub const RECORD_LEN: usize = 276;
 
 /// A unit record as it crosses to the library.
 pub type RecordBytes = [u8; RECORD_LEN];
@@ -27,8 +27,20 @@ pub struct Case {
     pub inspections: Vec<Inspection>,
 }
 
-/// The bytes with which the record of an initialized unit opens: version 1, the flag, length 16.
-pub const OPENING: [u8; 4] = [0x01, 0x01, 0x00, 0x10];
+/// The bytes with which the record of an initialized unit opens: version 2, the flag, length 276.
+pub const OPENING: [u8; 4] = [0x02, 0x01, 0x01, 0x14];
+
+/// Order and holder, which are 0 where a unit is initialized.
+pub const ORDER_AND_HOLDER: std::ops::Range<usize> = 16..18;
+
+/// Where the number of pairs stands, and where the pairs begin.
+pub const PAIRS_AT: usize = 18;
+pub const TABLE_AT: usize = 20;
+
+/// Where the bytes of a record end that are stored anew with so many pairs.
+pub fn stored_end(pairs: u16) -> usize {
+    TABLE_AT + 8 * (pairs as usize).min(32)
+}
 
 /// The record that stands in some bytes. The layout is read here a second time, apart from the
 /// wrapper that is tested along with the library.
@@ -38,8 +50,13 @@ pub fn record_in(bytes: &RecordBytes) -> Record {
         start_head: bytes[at],
         heads: bytes[at + 1],
     };
+    let track = |at: usize| Track {
+        cylinder: word(at),
+        head: bytes[at + 2],
+        last: bytes[at + 3],
+    };
     Record {
-        initialized: bytes[..4] == OPENING,
+        initialized: bytes[..4] == OPENING && bytes[ORDER_AND_HOLDER] == [0, 0],
         geometry: Geometry {
             cylinders: word(4),
             sectors_a_track: word(6),
@@ -47,13 +64,22 @@ pub fn record_in(bytes: &RecordBytes) -> Record {
             volumes: [volume(10), volume(12)],
         },
         cylinder: word(14),
+        table: Table::saying(word(PAIRS_AT), |k| Pair {
+            bad: track(TABLE_AT + 8 * k),
+            spare: track(TABLE_AT + 8 * k + 4),
+        }),
     }
 }
 
-/// The bytes of a record.
+/// The bytes of a record; those after the pairs that count are 0.
 pub fn record_bytes(record: &Record) -> RecordBytes {
+    stored(&[0; RECORD_LEN], record)
+}
+
+/// The bytes with a record stored in them: all up to the last pair that counts.
+fn stored(before: &RecordBytes, record: &Record) -> RecordBytes {
     let g = &record.geometry;
-    let mut bytes = [0; RECORD_LEN];
+    let mut bytes = *before;
     bytes[..4].copy_from_slice(&OPENING);
     bytes[1] = record.initialized as u8;
     bytes[4..6].copy_from_slice(&g.cylinders.to_be_bytes());
@@ -63,15 +89,28 @@ pub fn record_bytes(record: &Record) -> RecordBytes {
         bytes[10 + 2 * k] = volume.start_head;
         bytes[11 + 2 * k] = volume.heads;
     }
-    bytes[14..].copy_from_slice(&record.cylinder.to_be_bytes());
+    bytes[14..16].copy_from_slice(&record.cylinder.to_be_bytes());
+    bytes[ORDER_AND_HOLDER].fill(0);
+    bytes[PAIRS_AT..TABLE_AT].copy_from_slice(&record.table.count().to_be_bytes());
+    for (k, pair) in record.table.pairs().iter().enumerate() {
+        put_track(&mut bytes, TABLE_AT + 8 * k, &pair.bad);
+        put_track(&mut bytes, TABLE_AT + 8 * k + 4, &pair.spare);
+    }
     bytes
 }
 
-/// "stored anew only where the record changed": the bytes of a record after a run.
+fn put_track(bytes: &mut RecordBytes, at: usize, track: &Track) {
+    bytes[at..at + 2].copy_from_slice(&track.cylinder.to_be_bytes());
+    bytes[at + 2] = track.head;
+    bytes[at + 3] = track.last;
+}
+
+/// The bytes of a record after a run: as they came where the record is the same, and otherwise stored
+/// anew, with those after the last pair that counts as they came.
 pub fn record_left(before: &RecordBytes, after: &Record) -> RecordBytes {
     if record_in(before) == *after {
         *before
     } else {
-        record_bytes(after)
+        stored(before, after)
     }
 }

@@ -12,15 +12,9 @@ pub fn differences(case: &Case, library: &Left, model: &Left) -> Vec<String> {
             library.outcome, model.outcome
         ));
     }
-    for unit in 0..2 {
-        if library.records[unit] != model.records[unit] {
-            lines.push(format!(
-                "record {}: came as {:02x?}, library {:02x?}, model {:02x?}",
-                unit, case.records[unit], library.records[unit], model.records[unit]
-            ));
-        }
-    }
-    let buffers = [
+    let buffers: [(&str, &[u8], &[u8]); 6] = [
+        ("record 0", &library.records[0], &model.records[0]),
+        ("record 1", &library.records[1], &model.records[1]),
         ("host memory", &library.host, &model.host),
         ("image 0", &library.images[0], &model.images[0]),
         ("image 1", &library.images[1], &model.images[1]),

@@ -1,8 +1,9 @@
 //! What a set of worlds has walked into, counted from the model's traces.
 
-use crate::case::{record_in, Case};
-use crate::worlds::Way;
-use model::{Outcome, Record, Trace, Visit, CHECKS, COMMANDS, STOPS};
+use crate::case::{record_in, Case, RecordBytes, ORDER_AND_HOLDER};
+use crate::sides::Left;
+use crate::worlds::{TableWay, Theme, Way};
+use model::{Outcome, Pair, Record, Table, Taken, Trace, Track, Visit, CHECKS, COMMANDS, STOPS};
 use std::collections::BTreeMap;
 
 /// How often each thing has to have occurred.
@@ -48,8 +49,82 @@ const TRAPS: [Trap; 15] = [
     }),
 ];
 
-#[derive(Default)]
+/// What a block can walk into where there are tables.
+const TABLE_TRAPS: [Trap; 33] = [
+    ("81 on a spare", |v| v.command == 0x81 && v.landing.on_spare),
+    ("82 on a spare", |v| v.command == 0x82 && v.landing.on_spare),
+    ("8A on a spare", |v| v.command == 0x8a && v.landing.on_spare),
+    ("8C on a spare", |v| v.command == 0x8c && v.landing.on_spare),
+    ("A1 on a spare", |v| v.command == 0xa1 && v.landing.on_spare),
+    ("A2 on a spare", |v| v.command == 0xa2 && v.landing.on_spare),
+    ("spare in the other volume", |v| v.landing.in_other_volume),
+    ("spare in no volume", |v| v.landing.in_no_volume),
+    ("span in part on a spare", |v| v.landing.in_part),
+    ("read over a bad track and its spare", |v| {
+        matches!(v.command, 0x81 | 0xa1) && v.landing.with_its_spare
+    }),
+    ("write over a bad track and its spare", |v| {
+        matches!(v.command, 0x82 | 0xa2) && v.landing.with_its_spare
+    }),
+    ("spare named directly", |v| v.landing.spare_named),
+    ("8C that names a spare", |v| {
+        v.command == 0x8c && v.landing.spare_named
+    }),
+    ("heads on the spare's cylinder, another", |v| {
+        v.landing.heads_elsewhere
+    }),
+    ("mark of a bad track passed", |v| v.landing.bad_mark_passed),
+    ("read stopped on a spare", |v| v.landing.stopped_on_spare),
+    ("landed by pair 32", |v| v.landing.by_pair == Some(31)),
+    ("block overwritten, then on a spare", |v| {
+        v.overwritten_with_other_bytes && v.landing.on_spare
+    }),
+    ("11 for an 85", |v| v.command == 0x85 && v.answer == 11),
+    ("16 for an 85", |v| v.command == 0x85 && v.answer == 16),
+    ("16 for an 85, with 32 pairs", |v| {
+        v.command == 0x85 && v.answer == 16 && v.landing.pairs == 32
+    }),
+    ("22 for equal tracks", |v| v.taken == Some(Taken::Equal)),
+    ("22 for a bad track that is bad", |v| {
+        v.taken == Some(Taken::BadIsBad)
+    }),
+    ("22 for a bad track that is a spare", |v| {
+        v.taken == Some(Taken::BadIsSpare)
+    }),
+    ("22 for a spare that is bad", |v| {
+        v.taken == Some(Taken::SpareIsBad)
+    }),
+    ("22 for a spare that is a spare", |v| {
+        v.taken == Some(Taken::SpareIsSpare)
+    }),
+    ("22 with 32 pairs", |v| {
+        v.answer == 22 && v.landing.pairs == 32
+    }),
+    ("first pair added", |v| added(v) && v.landing.pairs == 0),
+    ("pair 32 added", |v| added(v) && v.landing.pairs == 31),
+    ("table cleared by 87", |v| {
+        v.command == 0x87 && v.answer == 0 && v.landing.pairs > 0
+    }),
+    ("bad table cleared by 87", |v| {
+        v.command == 0x87 && v.answer == 0 && v.landing.pairs > 32
+    }),
+    ("87 refused with a table", |v| {
+        v.command == 0x87 && v.answer != 0 && v.landing.pairs > 0
+    }),
+    ("89 with a table", |v| {
+        v.command == 0x89 && v.answer == 0 && v.landing.pairs > 0
+    }),
+];
+
+fn added(visit: &Visit) -> bool {
+    visit.command == 0x85 && visit.answer == 0
+}
+
+/// The answers that only worlds with tables give.
+const TABLE_ANSWERS: [u8; 2] = [22, 23];
+
 pub struct Coverage {
+    theme: Theme,
     worlds: u64,
     blocks: u64,
     answers: [u64; 7],
@@ -66,10 +141,46 @@ pub struct Coverage {
     opening: u64,
     /// Inspections that found a sector, and that found none.
     found: [u64; 2],
+    table_traps: [u64; TABLE_TRAPS.len()],
+    /// 11 for a record that its table alone spoils.
+    table_ways: [u64; TableWay::ALL.len()],
+    /// A block on a spare that an 85 of the same chain named.
+    own_pairs: u64,
+    /// Inspections of a bad track's place and of a spare's, found there.
+    found_bad: u64,
+    found_spare: u64,
+    /// Inspections of nothing, for the table alone.
+    found_no_table: u64,
+    /// Records that came with bytes after the pairs that count, and were stored anew.
+    tails: u64,
 }
 
 impl Coverage {
-    pub fn add(&mut self, case: &Case, outcome: &Outcome, trace: &Trace, found: &[bool]) {
+    pub fn new(theme: Theme) -> Coverage {
+        Coverage {
+            theme,
+            worlds: 0,
+            blocks: 0,
+            answers: [0; 7],
+            block_answers: BTreeMap::new(),
+            ended: [0; COMMANDS.len()],
+            traps: [0; TRAPS.len()],
+            loops: 0,
+            ways: [0; Way::ALL.len()],
+            opening: 0,
+            found: [0; 2],
+            table_traps: [0; TABLE_TRAPS.len()],
+            table_ways: [0; TableWay::ALL.len()],
+            own_pairs: 0,
+            found_bad: 0,
+            found_spare: 0,
+            found_no_table: 0,
+            tails: 0,
+        }
+    }
+
+    pub fn add(&mut self, case: &Case, outcome: &Outcome, trace: &Trace, left: &Left) {
+        let found: Vec<bool> = left.parts.iter().map(|part| part.bytes > 0).collect();
         self.worlds += 1;
         self.blocks += trace.blocks.len() as u64;
         self.answers[outcome.answer as usize] += 1;
@@ -78,8 +189,38 @@ impl Coverage {
         }
         self.loops += runs_a_block_again(trace) as u64;
         self.records(case, trace);
-        for found in found {
+        for found in &found {
             self.found[*found as usize] += 1;
+        }
+        if self.theme.tables() {
+            self.tables(case, trace, left, &found);
+        }
+    }
+
+    /// What had to do with the tables of both units.
+    fn tables(&mut self, case: &Case, trace: &Trace, left: &Left, found: &[bool]) {
+        self.own_pairs += lands_on_own_pair(trace) as u64;
+        for (unit, bytes) in case.records.iter().enumerate() {
+            let stored = bytes != &left.records[unit];
+            self.tails += (stored && bytes[260..].iter().any(|byte| *byte != 0)) as u64;
+        }
+        let records = left.records.map(|bytes| record_in(&bytes));
+        for (asked, found) in case.inspections.iter().zip(found) {
+            let Some(record) = records.get(asked.unit as usize) else {
+                continue;
+            };
+            let without = Record {
+                table: Table::NONE,
+                ..*record
+            };
+            let spoiled = !record.counts_as_initialized() && without.counts_as_initialized();
+            self.found_no_table += spoiled as u64;
+            let stands = |is: fn(&Pair) -> Track| {
+                let mut pairs = record.table.pairs().iter();
+                *found && pairs.any(|pair| has_place(record, is(pair), asked.place))
+            };
+            self.found_bad += stands(|pair| pair.bad) as u64;
+            self.found_spare += stands(|pair| pair.spare) as u64;
         }
     }
 
@@ -92,6 +233,9 @@ impl Coverage {
         }
         for (k, (_, trap)) in TRAPS.iter().enumerate() {
             self.traps[k] += trap(visit) as u64;
+        }
+        for (k, (_, trap)) in TABLE_TRAPS.iter().enumerate() {
+            self.table_traps[k] += trap(visit) as u64;
         }
     }
 
@@ -109,6 +253,9 @@ impl Coverage {
             for (k, way) in Way::ALL.iter().enumerate() {
                 self.ways[k] += outside(&record, *way) as u64;
             }
+            if let [alone] = table_ways(bytes)[..] {
+                self.table_ways[alone as usize] += 1;
+            }
         }
     }
 
@@ -125,6 +272,13 @@ impl Coverage {
         add_all(&mut self.traps, &other.traps);
         add_all(&mut self.ways, &other.ways);
         add_all(&mut self.found, &other.found);
+        add_all(&mut self.table_traps, &other.table_traps);
+        add_all(&mut self.table_ways, &other.table_ways);
+        self.own_pairs += other.own_pairs;
+        self.found_bad += other.found_bad;
+        self.found_spare += other.found_spare;
+        self.found_no_table += other.found_no_table;
+        self.tails += other.tails;
     }
 
     pub fn blocks(&self) -> u64 {
@@ -133,15 +287,26 @@ impl Coverage {
 
     /// Each thing that has to occur, with how often it did.
     fn things(&self) -> Vec<(String, u64)> {
+        if self.theme.tables() {
+            self.things_of_tables()
+        } else {
+            self.plain_things()
+        }
+    }
+
+    fn plain_things(&self) -> Vec<(String, u64)> {
         let mut things = Vec::new();
         for (number, count) in self.answers.iter().enumerate() {
             things.push((format!("run answer {}", number), *count));
         }
-        for number in CHECKS.iter().chain(&STOPS) {
+        let answers = CHECKS.iter().chain(&STOPS);
+        for number in answers.filter(|number| !TABLE_ANSWERS.contains(number)) {
             things.push((format!("block answer {}", number), self.answered(number)));
         }
         for (command, count) in COMMANDS.iter().zip(self.ended) {
-            things.push((format!("{:02X} ended 80", command), count));
+            if *command != 0x85 {
+                things.push((format!("{:02X} ended 80", command), count));
+            }
         }
         for ((name, _), count) in TRAPS.iter().zip(self.traps) {
             things.push((name.to_string(), count));
@@ -153,6 +318,34 @@ impl Coverage {
         things.push(("11 for the record's opening".to_string(), self.opening));
         things.push(("inspection of a sector".to_string(), self.found[1]));
         things.push(("inspection of nothing".to_string(), self.found[0]));
+        things
+    }
+
+    fn things_of_tables(&self) -> Vec<(String, u64)> {
+        let mut things = Vec::new();
+        for number in [11, 13, 16, 17, 19, 20, 22, 23] {
+            things.push((format!("block answer {}", number), self.answered(&number)));
+        }
+        for (command, count) in COMMANDS.iter().zip(self.ended) {
+            things.push((format!("{:02X} ended 80", command), count));
+        }
+        for ((name, _), count) in TABLE_TRAPS.iter().zip(self.table_traps) {
+            things.push((name.to_string(), count));
+        }
+        let own = "landed by a pair of the same chain";
+        things.push((own.to_string(), self.own_pairs));
+        for (way, count) in TableWay::ALL.iter().zip(self.table_ways) {
+            things.push((format!("11 for {} alone", way.says()), count));
+        }
+        let tails = "stored anew, with other bytes after the pairs";
+        for (name, count) in [
+            (tails, self.tails),
+            ("inspection of a bad track's place", self.found_bad),
+            ("inspection of a spare's place", self.found_spare),
+            ("inspection of nothing, for the table", self.found_no_table),
+        ] {
+            things.push((name.to_string(), count));
+        }
         things
     }
 
@@ -205,6 +398,70 @@ fn runs_a_block_again(trace: &Trace) -> bool {
     let mut places: Vec<u32> = trace.blocks.iter().map(|visit| visit.at).collect();
     places.sort_unstable();
     places.windows(2).any(|two| two[0] == two[1])
+}
+
+/// Whether a block landed by a pair that an 85 before it in the chain had added.
+fn lands_on_own_pair(trace: &Trace) -> bool {
+    let blocks = &trace.blocks;
+    blocks.iter().enumerate().any(|(k, visit)| {
+        // the pair was the last of its table when it was added, and no 87 came between
+        let mut earlier = blocks[..k].iter().rev().filter(|v| v.unit == visit.unit);
+        let mut since = earlier.by_ref().take_while(|v| v.command != 0x87);
+        visit
+            .landing
+            .by_pair
+            .is_some_and(|by| since.any(|v| added(v) && v.landing.pairs as usize == by))
+    })
+}
+
+/// Whether a place is one of a track's.
+fn has_place(record: &Record, track: Track, place: u64) -> bool {
+    let s = record.geometry.sectors_a_track as u64;
+    let number = track.cylinder as u64 * record.geometry.drive_heads() + track.head as u64;
+    s > 0 && place / s == number
+}
+
+/// In which ways a record is bad that would be good without a table, order and holder.
+fn table_ways(bytes: &RecordBytes) -> Vec<TableWay> {
+    let [order, holder] = [bytes[16], bytes[17]];
+    let mut mended = *bytes;
+    mended[ORDER_AND_HOLDER].fill(0);
+    let record = record_in(&mended);
+    let free = Record {
+        table: Table::NONE,
+        ..record
+    };
+    if !free.counts_as_initialized() {
+        return Vec::new();
+    }
+    let (count, pairs) = (record.table.count(), record.table.pairs());
+    let tracks: Vec<Track> = pairs.iter().flat_map(|p| [p.bad, p.spare]).collect();
+    let equal = pairs.iter().filter(|pair| pair.bad == pair.spare).count();
+    let bad = doubles(pairs.iter().map(|pair| pair.bad));
+    let spare = doubles(pairs.iter().map(|pair| pair.spare));
+    let all = doubles(tracks.iter().copied());
+    let any = |is: &dyn Fn(&Track) -> bool| tracks.iter().any(is);
+    let so = |way: &TableWay| match way {
+        TableWay::ManyPairs => count == 33,
+        TableWay::FarTooMany => count > 33,
+        TableWay::CylinderOff => any(&|track| track.cylinder >= record.geometry.cylinders),
+        TableWay::HeadOff => any(&|track| track.head as u64 >= record.geometry.drive_heads()),
+        TableWay::LastByte => any(&|track| track.last != 0),
+        TableWay::PairEqual => equal > 0,
+        TableWay::BadTwice => bad > 0,
+        TableWay::SpareTwice => spare > 0,
+        TableWay::BadAndSpare => all > bad + spare + equal,
+        TableWay::Order => order != 0,
+        TableWay::Holder => holder != 0,
+    };
+    TableWay::ALL.into_iter().filter(so).collect()
+}
+
+/// How many pairs of places of a row have the same track.
+fn doubles(tracks: impl Iterator<Item = Track>) -> usize {
+    let tracks: Vec<Track> = tracks.collect();
+    let twice = |k: usize| tracks[k + 1..].iter().filter(|t| **t == tracks[k]).count();
+    (0..tracks.len()).map(twice).sum()
 }
 
 /// Whether a record would be good but for this: the way makes it bad, and mending it would do.

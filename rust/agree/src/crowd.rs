@@ -3,7 +3,7 @@
 use crate::compare::differences;
 use crate::coverage::Coverage;
 use crate::sides::{model_side, Opponent};
-use crate::worlds::world;
+use crate::worlds::{world, Theme};
 use model::{with_fault, Fault};
 use std::panic::{catch_unwind, AssertUnwindSafe};
 use std::sync::atomic::{AtomicU64, AtomicUsize, Ordering};
@@ -14,6 +14,7 @@ const CHUNK: u64 = 64;
 
 #[derive(Clone, Copy)]
 pub struct Crowd {
+    pub theme: Theme,
     pub opponent: Opponent,
     pub seed: u64,
     pub worlds: u64,
@@ -31,19 +32,24 @@ pub struct Disagreement {
     pub lines: Vec<String>,
 }
 
-/// One world on both sides: what differs.
+/// One world on both sides: what differs. The model in the library's place is without the same rule.
 pub fn one_world(crowd: &Crowd, index: u64, coverage: &mut Coverage) -> Vec<String> {
-    let case = world(crowd.seed, index);
-    let library = crowd.opponent.run(&case);
-    let judged = catch_unwind(AssertUnwindSafe(|| match crowd.seeded {
-        Some(fault) => with_fault(fault, || model_side(&case)),
-        None => model_side(&case),
+    let case = world(crowd.theme, crowd.seed, index);
+    let judged = catch_unwind(AssertUnwindSafe(|| {
+        let model = || model_side(&case);
+        match crowd.seeded {
+            Some(fault) => with_fault(fault, model),
+            None => model(),
+        }
     }));
     let Ok((model, trace)) = judged else {
         return vec!["the model panics".to_string()];
     };
-    let found: Vec<bool> = model.parts.iter().map(|part| part.bytes > 0).collect();
-    coverage.add(&case, &model.outcome, &trace, &found);
+    coverage.add(&case, &model.outcome, &trace, &model);
+    let library = match (crowd.opponent, crowd.seeded) {
+        (Opponent::Itself, Some(fault)) => with_fault(fault, || crowd.opponent.run(&case)),
+        (opponent, _) => opponent.run(&case),
+    };
     differences(&case, &library, &model)
 }
 
@@ -53,7 +59,7 @@ impl Crowd {
     pub fn run(&self) -> (Coverage, Option<Disagreement>) {
         let next = AtomicU64::new(0);
         let end = AtomicU64::new(self.worlds);
-        let total = Mutex::new((Coverage::default(), None::<Disagreement>));
+        let total = Mutex::new((Coverage::new(self.theme), None::<Disagreement>));
         std::thread::scope(|scope| {
             for _ in 0..self.threads {
                 scope.spawn(|| {
@@ -76,7 +82,7 @@ impl Crowd {
 
     /// A thread's share of the worlds, up to the first disagreement that anyone has found.
     fn share(&self, next: &AtomicU64, end: &AtomicU64) -> (Coverage, Option<Disagreement>) {
-        let mut coverage = Coverage::default();
+        let mut coverage = Coverage::new(self.theme);
         loop {
             let from = next.fetch_add(CHUNK, Ordering::Relaxed);
             for index in from..from + CHUNK {
@@ -119,10 +125,16 @@ impl Crowd {
             .collect()
     }
 
-    /// Whether the model with a fault differs in a world, or cannot go on in it. The world is made
-    /// and the other side is run without the fault.
+    /// Whether the model with a fault differs in one of the two worlds with an index, the one without
+    /// tables and the one with them, or cannot go on in it.
     pub fn catches(&self, fault: Fault, index: u64) -> bool {
-        let case = world(self.seed, index);
+        let mut themes = [Theme::Plain, Theme::Tables].into_iter();
+        themes.any(|theme| self.catches_in(theme, fault, index))
+    }
+
+    /// The world is made and the other side is run without the fault.
+    fn catches_in(&self, theme: Theme, fault: Fault, index: u64) -> bool {
+        let case = world(theme, self.seed, index);
         let library = self.opponent.run(&case);
         let faulty = catch_unwind(AssertUnwindSafe(|| with_fault(fault, || model_side(&case))));
         match faulty {

@@ -1,8 +1,8 @@
 //! A case that can be read: what was handed in, and the blocks of the chain as they were fetched.
 
-use crate::case::{record_in, Case};
+use crate::case::{record_in, Case, TABLE_AT};
 use crate::sides::{memory_at_fetch, model_side};
-use model::{Block, Element, Geometry, Record, Visit};
+use model::{Block, Element, Geometry, Record, Track, Visit};
 use std::fmt::Write;
 
 /// The blocks shown at most.
@@ -65,8 +65,24 @@ fn record_line(record: &Record, bytes: &[u8]) -> String {
         geometry_words(&record.geometry),
         record.cylinder,
         record.geometry.need(),
-        hex(bytes)
-    )
+        hex(&bytes[..TABLE_AT])
+    ) + &table_words(record)
+}
+
+/// The pairs that count, as far as there are any.
+fn table_words(record: &Record) -> String {
+    let track = |track: &Track| match track.last {
+        0 => format!("{}/{}", track.cylinder, track.head),
+        last => format!("{}/{}/{:02x}", track.cylinder, track.head, last),
+    };
+    let pairs = record.table.pairs().iter();
+    let pairs: Vec<String> = pairs
+        .map(|pair| format!(" {}>{}", track(&pair.bad), track(&pair.spare)))
+        .collect();
+    match record.table.count() {
+        0 => String::new(),
+        count => format!("; {} pairs{}", count, pairs.concat()),
+    }
 }
 
 fn hex(bytes: &[u8]) -> String {
@@ -118,7 +134,13 @@ fn block_lines(text: &mut String, k: usize, visit: &Visit, host: &[u8]) {
 }
 
 fn target_words(block: &Block) -> String {
-    if block.logical() {
+    if block.command == 0x85 {
+        let pair = block.pair();
+        format!(
+            "bad {}/{} spare {}/{}",
+            pair.bad.cylinder, pair.bad.head, pair.spare.cylinder, pair.spare.head
+        )
+    } else if block.logical() {
         format!("number {}", block.logical_sector())
     } else {
         format!(

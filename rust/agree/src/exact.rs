@@ -2,9 +2,11 @@
 //! and memories. Each is run on both sides. What a case expects is the world it hands in with the
 //! changes that it names, so that every other byte has to stay.
 
-use crate::case::{record_bytes, Case, Inspection};
+mod spares;
+
+use crate::case::{record_bytes, Case, Inspection, RecordBytes, RECORD_LEN, TABLE_AT};
 use crate::sides::{model_side, Left, Opponent};
-use model::{Block, Geometry, Outcome, Part, Record, Volume};
+use model::{Block, Geometry, Outcome, Part, Record, Table, Volume};
 
 const UN: u8 = 0x80;
 const VO: u8 = 0x40;
@@ -13,9 +15,9 @@ const XL: u8 = 0x10;
 const DE: u8 = 0x04;
 const IE: u8 = 0x02;
 
-/// The error byte of each block answer from 10 on, as docs/ERROR-BYTES.md has them.
-const ERRORS: [u8; 11] = [
-    0x14, 0x40, 0x62, 0x51, 0x21, 0xff, 0x16, 0xff, 0xff, 0x62, 0x13,
+/// The error byte of each block answer from 10 on, as docs/ERROR-BYTES.md has them; 21 is no answer.
+const ERRORS: [u8; 14] = [
+    0x14, 0x40, 0x62, 0x51, 0x21, 0xff, 0x16, 0xff, 0xff, 0x62, 0x13, 0xff, 0xff, 0xff,
 ];
 
 const SMALL_UIB: [u8; 18] = [
@@ -31,10 +33,22 @@ const TABLE_11: [u8; 18] = [
 /// Where the marks of the small drive begin.
 const MARKS: usize = 7680;
 
-/// The record of the small drive with its heads on cylinder 0.
-const SMALL_RECORD: [u8; 16] = [
-    0x01, 0x01, 0x00, 0x10, 0x00, 0x0a, 0x00, 0x04, 0x00, 0x40, 0x00, 0x02, 0x02, 0x01, 0x00, 0x00,
-];
+/// The record of the small drive with its heads on cylinder 0, and no pairs.
+const SMALL_RECORD: RecordBytes = opening([
+    0x02, 0x01, 0x01, 0x14, 0x00, 0x0a, 0x00, 0x04, 0x00, 0x40, 0x00, 0x02, 0x02, 0x01, 0x00, 0x00,
+    0x00, 0x00, 0x00, 0x00,
+]);
+
+/// A record that opens with these bytes; what has room for pairs is 5A, which nobody reads.
+const fn opening(open: [u8; 20]) -> RecordBytes {
+    let mut bytes = [0x5a; RECORD_LEN];
+    let mut k = 0;
+    while k < 20 {
+        bytes[k] = open[k];
+        k += 1;
+    }
+    bytes
+}
 
 fn block(command: u8, options: u8) -> Block {
     let bytes = [0; 28];
@@ -88,7 +102,7 @@ fn small(host_len: usize) -> Case {
         host: vec![0xee; host_len],
         images: [image(120, 64), Vec::new()],
         events: vec![0xdd; 520],
-        records: [SMALL_RECORD, [0; 16]],
+        records: [SMALL_RECORD, [0; RECORD_LEN]],
         first: 0,
         allowance: 64,
         inspections: Vec::new(),
@@ -125,6 +139,11 @@ impl Left {
         put(&mut self.host, at + 2, &[status, error]);
         put(&mut self.events, 8 * (k - 1), &[status, error, 0, 0]);
         put(&mut self.events, 8 * (k - 1) + 4, &travel.to_be_bytes());
+    }
+
+    /// What an 87 with the small drive's UIB stores; the room for pairs is as it came.
+    fn initialized(&mut self, unit: usize) {
+        put(&mut self.records[unit], 0, &SMALL_RECORD[..TABLE_AT]);
     }
 
     /// Bytes of an image that stand in host memory afterwards.
@@ -224,6 +243,7 @@ pub fn run(opponent: Opponent) -> Sheet {
     sums_past_32_bits(&mut sheet);
     records(&mut sheet);
     inspections(&mut sheet);
+    spares::all(&mut sheet);
     sheet
 }
 
@@ -385,11 +405,11 @@ fn session(sheet: &mut Sheet) {
     };
     put(&mut case.host, 28, &read.bytes());
     put(&mut case.host, 56, &SMALL_UIB);
-    case.records[0] = [0; 16];
+    case.records[0] = [0; RECORD_LEN];
     let mut want = unchanged(&case, 0, 0, 2, 2);
     want.moved(0, 448, 100, 64);
     want.moved(0, 768, 164, 64);
-    want.records[0] = SMALL_RECORD;
+    want.initialized(0);
     want.records[0][15] = 1;
     want.ended(1, 0, 0x80, 0x00, 0);
     want.ended(2, 28, 0x80, 0x00, 1);
@@ -400,7 +420,7 @@ fn session(sheet: &mut Sheet) {
     case.images[0][MARKS + 12] = 0x40;
     let mut want = unchanged(&case, 4, 20, 2, 1);
     want.moved(0, 448, 100, 64);
-    want.records[0] = SMALL_RECORD;
+    want.initialized(0);
     want.records[0][15] = 1;
     want.ended(1, 0, 0x80, 0x00, 0);
     want.ended(2, 28, 0x82, 0x13, 1);
@@ -416,10 +436,11 @@ fn initialize(sheet: &mut Sheet) {
     let mut case = with_block(58, &asked);
     put(&mut case.host, 40, &TABLE_11);
     let mut want = unchanged(&case, 0, 0, 1, 0);
-    want.records[1] = [
-        0x01, 0x01, 0x00, 0x10, 0x02, 0x84, 0x00, 0x40, 0x02, 0x00, 0x00, 0x0a, 0x00, 0x00, 0x00,
-        0x00,
+    let open = [
+        0x02, 0x01, 0x01, 0x14, 0x02, 0x84, 0x00, 0x40, 0x02, 0x00, 0x00, 0x0a, 0x00, 0x00, 0x00,
+        0x00, 0x00, 0x00, 0x00, 0x00,
     ];
+    put(&mut want.records[1], 0, &open);
     want.ended(1, 0, 0x80, 0x00, 0);
     sheet.expect("Table 11", &case, &want);
     case.host.truncate(57);
@@ -449,11 +470,13 @@ fn initialize(sheet: &mut Sheet) {
         }
         let uib: [u8; 18] = case.host[40..58].try_into().expect("18 bytes");
         let mut want = unchanged(&case, 0, 0, 1, 0);
-        want.records[1] = record_bytes(&Record {
+        let record = record_bytes(&Record {
             initialized: true,
             geometry: Geometry::from_uib(&uib),
             cylinder: 0,
+            table: Table::NONE,
         });
+        put(&mut want.records[1], 0, &record[..TABLE_AT]);
         want.ended(1, 0, 0x80, 0x00, 0);
         sheet.expect(name, &case, &want);
     }
@@ -682,7 +705,7 @@ fn records(sheet: &mut Sheet) {
     outside[6] = 0x01;
     let mut far = SMALL_RECORD;
     far[15] = 10;
-    for record in [[0; 16], [0xff; 16], outside, far] {
+    for record in [[0; RECORD_LEN], [0xff; RECORD_LEN], outside, far] {
         let mut case = with_block(100, &block(0x89, 0));
         case.records[0] = record;
         sheet.refused("a record outside the limits: 11, and as it came", &case, 11);
@@ -697,7 +720,7 @@ fn records(sheet: &mut Sheet) {
         );
         put(&mut case.host, 40, &SMALL_UIB);
         let mut want = unchanged(&case, 0, 0, 1, 0);
-        want.records[0] = SMALL_RECORD;
+        want.initialized(0);
         want.ended(1, 0, 0x80, 0x00, 0);
         sheet.expect("unless an 87 succeeds", &case, &want);
     }
@@ -764,7 +787,7 @@ fn inspections(sheet: &mut Sheet) {
         &want,
     );
 
-    case.records[1] = [0; 16];
+    case.records[1] = [0; RECORD_LEN];
     case.inspections = vec![own(0, 12), own(1, 12)];
     let mut want = unchanged(&case, 2, 0, 0, 0);
     want.parts = vec![sector(0, 768), nothing];
@@ -790,6 +813,7 @@ fn inspections(sheet: &mut Sheet) {
         initialized: true,
         geometry: most,
         cylinder: 4095,
+        table: Table::NONE,
     });
     let lens = |len| Inspection {
         image_lens: Some([len, 0]),

@@ -5,7 +5,9 @@
 use std::fs::{File, OpenOptions};
 use std::os::fd::AsRawFd;
 use std::path::PathBuf;
-use vsmd3200::{inspect, run, BlockAnswer, Geometry, Outcome, Record, RunAnswer, Volume};
+use vsmd3200::{
+    inspect, run, BlockAnswer, Geometry, Outcome, Pair, Record, RunAnswer, Track, Volume,
+};
 
 /// Host memory that goes on after the last address.
 const HOST_LEN: usize = (1 << 32) + 65_536;
@@ -394,9 +396,61 @@ fn image_at_the_limits(report: &mut Report, image: &mut [u8]) {
     let seen = inspect(image, &[], &records, 0, SECTORS as u64).len();
     report.expect("inspection of one more", seen, 0);
 
+    spare_at_the_limits(report, image, &other);
+
     put_block(&mut host, 0, &transfer(0x81, DE, number, 1, DATA as u32));
     let short = &mut image[..IMAGE_LEN - 1];
     let got = run(&mut host, short, &mut [], &mut events, &mut records, 0, 1);
     let answer = came_to(Some(BlockAnswer::ImageShort), 1, 0);
     report.expect("an image one byte short", got, answer);
+}
+
+/// The first track is bad and the last one serves it. The last track has the same bytes in each of its
+/// sectors, of which the last is marked.
+fn spare_at_the_limits(report: &mut Report, image: &mut [u8], filled: &[u8]) {
+    let mut host = vec![0x33; DATA + 2 * B];
+    let mut events = [0; 512];
+    let mut records = [largest(), Record::UNINITIALIZED];
+    let mut go = |host: &mut [u8], image: &mut [u8], words: &Words, records: &mut [Record; 2]| {
+        put_block(host, 0, words);
+        let outcome = run(host, image, &mut [], &mut events, records, 0, 1);
+        (outcome, travel(&events))
+    };
+    // cylinder and head of the bad track, then cylinder of the spare, then its head
+    let remap = |count, head: u32| Words {
+        options: 0,
+        ..transfer(0x85, 0, 0, count, head << 24)
+    };
+    let outside = (came_to(Some(BlockAnswer::SectorOutside), 1, 0), 0);
+    for words in [remap(4096, 63), remap(4095, 64)] {
+        let got = go(&mut host, image, &words, &mut records);
+        report.expect("a spare past the last track", got, outside);
+    }
+    let got = go(&mut host, image, &remap(4095, 63), &mut records);
+    report.expect("the last track as a spare", got, (came_to(None, 1, 0), 0));
+    let pair = Pair {
+        bad: Track::default(),
+        spare: Track {
+            cylinder: 4095,
+            head: 63,
+        },
+    };
+    report.expect(
+        "its record",
+        Some(records[0]),
+        largest().with_pairs(&[pair]),
+    );
+
+    let read = transfer(0x81, 0, 253, 2, DATA as u32);
+    let got = go(&mut host, image, &read, &mut records);
+    let stopped = came_to(Some(BlockAnswer::Unreadable), 1, 1);
+    report.expect("a read of the first track", got, (stopped, 4095));
+    report.expect_bytes("what it moved", &host[DATA..DATA + B], filled);
+    report.expect_bytes("what it did not", &host[DATA + B..], &[0x33; B]);
+    let write = transfer(0x82, 0, 0, 1, (DATA + B) as u32);
+    let got = go(&mut host, image, &write, &mut records);
+    report.expect("a write to it", got, (came_to(None, 1, 1), 0));
+    let track = (SECTORS - 255) * B;
+    report.expect_bytes("where it went", &image[track..track + B], &[0x33; B]);
+    report.expect_bytes("where it did not", &image[..B], &[0; B]);
 }

@@ -25,6 +25,7 @@ use model::Fault;
 use sides::Opponent;
 use std::process::ExitCode;
 use std::time::Instant;
+use worlds::Theme;
 
 const USAGE: &str = "\
 agree [--worlds N] [--seed S] [--threads N] [--itself]   compare on generated worlds
@@ -32,9 +33,13 @@ agree --world I [--seed S] [--itself]                    one of these worlds, an
 agree --worlds N --seeded WORDS                          the same with one of these faults in the model
 agree --faults [--worlds N] [--seed S] [--itself]        faults seeded in the model: is each caught?
 agree --exact [--itself]                                 the paper's worked examples and the limits
+agree --tables N [--seed S] [--threads N] [--itself]     compare on worlds with bad tracks and spares
+agree --table I [--seed S] [--itself]                    one of these worlds, and show it
 agree --sessions N PROGRAM WORD..                        the session program on generated sessions
+agree --table-sessions N PROGRAM WORD..                  the same on sessions with bad tracks and spares
 agree --pairs N [--seed S] [--itself]                    N pairs of chains that demand 3 lets run in either order
 agree --pair I [--seed S] [--itself]                     one of these pairs, and show it
+agree --table-pairs N, agree --table-pair I              the same of pairs with bad tracks and spares
 --itself puts the model in the library's place.";
 
 /// Coverage is asked from so many worlds on.
@@ -54,6 +59,7 @@ fn asked() -> Option<Asked> {
     let threads = std::thread::available_parallelism().map_or(2, |n| n.get());
     let mut asked = Asked {
         crowd: Crowd {
+            theme: Theme::Plain,
             opponent: Opponent::Library,
             seed: 3200,
             worlds: 200_000,
@@ -81,7 +87,20 @@ fn asked() -> Option<Asked> {
             "--exact" => asked.exact = true,
             "--pairs" => asked.pairs = Some(number()?),
             "--pair" => asked.pair = Some(number()?),
-            "--sessions" => {
+            "--tables" | "--table" | "--table-pairs" | "--table-pair" => {
+                asked.crowd.theme = Theme::Tables;
+                let number = Some(number()?);
+                match word.as_str() {
+                    "--tables" => asked.crowd.worlds = number?,
+                    "--table" => asked.world = number,
+                    "--table-pairs" => asked.pairs = number,
+                    _ => asked.pair = number,
+                }
+            }
+            "--sessions" | "--table-sessions" => {
+                if word == "--table-sessions" {
+                    asked.crowd.theme = Theme::FreshTables;
+                }
                 let count = number()?;
                 asked.sessions = Some((count, words.by_ref().collect()));
             }
@@ -135,7 +154,7 @@ fn verdict(fine: bool) -> ExitCode {
 
 fn sessions(crowd: &Crowd, count: u64, command: &[String]) -> bool {
     let start = Instant::now();
-    let heard = sessions::play(command, crowd.seed, count, crowd.threads);
+    let heard = sessions::play(command, crowd.theme, crowd.seed, count, crowd.threads);
     if let Some((index, difference)) = &heard.differs {
         println!(
             "session {} of seed {} differs\n{}",
@@ -144,8 +163,9 @@ fn sessions(crowd: &Crowd, count: u64, command: &[String]) -> bool {
         return false;
     }
     println!(
-        "agree: {} sessions, {} lines, {} sessions refused, no difference, {:.1} s",
+        "agree: {} sessions{}, {} lines, {} sessions refused, no difference, {:.1} s",
         count,
+        with_tables(crowd),
         heard.lines,
         heard.refused,
         start.elapsed().as_secs_f64()
@@ -155,8 +175,9 @@ fn sessions(crowd: &Crowd, count: u64, command: &[String]) -> bool {
 
 /// One world, shown whether or not the two agree.
 fn show(crowd: &Crowd, index: u64) -> bool {
-    let lines = one_world(crowd, index, &mut Coverage::default());
-    print!("{}", dump::dump(&worlds::world(crowd.seed, index)));
+    let lines = one_world(crowd, index, &mut Coverage::new(crowd.theme));
+    let case = worlds::world(crowd.theme, crowd.seed, index);
+    print!("{}", dump::dump(&case));
     for line in &lines {
         println!("differs: {}", line);
     }
@@ -181,10 +202,17 @@ fn worlds(crowd: &Crowd) -> bool {
         for line in &found.lines {
             println!("  {}", line);
         }
-        print!("{}", dump::dump(&worlds::world(crowd.seed, found.index)));
+        let case = worlds::world(crowd.theme, crowd.seed, found.index);
+        print!("{}", dump::dump(&case));
         println!(
-            "agree: the library and the model differ; again with --seed {} --world {}",
-            crowd.seed, found.index
+            "agree: the library and the model differ; again with --seed {} --{} {}",
+            crowd.seed,
+            if crowd.theme.tables() {
+                "table"
+            } else {
+                "world"
+            },
+            found.index
         );
         return false;
     }
@@ -197,8 +225,9 @@ fn worlds(crowd: &Crowd) -> bool {
         }
     }
     println!(
-        "agree: {} worlds, {} blocks, no difference, {:.1} s{}",
+        "agree: {} worlds{}, {} blocks, no difference, {:.1} s{}",
         crowd.worlds,
+        with_tables(crowd),
         coverage.blocks(),
         start.elapsed().as_secs_f64(),
         match (asked, missing.is_empty()) {
@@ -210,18 +239,32 @@ fn worlds(crowd: &Crowd) -> bool {
     !asked || missing.is_empty()
 }
 
+fn with_tables(crowd: &Crowd) -> &'static str {
+    if crowd.theme.tables() {
+        " with tables"
+    } else {
+        ""
+    }
+}
+
 fn pairs(crowd: &Crowd, count: u64) -> bool {
     let start = Instant::now();
-    let tally = match pairs::run(crowd.opponent, crowd.seed, count) {
+    let tally = match pairs::run(crowd, count) {
         Ok(tally) => tally,
         Err(found) => {
-            print!("{}", pairs::dump(crowd.seed, found.index));
+            print!("{}", pairs::dump(crowd.theme, crowd.seed, found.index));
             for line in &found.lines {
                 println!("differs: {}", line);
             }
             println!(
-                "agree: the orders differ though the condition is met; again with --seed {} --pair {}",
-                crowd.seed, found.index
+                "agree: the orders differ though the condition is met; again with --seed {} --{} {}",
+                crowd.seed,
+                if crowd.theme.tables() {
+                    "table-pair"
+                } else {
+                    "pair"
+                },
+                found.index
             );
             return false;
         }
@@ -230,7 +273,7 @@ fn pairs(crowd: &Crowd, count: u64) -> bool {
     for line in &missing {
         println!("not covered: {}", line);
     }
-    let [met, broken] = tally.lines();
+    let [met, broken] = tally.lines(with_tables(crowd));
     println!("agree: {}", met);
     println!("agree: {}, {:.1} s", broken, start.elapsed().as_secs_f64());
     missing.is_empty()
@@ -238,8 +281,8 @@ fn pairs(crowd: &Crowd, count: u64) -> bool {
 
 /// One pair, shown whether or not its orders differ.
 fn show_pair(crowd: &Crowd, index: u64) -> bool {
-    let (meets, lines) = pairs::one_pair(crowd.opponent, crowd.seed, index);
-    print!("{}", pairs::dump(crowd.seed, index));
+    let (meets, lines) = pairs::one_pair(crowd, index);
+    print!("{}", pairs::dump(crowd.theme, crowd.seed, index));
     for line in &lines {
         println!("differs: {}", line);
     }

@@ -7,8 +7,8 @@ use crate::compare::bytes;
 use crate::crowd::{Crowd, Disagreement};
 use crate::dump;
 use crate::sides::{model_side, Opponent};
-use crate::worlds::pair;
-use model::{with_fault, Common, Fault, Outcome, Trace};
+use crate::worlds::{pair, Theme};
+use model::{with_fault, Common, Fault, Outcome, Trace, Visit};
 
 /// Two chains over one starting state, each followed alone by the model.
 struct Followed {
@@ -30,8 +30,8 @@ struct Ends {
 const ORDERS: [&str; 2] = ["0 before 1", "1 before 0"];
 
 impl Followed {
-    fn new(seed: u64, index: u64) -> Followed {
-        let cases = pair(seed, index);
+    fn new(theme: Theme, seed: u64, index: u64) -> Followed {
+        let cases = pair(theme, seed, index);
         let [(one, trace), (other, other_trace)] = [0, 1].map(|chain| model_side(&cases[chain]));
         Followed {
             cases,
@@ -126,6 +126,12 @@ impl Ends {
 /// would break the condition.
 type Feature = (&'static str, fn(&Followed) -> bool, u64);
 
+/// Whether a block of either chain is so.
+fn any_block(pair: &Followed, is: fn(&Visit) -> bool) -> bool {
+    let mut blocks = pair.traces.iter().flat_map(|trace| &trace.blocks);
+    blocks.any(is)
+}
+
 // The least numbers, here and below, are about a quarter of what was counted with the seeds 1 to 3.
 // No seed comes to so few by chance; pairs made in another way might, and would try less.
 const FEATURES: [Feature; 4] = [
@@ -151,6 +157,30 @@ const FEATURES: [Feature; 4] = [
     ),
 ];
 
+/// What it can be besides where there are tables.
+const TABLE_FEATURES: [Feature; 4] = [
+    (
+        "a landing on a spare",
+        |pair| any_block(pair, |visit| visit.landing.on_spare),
+        145,
+    ),
+    (
+        "a pair added",
+        |pair| any_block(pair, |visit| visit.command == 0x85 && visit.answer == 0),
+        65,
+    ),
+    (
+        "an 85 refused",
+        |pair| any_block(pair, |visit| visit.command == 0x85 && visit.answer != 0),
+        45,
+    ),
+    (
+        "the other's data over words 2 to 5 of an 85",
+        |pair| !pair.meets_with(Fault::RemapWordsWritten),
+        5,
+    ),
+];
+
 /// What a pair can break the condition by, and how many that differ there have to be for a
 /// thousand that meet it.
 const BREAKS: [(&str, u64); 4] = [
@@ -173,16 +203,31 @@ fn breaks(common: &Common) -> Option<usize> {
 /// The least numbers are asked from so many pairs on.
 const ASKED_FROM: u64 = 1_000;
 
-#[derive(Default)]
 pub struct Tally {
+    features: Vec<Feature>,
     met: u64,
-    features: [u64; FEATURES.len()],
+    /// How many have each of the features.
+    having: Vec<u64>,
     broken: [u64; BREAKS.len()],
     /// How many of these differ.
     differ: [u64; BREAKS.len()],
 }
 
 impl Tally {
+    fn new(theme: Theme) -> Tally {
+        let mut features = FEATURES.to_vec();
+        if theme.tables() {
+            features.extend(TABLE_FEATURES);
+        }
+        Tally {
+            having: vec![0; features.len()],
+            features,
+            met: 0,
+            broken: [0; BREAKS.len()],
+            differ: [0; BREAKS.len()],
+        }
+    }
+
     /// Counts a pair. What differs though the condition is met.
     fn add(&mut self, pair: &Followed, opponent: Opponent) -> Vec<String> {
         let lines = pair.differences(opponent);
@@ -192,15 +237,15 @@ impl Tally {
             return Vec::new();
         }
         self.met += 1;
-        for (count, (_, has, _)) in self.features.iter_mut().zip(FEATURES) {
+        for (count, (_, has, _)) in self.having.iter_mut().zip(&self.features) {
             *count += has(pair) as u64;
         }
         lines
     }
 
-    /// The counts, in two lines.
-    pub fn lines(&self) -> [String; 2] {
-        let features = FEATURES.iter().zip(self.features);
+    /// The counts, in two lines; the pairs are named with what they are about.
+    pub fn lines(&self, about: &str) -> [String; 2] {
+        let features = self.features.iter().zip(&self.having);
         let features: Vec<String> = features
             .map(|((name, _, _), count)| format!("{} with {}", count, name))
             .collect();
@@ -210,8 +255,9 @@ impl Tally {
             .collect();
         [
             format!(
-                "{} pairs meet the condition, no difference: {}",
+                "{} pairs{} meet the condition, no difference: {}",
                 self.met,
+                about,
                 features.join(", ")
             ),
             format!(
@@ -224,8 +270,8 @@ impl Tally {
 
     /// What occurred too seldom.
     pub fn missing(&self) -> Vec<String> {
-        let features = FEATURES.iter().zip(self.features);
-        let features = features.map(|((name, _, least), count)| ("with", name, count, least));
+        let features = self.features.iter().zip(&self.having);
+        let features = features.map(|((name, _, least), count)| ("with", name, *count, least));
         let breaks = BREAKS.iter().zip(self.differ);
         let breaks = breaks.map(|((name, least), count)| ("different by", name, count, least));
         let mut missing = Vec::new();
@@ -243,11 +289,12 @@ impl Tally {
 }
 
 /// Pairs, until so many of them meet the condition; or the first of those that differs.
-pub fn run(opponent: Opponent, seed: u64, pairs: u64) -> Result<Tally, Disagreement> {
-    let mut tally = Tally::default();
+pub fn run(crowd: &Crowd, pairs: u64) -> Result<Tally, Disagreement> {
+    let mut tally = Tally::new(crowd.theme);
     let mut index = 0;
     while tally.met < pairs {
-        let lines = tally.add(&Followed::new(seed, index), opponent);
+        let pair = Followed::new(crowd.theme, crowd.seed, index);
+        let lines = tally.add(&pair, crowd.opponent);
         if !lines.is_empty() {
             return Err(Disagreement { index, lines });
         }
@@ -257,16 +304,23 @@ pub fn run(opponent: Opponent, seed: u64, pairs: u64) -> Result<Tally, Disagreem
 }
 
 /// Whether a pair meets the condition, and what differs between the orders.
-pub fn one_pair(opponent: Opponent, seed: u64, index: u64) -> (bool, Vec<String>) {
-    let pair = Followed::new(seed, index);
-    (pair.meets(), pair.differences(opponent))
+pub fn one_pair(crowd: &Crowd, index: u64) -> (bool, Vec<String>) {
+    let pair = Followed::new(crowd.theme, crowd.seed, index);
+    (pair.meets(), pair.differences(crowd.opponent))
 }
 
-/// Whether a pair shows that footprints with a fault are wrong. Footprints that lack something let
+/// Whether one of the two pairs with an index, the one without tables and the one with them, shows
+/// that footprints with a fault are wrong.
+pub fn sees(crowd: &Crowd, fault: Fault, index: u64) -> bool {
+    let mut themes = [Theme::Plain, Theme::Tables].into_iter();
+    themes.any(|theme| sees_in(theme, crowd, fault, index))
+}
+
+/// Footprints that lack something let
 /// a pair through whose orders differ; footprints that have too much keep one out that the right
 /// ones let through.
-pub fn sees(crowd: &Crowd, fault: Fault, index: u64) -> bool {
-    let pair = Followed::new(crowd.seed, index);
+fn sees_in(theme: Theme, crowd: &Crowd, fault: Fault, index: u64) -> bool {
+    let pair = Followed::new(theme, crowd.seed, index);
     let through = pair.meets_with(fault);
     if pair.meets() {
         !through
@@ -276,8 +330,8 @@ pub fn sees(crowd: &Crowd, fault: Fault, index: u64) -> bool {
 }
 
 /// A pair that can be read: both chains as they go alone, and what they have in common.
-pub fn dump(seed: u64, index: u64) -> String {
-    let pair = Followed::new(seed, index);
+pub fn dump(theme: Theme, seed: u64, index: u64) -> String {
+    let pair = Followed::new(theme, seed, index);
     let [one, other] = [0, 1].map(|chain| dump::dump(&pair.cases[chain]));
     format!("chain 0: {}chain 1: {}{:?}\n", one, other, pair.common())
 }

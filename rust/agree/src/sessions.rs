@@ -2,7 +2,7 @@
 //! the fields, several worlds to a session, and some sessions end in a field that is refused.
 
 use crate::draw::Draw;
-use crate::worlds::world;
+use crate::worlds::{world, Theme};
 use std::io::Write;
 use std::process::{Command, Stdio};
 use std::sync::atomic::{AtomicU64, Ordering};
@@ -24,8 +24,8 @@ fn run(session: &mut Vec<u8>, first: u32, allowance: u32) {
 }
 
 /// The fields of one world; a field that cannot be said is left out, and what was there before stays.
-fn fields(session: &mut Vec<u8>, draw: &mut Draw, seed: u64, index: u64) {
-    let case = world(seed, index);
+fn fields(session: &mut Vec<u8>, draw: &mut Draw, theme: Theme, seed: u64, index: u64) {
+    let case = world(theme, seed, index);
     for (tag, bytes) in [(1, &case.host), (2, &case.images[0]), (3, &case.images[1])] {
         if bytes.len() <= MOST && !draw.one_in(12) {
             field(session, tag, bytes);
@@ -49,12 +49,17 @@ fn end(session: &mut Vec<u8>, draw: &mut Draw) {
     }
 }
 
-/// The session with an index.
-pub fn session(seed: u64, index: u64) -> Vec<u8> {
-    let mut draw = Draw::of(seed ^ 0x5e55_1011, index);
+/// The session with an index; with tables its stream is another.
+pub fn session(theme: Theme, seed: u64, index: u64) -> Vec<u8> {
+    let stream = if theme.tables() {
+        0x5e55_7ab1
+    } else {
+        0x5e55_1011
+    };
+    let mut draw = Draw::of(seed ^ stream, index);
     let mut session = Vec::new();
     for k in 0..draw.between(1, 4) {
-        fields(&mut session, &mut draw, seed, 4 * index + k);
+        fields(&mut session, &mut draw, theme, seed, 4 * index + k);
     }
     end(&mut session, &mut draw);
     session
@@ -89,10 +94,9 @@ pub struct Heard {
     pub differs: Option<(u64, String)>,
 }
 
-fn hear(heard: &Mutex<Heard>, command: &[String], seed: u64, index: u64) {
-    let input = session(seed, index);
-    let expected = model::session(&input);
-    let difference = match printed(command, &input) {
+fn hear(heard: &Mutex<Heard>, command: &[String], input: &[u8], index: u64) {
+    let expected = model::session(input);
+    let difference = match printed(command, input) {
         Ok(lines) if lines == expected => None,
         Ok(lines) => Some(format!(
             "expected:\n{}printed:\n{}",
@@ -117,7 +121,7 @@ fn hear(heard: &Mutex<Heard>, command: &[String], seed: u64, index: u64) {
 }
 
 /// So many sessions, over all threads.
-pub fn play(command: &[String], seed: u64, sessions: u64, threads: usize) -> Heard {
+pub fn play(command: &[String], theme: Theme, seed: u64, sessions: u64, threads: usize) -> Heard {
     let next = AtomicU64::new(0);
     let heard = Mutex::new(Heard::default());
     std::thread::scope(|scope| {
@@ -127,7 +131,7 @@ pub fn play(command: &[String], seed: u64, sessions: u64, threads: usize) -> Hea
                 if index >= sessions {
                     break;
                 }
-                hear(&heard, command, seed, index);
+                hear(&heard, command, &session(theme, seed, index), index);
             });
         }
     });

@@ -2,6 +2,7 @@
 //! the same buffers, in one process and turn by turn, so that both see the same machine.
 
 mod plain;
+mod tables;
 
 use plain::Drive;
 use std::hint::black_box;
@@ -50,10 +51,18 @@ struct World {
     times_each: usize,
 }
 
+/// The sectors that the blocks of a world go to: how many from the start of the drive, and which the
+/// first block has.
+#[derive(Clone, Copy)]
+struct Stretch {
+    sectors: usize,
+    first: usize,
+}
+
 impl World {
     /// Every byte is stored here once, so that no page is there in name only. After that nothing
     /// is cleared or flushed: a turn finds memory and caches as the turn before left them.
-    fn new(command: u8, count: u16, kind: Blocks) -> World {
+    fn new(command: u8, count: u16, kind: Blocks, stretch: Stretch) -> World {
         let calls = SECTORS_A_TURN / usize::from(count);
         let blocks = if kind == Blocks::One { 1 } else { calls };
         let filled = |len: usize, step: usize| (0..len).map(|k| (k * step) as u8).collect();
@@ -68,15 +77,15 @@ impl World {
         };
         world.image[DRIVE.marks_at()..].fill(0);
         for k in 0..blocks {
-            world.lay(k, command, count);
+            world.lay(k, command, count, stretch);
         }
         world
     }
 
     /// The k-th block. The steps are odd, so that no two blocks have the same data.
-    fn lay(&mut self, k: usize, command: u8, count: u16) {
+    fn lay(&mut self, k: usize, command: u8, count: u16, stretch: Stretch) {
         let len = usize::from(count);
-        let number = (k * 3001 * len + 40) % (DRIVE.sectors() - len);
+        let number = (k * 3001 * len + stretch.first) % (stretch.sectors - len);
         let slot = k * 29 % self.blocks;
         let data = DATA + slot * len * DRIVE.bytes_a_sector;
         let block = &mut self.host[BLOCK_STEP * k..BLOCK_STEP * (k + 1)];
@@ -106,7 +115,8 @@ fn record() -> Record {
 /// A way to do the block at an address. It answers with the sectors moved.
 type Way = fn(&mut World, usize) -> usize;
 
-fn library(world: &mut World, at: usize) -> usize {
+/// Runs a chain from the block at an address on, to its end.
+fn run(world: &mut World, at: usize, allowance: u32) -> usize {
     let outcome = vsmd3200::run(
         &mut world.host,
         &mut world.image,
@@ -114,11 +124,15 @@ fn library(world: &mut World, at: usize) -> usize {
         &mut world.events,
         &mut world.records,
         at as u32,
-        1,
+        allowance,
     );
     let ran = matches!(outcome.answer, RunAnswer::Done | RunAnswer::BlockFailed);
-    assert!(ran, "a block that is there");
+    assert!(ran && outcome.blocks == allowance, "blocks that are there");
     outcome.sectors as usize
+}
+
+fn library(world: &mut World, at: usize) -> usize {
+    run(world, at, 1)
 }
 
 fn by_sector(world: &mut World, at: usize) -> usize {
@@ -186,7 +200,11 @@ fn main() {
         for count in COUNTS {
             print!("{command:7x}{count:6}");
             for kind in [Blocks::One, Blocks::Many] {
-                let mut world = World::new(command, count, kind);
+                let whole = Stretch {
+                    sectors: DRIVE.sectors(),
+                    first: 40,
+                };
+                let mut world = World::new(command, count, kind, whole);
                 assert_alike(&world, false);
                 assert_alike(&world, true);
                 let [library, sector, track] = measure(&mut world, count);
@@ -199,4 +217,5 @@ fn main() {
             println!();
         }
     }
+    tables::tell();
 }

@@ -1,6 +1,7 @@
 //! The layouts in host memory: the block of 28 bytes and the element of a list.
 
 use crate::faults::{seeded, Fault};
+use crate::spares::{Pair, Track};
 
 pub const BLOCK_BYTES: usize = 28;
 pub const ELEMENT_BYTES: usize = 8;
@@ -184,6 +185,22 @@ impl Block {
     /// EC, read and not judged
     pub fn correction(&self) -> bool {
         self.options & 0x01 != 0
+    }
+
+    /// What an 85 names: "Words 2 and 3 name the bad track, words 4 and 5 the spare", each a cylinder in
+    /// one word and a head in the upper byte of the next.
+    pub fn pair(&self) -> Pair {
+        let word_5 = self.buffer_address / 65_536;
+        let spare_head = if seeded(Fault::SpareHeadMisplaced) {
+            // the lower byte of word 5
+            word_5 % 256
+        } else {
+            word_5 / 256
+        };
+        Pair {
+            bad: Track::new(self.cylinder, self.head),
+            spare: Track::new(self.sector_count, spare_head as u8),
+        }
     }
 
     /// "With XL set, words 2 and 3 are one 32-bit logical sector number in the volume."

@@ -165,6 +165,10 @@ impl Fetched {
         if self.block.command == 0x86 {
             written.push((Line::Identity, at + 4..at + 16));
         }
+        if self.block.command == 0x85 && seeded(Fault::RemapWordsWritten) {
+            // as if it reported the tracks that it was given
+            written.push((Line::Identity, at + 4..at + 12));
+        }
         if self.block.command == 0x8c && self.formatted() {
             let word_5 = at + 10;
             let end = if seeded(Fault::WordAfterFormatWords) {

@@ -4,6 +4,7 @@
 //! function divides by a number that can be zero.
 
 use crate::faults::{seeded, Fault};
+use crate::spares::{Table, Track};
 
 /// The heads of one volume: the first one and how many.
 #[derive(Clone, Copy, Debug, PartialEq, Eq)]
@@ -20,12 +21,14 @@ pub struct Geometry {
     pub volumes: [Volume; 2],
 }
 
-/// "A unit record holds whether the unit is initialized, its geometry and its cylinder."
+/// "A unit record holds whether the unit is initialized, its geometry and its cylinder", and since
+/// K5 a table of bad tracks and their spares.
 #[derive(Clone, Copy, Debug, PartialEq, Eq)]
 pub struct Record {
     pub initialized: bool,
     pub geometry: Geometry,
     pub cylinder: u16,
+    pub table: Table,
 }
 
 /// A sector of a volume by its parts; the head is counted from the volume's start head.
@@ -34,6 +37,21 @@ pub struct Address {
     pub cylinder: u64,
     pub head: u64,
     pub sector: u64,
+}
+
+/// Where a sector of a volume is found.
+#[derive(Clone, Copy, Debug, PartialEq, Eq)]
+pub struct Found {
+    /// The track that its address names.
+    pub named: Track,
+    /// The track that is worked on: the one named, or its spare.
+    pub track: Track,
+    /// Where the heads stand on that track.
+    pub cylinder: u64,
+    /// Its place in the image.
+    pub place: u64,
+    /// The place whose mark is its own.
+    pub marked: u64,
 }
 
 /// The length of a UIB, by the manual's Table 10.
@@ -241,6 +259,11 @@ impl Geometry {
     /// "The place in the image is ((cylinder × H) + start head + head) × S + sector." None
     /// outside the volume.
     pub fn place(&self, volume: u8, address: Address) -> Option<u64> {
+        self.drive_place(self.over_the_drive(volume, address)?)
+    }
+
+    /// The address with its head counted over the whole drive. None outside the volume.
+    pub fn over_the_drive(&self, volume: u8, address: Address) -> Option<Address> {
         if !self.in_volume(volume, address) {
             return None;
         }
@@ -250,7 +273,7 @@ impl Geometry {
         } else {
             self.volume(volume)?.start_head as u64
         };
-        self.drive_place(Address {
+        Some(Address {
             cylinder: address.cylinder,
             head: start_head + address.head,
             sector: address.sector,
@@ -273,7 +296,7 @@ impl Geometry {
 
 impl Record {
     /// "A record handed in with a geometry outside the limits, or a cylinder of C or more, counts
-    /// as not initialized".
+    /// as not initialized"; and so does one with a table that its drive cannot have.
     pub fn counts_as_initialized(&self) -> bool {
         let on_the_drive = if seeded(Fault::CylinderOfC) {
             // a bound off by one
@@ -281,6 +304,64 @@ impl Record {
         } else {
             self.cylinder < self.geometry.cylinders
         };
-        self.initialized && self.geometry.within_limits() && on_the_drive
+        self.initialized
+            && self.geometry.within_limits()
+            && on_the_drive
+            && self.table.good(&self.geometry)
+    }
+
+    /// "Every later command that lands on a bad track works on its spare". A spare may be named too,
+    /// and is then itself.
+    pub fn landed(&self, track: Track) -> Track {
+        self.table.spare_of(track).unwrap_or(track)
+    }
+
+    /// Where logical sector n of a volume is found; None when the volume has no such sector.
+    pub fn find(&self, volume: u8, n: u64) -> Option<Found> {
+        let address = self.geometry.address(volume, n)?;
+        let address = self.geometry.over_the_drive(volume, address)?;
+        let named = Track::new(address.cylinder as u16, address.head as u8);
+        let mut track = self.landed(named);
+        if seeded(Fault::SpareHeadInVolume) && track != named {
+            // as if the start head were still to be added
+            track.head = track
+                .head
+                .wrapping_add(self.geometry.volume(volume)?.start_head);
+        }
+        self.found(named, track, address.sector)
+    }
+
+    /// Where a sector of a track is found that is counted over the whole drive.
+    pub fn find_on_track(&self, named: Track, sector: u64) -> Option<Found> {
+        self.found(named, self.landed(named), sector)
+    }
+
+    /// Place, mark and heads go by the track that is worked on.
+    fn found(&self, named: Track, track: Track, sector: u64) -> Option<Found> {
+        let at = |track: Track| Address {
+            cylinder: track.cylinder as u64,
+            head: track.head as u64,
+            sector,
+        };
+        let place = self.geometry.drive_place(at(track))?;
+        let marked = if seeded(Fault::MarkOfTheBadTrack) {
+            // the marks of the sector that was named
+            self.geometry.drive_place(at(named))?
+        } else {
+            place
+        };
+        let stands_on = if seeded(Fault::HeadsOnTheBadTrack) {
+            // only the data come from elsewhere
+            named
+        } else {
+            track
+        };
+        Some(Found {
+            named,
+            track,
+            cylinder: stands_on.cylinder as u64,
+            place,
+            marked,
+        })
     }
 }

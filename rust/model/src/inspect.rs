@@ -2,6 +2,7 @@
 
 use crate::faults::{seeded, Fault};
 use crate::geometry::Record;
+use crate::spares::Track;
 
 /// A part of a unit's image.
 #[derive(Clone, Copy, Debug, PartialEq, Eq)]
@@ -18,7 +19,8 @@ const NOTHING: Part = Part {
     bytes: 0,
 };
 
-/// Which part of which image holds the sector at a place.
+/// Which part of which image holds the sector at a place. "The inspection call still goes by place
+/// in the image": no track gives way to its spare.
 pub fn inspect(records: &[Record; 2], image_lengths: [u64; 2], unit: u32, place: u64) -> Part {
     if unit > 1 {
         return NOTHING;
@@ -39,9 +41,24 @@ pub fn inspect(records: &[Record; 2], image_lengths: [u64; 2], unit: u32, place:
     if image_lengths[unit as usize] < record.geometry.need() {
         return NOTHING;
     }
+    let place = if seeded(Fault::InspectionMapped) {
+        // as a command would land
+        landed_place(&record, place)
+    } else {
+        place
+    };
     Part {
         unit: unit as u8,
         at: place * record.geometry.bytes_a_sector as u64,
         bytes: record.geometry.bytes_a_sector as u64,
     }
+}
+
+/// Where a command works that names the sector at a place, for the fault.
+fn landed_place(record: &Record, place: u64) -> u64 {
+    let s = record.geometry.sectors_a_track as u64;
+    let heads = record.geometry.drive_heads();
+    let track = Track::new((place / s / heads) as u16, (place / s % heads) as u8);
+    let found = record.find_on_track(track, place % s);
+    found.map_or(place, |found| found.place)
 }

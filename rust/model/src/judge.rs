@@ -1,24 +1,26 @@
-//! The checks 10 to 19 on a block that has been copied out. Nothing is stored here: a list and a
+//! The checks 10 to 19, 22 and 23 on a block that has been copied out. Nothing is stored here: a list and a
 //! UIB are read as they stand before the block's word 1 changes.
 
 use crate::answers::passed;
 use crate::block::{in_memory, odd, Block, Element, ELEMENT_BYTES};
 use crate::faults::{seeded, Fault};
-use crate::geometry::{Address, Geometry, UIB_BYTES};
+use crate::geometry::{Address, Geometry, Record, UIB_BYTES};
 use crate::run::World;
+use crate::spares::{Pair, Track};
 
-/// The commands that are included.
-pub const COMMANDS: [u8; 9] = [0x81, 0x82, 0x86, 0x87, 0x89, 0x8a, 0x8c, 0xa1, 0xa2];
+/// The commands that are included, that of paper 02 among them.
+pub const COMMANDS: [u8; 10] = [0x81, 0x82, 0x85, 0x86, 0x87, 0x89, 0x8a, 0x8c, 0xa1, 0xa2];
 
-// The column "Commands" of the table of block answers, a line each.
-const ASKED_11: [u8; 7] = [0x81, 0x82, 0x89, 0x8a, 0x8c, 0xa1, 0xa2];
+// The column "Commands" of the table of block answers, a line each; "for 85 the checks 11 and 16".
+const ASKED_11: [u8; 8] = [0x81, 0x82, 0x85, 0x89, 0x8a, 0x8c, 0xa1, 0xa2];
 const ASKED_12_AND_13: [u8; 1] = [0x87];
 const ASKED_14: [u8; 5] = [0x81, 0x82, 0x8a, 0xa1, 0xa2];
 const ASKED_15: [u8; 4] = [0x81, 0x82, 0xa1, 0xa2];
-const ASKED_16: [u8; 6] = [0x81, 0x82, 0x8a, 0x8c, 0xa1, 0xa2];
+const ASKED_16: [u8; 7] = [0x81, 0x82, 0x85, 0x8a, 0x8c, 0xa1, 0xa2];
 const ASKED_17: [u8; 5] = [0x81, 0x82, 0x8c, 0xa1, 0xa2];
 const ASKED_18: [u8; 2] = [0xa1, 0xa2];
 const ASKED_19: [u8; 5] = [0x81, 0x82, 0x8c, 0xa1, 0xa2];
+const ASKED_22_AND_23: [u8; 1] = [0x85];
 
 const MOST_ELEMENTS: u8 = 64;
 
@@ -29,20 +31,15 @@ pub(crate) struct Piece {
     pub bytes: u64,
 }
 
-/// Where a block aims: for 81, 82, 8A, A1 and A2 the logical number of the (first) sector; for
-/// all of them and 8C the cylinder.
-#[derive(Clone, Copy, Debug, PartialEq, Eq)]
-pub(crate) struct Target {
-    pub first: u64,
-    pub cylinder: u64,
-}
-
 /// What the checks have read and found, for a block that is accepted.
 #[derive(Clone, Debug, PartialEq, Eq)]
 pub(crate) struct Accepted {
     pub uib: Option<Geometry>,
-    pub target: Option<Target>,
+    /// For 81, 82, 8A, A1 and A2 the logical number of the (first) sector.
+    pub first: Option<u64>,
     pub pieces: Vec<Piece>,
+    /// For 85 what is added to the table.
+    pub pair: Option<Pair>,
 }
 
 /// The checks in order; the first that fails gives the answer.
@@ -53,11 +50,14 @@ pub(crate) fn judge(world: &World, block: &Block) -> Result<Accepted, u8> {
     let geometry = record.geometry;
     let mut accepted = Accepted {
         uib: None,
-        target: None,
+        first: None,
         pieces: Vec::new(),
+        pair: None,
     };
 
-    if !COMMANDS.contains(&command) {
+    // the fault is the board before 85 came
+    let left_out = seeded(Fault::RemapUnlisted) && command == 0x85;
+    if !COMMANDS.contains(&command) || left_out {
         return Err(10);
     }
     if ASKED_11.contains(&command) && !record.counts_as_initialized() {
@@ -83,11 +83,12 @@ pub(crate) fn judge(world: &World, block: &Block) -> Result<Accepted, u8> {
     if ASKED_15.contains(&command) && block.sector_count == 0 {
         return Err(15);
     }
+    // the fault looks into the table before it looks at the drive
+    if seeded(Fault::TakenBefore16) && command == 0x85 {
+        room_for(&record, &named_pair(&geometry, block))?;
+    }
     if ASKED_16.contains(&command) {
-        accepted.target = target(&geometry, block);
-        if accepted.target.is_none() {
-            return Err(16);
-        }
+        accepted.first = aimed_at(&record, block)?;
     }
     let need = if seeded(Fault::ImageOneByteShort) {
         // the mark of the last sector may be missing
@@ -95,33 +96,71 @@ pub(crate) fn judge(world: &World, block: &Block) -> Result<Accepted, u8> {
     } else {
         geometry.need()
     };
-    if ASKED_17.contains(&command) && (world.images[unit].len() as u64) < need {
+    // the fault asks it of 85 too
+    let asked_17 = ASKED_17.contains(&command) || seeded(Fault::RemapAsked17) && command == 0x85;
+    if asked_17 && (world.images[unit].len() as u64) < need {
         return Err(17);
     }
-    if ASKED_18.contains(&command) {
-        accepted.pieces = match read_list(&world.host, block, data_bytes(&geometry, block)) {
-            Some(pieces) => pieces,
-            None => return Err(18),
-        };
-    }
     if ASKED_19.contains(&command) {
-        if !ASKED_18.contains(&command) {
-            accepted.pieces = vec![Piece {
-                address: block.buffer_address,
-                bytes: data_bytes(&geometry, block),
-            }];
-        }
-        for piece in &accepted.pieces {
-            // the fault does not look whether the address is odd
-            if odd(piece.address) && !seeded(Fault::OddDataAddress) {
-                return Err(19);
-            }
-            if !in_memory(&world.host, piece.address as u64, piece.bytes) {
-                return Err(19);
-            }
-        }
+        accepted.pieces = pieces(&world.host, &geometry, block)?;
+    }
+    if ASKED_22_AND_23.contains(&command) {
+        let pair = named_pair(&geometry, block);
+        room_for(&record, &pair)?;
+        accepted.pair = Some(pair);
     }
     Ok(accepted)
+}
+
+/// Checks 18 and 19: the ranges of host memory that the data come from or go to. Only a list has
+/// several.
+fn pieces(host: &[u8], geometry: &Geometry, block: &Block) -> Result<Vec<Piece>, u8> {
+    let bytes = data_bytes(geometry, block);
+    let pieces = if ASKED_18.contains(&block.command) {
+        read_list(host, block, bytes).ok_or(18)?
+    } else {
+        vec![Piece {
+            address: block.buffer_address,
+            bytes,
+        }]
+    };
+    for piece in &pieces {
+        // the fault does not look whether the address is odd
+        if odd(piece.address) && !seeded(Fault::OddDataAddress) {
+            return Err(19);
+        }
+        if !in_memory(host, piece.address as u64, piece.bytes) {
+            return Err(19);
+        }
+    }
+    Ok(pieces)
+}
+
+/// The two tracks of an 85. They are "physical over the whole drive", so VO has no say.
+fn named_pair(geometry: &Geometry, block: &Block) -> Pair {
+    let mut pair = block.pair();
+    if seeded(Fault::RemapHeadsInVolume) {
+        // as the head of a transfer is counted
+        let start_head = geometry.volumes[block.volume() as usize].start_head;
+        pair.bad.head = pair.bad.head.wrapping_add(start_head);
+        pair.spare.head = pair.spare.head.wrapping_add(start_head);
+    }
+    pair
+}
+
+/// "then 22 if the tracks are equal or either is in the table already, then 23 if 32 pairs stand"
+fn room_for(record: &Record, pair: &Pair) -> Result<(), u8> {
+    if seeded(Fault::FullBeforeTaken) && record.table.full() {
+        // the other way round
+        return Err(23);
+    }
+    if record.table.taken(pair).is_some() {
+        return Err(22);
+    }
+    if record.table.full() {
+        return Err(23);
+    }
+    Ok(())
 }
 
 /// The UIB's bytes; None where its address is odd or it is not wholly in host memory.
@@ -147,61 +186,72 @@ pub(crate) fn data_bytes(geometry: &Geometry, block: &Block) -> u64 {
     }
 }
 
-/// Where the block aims; None where check 16 fails.
-fn target(geometry: &Geometry, block: &Block) -> Option<Target> {
-    match block.command {
-        0x8c => track(geometry, block),
-        // "8A: the one address only"
-        0x8a => first_sector(geometry, block),
+/// Check 16, which goes by the address that is named, whatever track serves it. The first sector's
+/// number, where the block names a sector.
+fn aimed_at(record: &Record, block: &Block) -> Result<Option<u64>, u8> {
+    let geometry = &record.geometry;
+    let pair = named_pair(geometry, block);
+    let named = Track::new(block.cylinder, block.head);
+    let (inside, first) = match block.command {
+        // "16 (either track)"
+        0x85 => (pair.bad.on(geometry) && pair.spare.on(geometry), None),
+        // "its head is counted over the whole drive, 0 to H − 1"
+        0x8c => (named.on(geometry) && !refused_spare(record, named), None),
         _ => {
-            let target = first_sector(geometry, block)?;
-            if seeded(Fault::FirstSectorAlone) {
-                // the last sector is not looked at
-                return Some(target);
-            }
-            // "Testing only the first sector of a transfer" is easy to get wrong; the count is
-            // not 0 here.
-            let last = target.first + block.sector_count as u64 - 1;
-            if last >= geometry.volume_sectors(block.volume()) {
-                return None;
-            }
-            Some(target)
+            let first = first_sector(record, block);
+            (first.is_some(), first)
         }
+    };
+    if inside {
+        Ok(first)
+    } else {
+        Err(16)
     }
 }
 
-/// The track of 8C: "its head is counted over the whole drive, 0 to H − 1".
-fn track(geometry: &Geometry, block: &Block) -> Option<Target> {
-    if block.cylinder >= geometry.cylinders || block.head as u64 >= geometry.drive_heads() {
+/// Whether a fault refuses a track for being a spare.
+fn refused_spare(record: &Record, named: Track) -> bool {
+    seeded(Fault::SpareRefused) && record.table.has_spare(named)
+}
+
+/// The number of the first sector; None where check 16 fails.
+fn first_sector(record: &Record, block: &Block) -> Option<u64> {
+    let geometry = &record.geometry;
+    let volume = block.volume();
+    let first = first_number(geometry, block)?;
+    // "8A: the one address only". "Testing only the first sector of a transfer" is easy to get
+    // wrong, and is the fault; the count of a transfer is not 0 here.
+    let one = block.command == 0x8a || seeded(Fault::FirstSectorAlone);
+    let count = if one { 1 } else { block.sector_count as u64 };
+    if first + count > geometry.volume_sectors(volume) {
         return None;
     }
-    Some(Target {
-        first: 0,
-        cylinder: block.cylinder as u64,
-    })
+    let found = record.find(volume, first)?;
+    if refused_spare(record, found.named) {
+        return None;
+    }
+    if seeded(Fault::SpareJudgedBy16) {
+        // the spare has to be in the volume too
+        let volume = geometry.volume(volume)?;
+        return volume.has_head(found.track.head as u64).then_some(first);
+    }
+    Some(first)
 }
 
-/// The first sector in the volume, logical or physical. A physical address is judged part by
-/// part: a head or a sector that is too large is not carried into the next part.
-fn first_sector(geometry: &Geometry, block: &Block) -> Option<Target> {
-    let volume = block.volume();
-    let first = if block.logical() {
-        block.logical_sector() as u64
-    } else {
-        geometry.logical(
-            volume,
-            Address {
-                cylinder: block.cylinder as u64,
-                head: block.head as u64,
-                sector: block.sector as u64,
-            },
-        )?
-    };
-    let address = geometry.address(volume, first)?;
-    Some(Target {
-        first,
-        cylinder: address.cylinder,
-    })
+/// The first sector's number, logical or physical. A physical address is judged part by part: a head
+/// or a sector that is too large is not carried into the next part.
+fn first_number(geometry: &Geometry, block: &Block) -> Option<u64> {
+    if block.logical() {
+        return Some(block.logical_sector() as u64);
+    }
+    geometry.logical(
+        block.volume(),
+        Address {
+            cylinder: block.cylinder as u64,
+            head: block.head as u64,
+            sector: block.sector as u64,
+        },
+    )
 }
 
 /// Whether a list is one that is read: "a list of 1 to 64 elements that lies at an even address

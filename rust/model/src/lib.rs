@@ -1,4 +1,4 @@
-//! A second reading of the board's rules, written from the paper alone.
+//! A second reading of the board's rules, written from the papers alone.
 //!
 //! The proved build says what it promises and is proved to keep it. Whether the promise is what
 //! the paper means is a question no proof answers. This crate says the same rules over again in
@@ -16,6 +16,7 @@ mod inspect;
 mod judge;
 mod run;
 mod session;
+mod spares;
 mod trace;
 
 pub use answers::{CHECKS, STOPS};
@@ -23,9 +24,10 @@ pub use block::{Block, Element, BLOCK_BYTES, ELEMENT_BYTES};
 pub use errors::{error_byte, ERROR_BYTES};
 pub use faults::{with_fault, Fault};
 pub use footprint::{Common, Footprint};
-pub use geometry::{Address, Geometry, Record, Volume, UIB_BYTES};
+pub use geometry::{Address, Found, Geometry, Record, Volume, UIB_BYTES};
 pub use inspect::{inspect, Part};
 pub use judge::COMMANDS;
 pub use run::{run, run_traced, Outcome, World, LEAST_EVENT_BYTES, MOST_ALLOWANCE};
 pub use session::session;
-pub use trace::{Trace, Visit};
+pub use spares::{Pair, Table, Taken, Track, MOST_PAIRS};
+pub use trace::{Landing, Trace, Visit};

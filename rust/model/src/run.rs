@@ -4,8 +4,9 @@ use crate::block::Block;
 use crate::errors::error_byte;
 use crate::faults::{seeded, Fault};
 use crate::footprint::Fetched;
-use crate::geometry::{Address, Geometry, Record};
+use crate::geometry::{Found, Geometry, Record};
 use crate::judge::{judge, Accepted, Piece};
+use crate::spares::{Table, Track};
 use crate::trace::{visit_after, visit_before, Past, Trace, Visit};
 
 /// Everything a run is handed and hands back.
@@ -98,6 +99,7 @@ fn run_chain(
 ) -> (Outcome, Trace) {
     let mut chain = Chain {
         past: Past::new(&world.host),
+        tables: [world.records[0].table, world.records[1].table],
         world,
     };
     let mut trace = Trace::default();
@@ -171,6 +173,8 @@ fn run_chain(
 struct Chain<'a> {
     world: &'a mut World,
     past: Past,
+    /// The tables at the start of the run, for a fault.
+    tables: [Table; 2],
 }
 
 impl Chain<'_> {
@@ -215,6 +219,7 @@ impl Chain<'_> {
 
     fn perform(&mut self, at: u32, block: &Block, accepted: &Accepted) -> Done {
         match block.command {
+            0x85 => self.remap(block, accepted),
             0x86 => self.handshake(at),
             0x87 => self.initialize(block, accepted),
             0x89 => self.move_heads(block, 0),
@@ -235,7 +240,59 @@ impl Chain<'_> {
         NOTHING_MOVED
     }
 
-    /// "87 replaces the unit record; the heads are at cylinder 0." Its travel is zero.
+    /// The unit as a block finds it: its geometry and the table by which it lands.
+    fn drive(&self, unit: usize) -> Record {
+        let mut drive = self.world.records[unit];
+        if seeded(Fault::TableAsAtStart) {
+            // pairs of this run are for the next
+            drive.table = self.tables[unit];
+        }
+        if seeded(Fault::TableOfUnit0) {
+            // one table for the board
+            drive.table = self.world.records[0].table;
+        }
+        drive
+    }
+
+    /// "85 moves neither data nor heads": it adds its pair to the table and that is all.
+    fn remap(&mut self, block: &Block, accepted: &Accepted) -> Done {
+        let unit = block.unit() as usize;
+        let Some(pair) = accepted.pair else {
+            return NOTHING_MOVED;
+        };
+        if seeded(Fault::RemapMovesData) {
+            // the spare is to hold what the bad track held
+            self.copy_track(unit, pair.bad, pair.spare);
+        }
+        self.world.records[unit].table.add(pair);
+        if seeded(Fault::RemapMovesHeads) {
+            // as if it went to see the spare
+            return self.move_heads(block, pair.spare.cylinder as u64);
+        }
+        NOTHING_MOVED
+    }
+
+    /// What a fault does: the sectors of one track stored on another.
+    fn copy_track(&mut self, unit: usize, from: Track, to: Track) {
+        let mut drive = self.world.records[unit];
+        drive.table = Table::NONE;
+        let bytes = drive.geometry.sectors_a_track as u64 * drive.geometry.bytes_a_sector as u64;
+        let first = |track| drive.find_on_track(track, 0).map(|found| found.place);
+        let (Some(from), Some(to)) = (first(from), first(to)) else {
+            return;
+        };
+        let b = drive.geometry.bytes_a_sector as u64;
+        for k in 0..bytes {
+            let image = &mut self.world.images[unit];
+            let byte = image.get((from * b + k) as usize).copied();
+            if let (Some(byte), Some(place)) = (byte, image.get_mut((to * b + k) as usize)) {
+                *place = byte;
+            }
+        }
+    }
+
+    /// "87 replaces the unit record; the heads are at cylinder 0", and it "clears the table". Its travel
+    /// is zero.
     fn initialize(&mut self, block: &Block, accepted: &Accepted) -> Done {
         let record = &mut self.world.records[block.unit() as usize];
         let old_cylinder = record.cylinder;
@@ -246,6 +303,12 @@ impl Chain<'_> {
                     initialized: true,
                     geometry,
                     cylinder: 0,
+                    table: if seeded(Fault::TableKept) {
+                        // the drive has its bad tracks still
+                        record.table
+                    } else {
+                        Table::NONE
+                    },
                 };
             }
         }
@@ -260,8 +323,14 @@ impl Chain<'_> {
     }
 
     fn seek(&mut self, block: &Block, accepted: &Accepted) -> Done {
-        match accepted.target {
-            Some(target) => self.move_heads(block, target.cylinder),
+        let mut drive = self.drive(block.unit() as usize);
+        if seeded(Fault::SeekNotMapped) {
+            // nothing is moved, so nothing has to be spared
+            drive.table = Table::NONE;
+        }
+        let first = accepted.first.unwrap_or(0);
+        match drive.find(block.volume(), first) {
+            Some(found) => self.move_heads(block, found.cylinder),
             None => NOTHING_MOVED,
         }
     }
@@ -278,26 +347,29 @@ impl Chain<'_> {
         }
     }
 
-    /// "8C takes B bytes and writes them to every sector of the named track." Once it has, the block
-    /// says how many those were.
+    /// "8C takes B bytes and writes them to every sector of the named track", or of its spare where
+    /// the track is a bad one. Once it has, the block says how many those were.
     fn format(&mut self, at: u32, block: &Block, accepted: &Accepted) -> Done {
         let unit = block.unit() as usize;
-        let geometry = self.world.records[unit].geometry;
+        let mut drive = self.drive(unit);
+        let geometry = drive.geometry;
+        if seeded(Fault::FormatNotMapped) {
+            // a format is of the track itself
+            drive.table = Table::NONE;
+        }
         if seeded(Fault::FormatReportsFirst) {
             // the words may lie under the data
             self.report_format(at, block);
         }
+        let named = Track::new(block.cylinder, block.head);
+        let mut cylinder = block.cylinder as u64;
         let mut sectors = 0;
         for sector in 0..geometry.sectors_a_track as u64 {
-            let address = Address {
-                cylinder: block.cylinder as u64,
-                head: block.head as u64,
-                sector,
-            };
-            let Some(place) = geometry.drive_place(address) else {
+            let Some(found) = drive.find_on_track(named, sector) else {
                 break;
             };
-            self.sector_from_host(unit, &geometry, place, &accepted.pieces, 0);
+            self.sector_from_host(unit, &geometry, found.place, &accepted.pieces, 0);
+            cylinder = found.cylinder;
             sectors += 1;
         }
         if !seeded(Fault::FormatReportsFirst) && !seeded(Fault::FormatReportsNothing) {
@@ -307,7 +379,7 @@ impl Chain<'_> {
             // one buffer, one sector
             sectors = 1;
         }
-        let heads = self.move_heads(block, block.cylinder as u64);
+        let heads = self.move_heads(block, cylinder);
         Done { sectors, ..heads }
     }
 
@@ -331,23 +403,23 @@ impl Chain<'_> {
     /// "81 and A1 copy sectors to host memory, through the elements joined in list order."
     fn read(&mut self, block: &Block, accepted: &Accepted) -> Done {
         let unit = block.unit() as usize;
-        let geometry = self.world.records[unit].geometry;
-        let Some(target) = accepted.target else {
+        let drive = self.drive(unit);
+        let geometry = drive.geometry;
+        let Some(first) = sector_of(&drive, block, accepted, 0) else {
             return NOTHING_MOVED;
         };
-        let mut tried_cylinder = target.cylinder;
+        let mut tried_cylinder = first.cylinder;
         let mut answer = 0;
         let mut sectors: u16 = 0;
         let mut moved_unreadable = false;
         while sectors < block.sector_count {
-            let n = target.first + sectors as u64;
-            let Some((cylinder, place)) = find(&geometry, block.volume(), n) else {
+            let Some(found) = sector_of(&drive, block, accepted, sectors as u64) else {
                 break;
             };
-            let unreadable = self.unreadable(unit, &geometry, place);
+            let unreadable = self.unreadable(unit, &geometry, found.marked);
             // "the sector that stopped a read counts as tried"; the fault stays on the one before
             if !(seeded(Fault::StoppedReadStaysBehind) && unreadable) {
-                tried_cylinder = cylinder;
+                tried_cylinder = found.cylinder;
             }
             if unreadable {
                 // the fault stops whatever the options say
@@ -357,7 +429,8 @@ impl Chain<'_> {
                 }
                 moved_unreadable = true;
             }
-            self.sector_to_host(unit, &geometry, place, &accepted.pieces, sectors as u64);
+            let k = sectors as u64;
+            self.sector_to_host(unit, &geometry, found.place, &accepted.pieces, k);
             sectors += 1;
         }
         let heads = self.move_heads(block, tried_cylinder);
@@ -373,19 +446,20 @@ impl Chain<'_> {
     /// "82 and A2 ignore marks."
     fn write(&mut self, block: &Block, accepted: &Accepted) -> Done {
         let unit = block.unit() as usize;
-        let geometry = self.world.records[unit].geometry;
-        let Some(target) = accepted.target else {
+        let drive = self.drive(unit);
+        let geometry = drive.geometry;
+        let Some(first) = sector_of(&drive, block, accepted, 0) else {
             return NOTHING_MOVED;
         };
-        let mut tried_cylinder = target.cylinder;
+        let mut tried_cylinder = first.cylinder;
         let mut sectors: u16 = 0;
         while sectors < block.sector_count {
-            let n = target.first + sectors as u64;
-            let Some((cylinder, place)) = find(&geometry, block.volume(), n) else {
+            let k = sectors as u64;
+            let Some(found) = sector_of(&drive, block, accepted, k) else {
                 break;
             };
-            tried_cylinder = cylinder;
-            self.sector_from_host(unit, &geometry, place, &accepted.pieces, sectors as u64);
+            tried_cylinder = found.cylinder;
+            self.sector_from_host(unit, &geometry, found.place, &accepted.pieces, k);
             sectors += 1;
         }
         let heads = self.move_heads(block, tried_cylinder);
@@ -507,10 +581,39 @@ fn joined(pieces: &[Piece], k: u64) -> Option<u64> {
     None
 }
 
-/// The cylinder and the place of a logical sector. Check 16 has seen to it that there is one, and check
-/// 17 that the image has its bytes and its mark.
-fn find(geometry: &Geometry, volume: u8, n: u64) -> Option<(u64, u64)> {
-    let address = geometry.address(volume, n)?;
-    let place = geometry.place(volume, address)?;
-    Some((address.cylinder, place))
+/// Where the k-th sector of a transfer is found, k from 0: each sector by itself. Check 16 has seen to
+/// it that there is one, and check 17 that the image has its bytes and its mark.
+fn sector_of(drive: &Record, block: &Block, accepted: &Accepted, k: u64) -> Option<Found> {
+    let first = accepted.first?;
+    let listed = matches!(block.command, 0xa1 | 0xa2);
+    let unmapped =
+        seeded(Fault::FirstSectorMappedAlone) && k > 0 || seeded(Fault::ListNotMapped) && listed;
+    if unmapped {
+        // the sector as if there were no table
+        let mut drive = *drive;
+        drive.table = Table::NONE;
+        return drive.find(block.volume(), first + k);
+    }
+    if seeded(Fault::SpanFollowsSpare) {
+        // mapped once, and then one place after the other
+        let found = drive.find(block.volume(), first)?;
+        if found.track != found.named {
+            return going_on(drive, found, k);
+        }
+    }
+    drive.find(block.volume(), first + k)
+}
+
+/// What a fault takes for the k-th sector: so many places on from the one where the first is found.
+fn going_on(drive: &Record, first: Found, k: u64) -> Option<Found> {
+    let geometry = &drive.geometry;
+    let place = first.place + k;
+    let a_cylinder = geometry.drive_heads() * geometry.sectors_a_track as u64;
+    let found = Found {
+        cylinder: place / a_cylinder,
+        place,
+        marked: place,
+        ..first
+    };
+    (place < geometry.drive_sectors()).then_some(found)
 }

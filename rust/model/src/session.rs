@@ -2,6 +2,7 @@
 
 use crate::geometry::{Geometry, Record, Volume};
 use crate::run::{run, World, LEAST_EVENT_BYTES};
+use crate::spares::Table;
 
 const MOST_FIELD_BYTES: usize = 16_384;
 
@@ -53,6 +54,7 @@ fn empty_world() -> World {
         initialized: false,
         geometry,
         cylinder: 0,
+        table: Table::NONE,
     };
     World {
         host: Vec::new(),

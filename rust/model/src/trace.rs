@@ -3,8 +3,10 @@
 
 use crate::block::{Block, BLOCK_BYTES};
 use crate::footprint::{Fetched, Footprint};
+use crate::geometry::{Found, Record};
 use crate::judge::{list_bytes, list_was_read, Accepted, Piece};
 use crate::run::{Done, World};
+use crate::spares::{Taken, Track};
 
 /// The blocks in the order they were run.
 #[derive(Clone, Debug, Default, PartialEq, Eq)]
@@ -28,7 +30,7 @@ pub struct Visit {
     pub unit: u8,
     pub command: u8,
     pub options: u8,
-    /// 0 if it ended 80, else its answer, 10 to 20.
+    /// 0 if it ended 80, else its answer, 10 and up.
     pub answer: u8,
     /// Sectors copied by this block.
     pub sectors: u16,
@@ -60,6 +62,37 @@ pub struct Visit {
     pub overwritten: bool,
     /// The bytes fetched, word 1 left aside, were not those at the start of the run.
     pub overwritten_with_other_bytes: bool,
+    /// 85, refused by 22: what there was against its tracks.
+    pub taken: Option<Taken>,
+    /// What the table of the unit had to do with it.
+    pub landing: Landing,
+}
+
+/// How an accepted 81, 82, 8A, 8C, A1 or A2 landed, over the sectors that it tried.
+#[derive(Clone, Copy, Debug, Default, PartialEq, Eq)]
+pub struct Landing {
+    /// The pairs that stood.
+    pub pairs: u16,
+    /// A sector of a bad track was tried on its spare.
+    pub on_spare: bool,
+    /// The greatest index of a pair by which one was.
+    pub by_pair: Option<usize>,
+    /// And another sector, before or after it, was not on a bad track.
+    pub in_part: bool,
+    /// Such a spare belongs to the other volume.
+    pub in_other_volume: bool,
+    /// Such a spare belongs to no volume.
+    pub in_no_volume: bool,
+    /// A bad track and its own spare were both named.
+    pub with_its_spare: bool,
+    /// A sector of a spare was named directly.
+    pub spare_named: bool,
+    /// The heads ended on another cylinder than that of the track that was named last.
+    pub heads_elsewhere: bool,
+    /// A read moved a sector whose own place, on the bad track, is marked unreadable.
+    pub bad_mark_passed: bool,
+    /// A read stopped at a mark of a spare.
+    pub stopped_on_spare: bool,
 }
 
 /// What earlier blocks have done to host memory: the bytes at the start of the run, and which
@@ -195,7 +228,19 @@ pub(crate) fn visit_before(
         elements_overlap: two_share(pieces),
         overwritten: past.overwritten(at),
         overwritten_with_other_bytes: past.overwritten_with_other_bytes(&world.host, at),
+        taken: taken(&world.records[block.unit() as usize], block, answer),
+        landing: Landing {
+            pairs: world.records[block.unit() as usize].table.count(),
+            ..Landing::default()
+        },
     }
+}
+
+fn taken(record: &Record, block: &Block, answer: u8) -> Option<Taken> {
+    if answer != 22 {
+        return None;
+    }
+    record.table.taken(&block.pair())
 }
 
 /// The visit with what is known once an accepted block has ended.
@@ -208,11 +253,10 @@ pub(crate) fn visit_after(
 ) -> Visit {
     let reads = matches!(block.command, 0x81 | 0xa1);
     let transfer = matches!(block.command, 0x81 | 0x82 | 0xa1 | 0xa2);
-    let first_cylinder = match accepted.target {
-        Some(target) => target.cylinder,
-        None => 0,
-    };
-    let b = world.records[block.unit() as usize].geometry.bytes_a_sector as u64;
+    let record = &world.records[block.unit() as usize];
+    let first = accepted.first.and_then(|n| record.find(block.volume(), n));
+    let first_cylinder = first.map_or(0, |found| found.cylinder);
+    let b = record.geometry.bytes_a_sector as u64;
     let moved = if reads { done.sectors as u64 * b } else { 0 };
     let stored = filled(&accepted.pieces, moved);
     let list = block.buffer_address as u64;
@@ -227,6 +271,82 @@ pub(crate) fn visit_after(
         moved_unreadable: done.moved_unreadable,
         stored_over_own_status: any_shares(&stored, before.at as u64 + 2, 2),
         stored_over_own_list: block.command == 0xa1 && any_shares(&stored, list, list_bytes(block)),
+        landing: landing(before.landing, world, block, accepted, done),
         ..before
     }
+}
+
+/// The sectors that a block tried, in their order; no command that names a sector or a track changes
+/// the table, so they are found as they were then.
+fn tried(record: &Record, block: &Block, accepted: &Accepted, done: &Done) -> Vec<Found> {
+    let stopped = (done.answer == 20) as u64;
+    let number = |k| record.find(block.volume(), accepted.first.unwrap_or(0) + k);
+    let named = Track::new(block.cylinder, block.head);
+    match block.command {
+        0x81 | 0x82 | 0xa1 | 0xa2 => (0..done.sectors as u64 + stopped)
+            .filter_map(number)
+            .collect(),
+        0x8a => number(0).into_iter().collect(),
+        0x8c => record.find_on_track(named, 0).into_iter().collect(),
+        _ => Vec::new(),
+    }
+}
+
+fn landing(
+    before: Landing,
+    world: &World,
+    block: &Block,
+    accepted: &Accepted,
+    done: &Done,
+) -> Landing {
+    let unit = block.unit() as usize;
+    let record = &world.records[unit];
+    if record.table.count() == 0 {
+        return before;
+    }
+    let tried = tried(record, block, accepted, done);
+    let spared: Vec<&Found> = tried.iter().filter(|f| f.track != f.named).collect();
+    let pairs = record.table.pairs();
+    let by = |found: &&Found| pairs.iter().position(|pair| pair.bad == found.named);
+    let reads = matches!(block.command, 0x81 | 0xa1);
+    let stopped = done.answer == 20;
+    let moved = &tried[..tried.len().min(done.sectors as usize)];
+    Landing {
+        on_spare: !spared.is_empty(),
+        by_pair: spared.iter().filter_map(by).max(),
+        in_part: !spared.is_empty() && spared.len() < tried.len(),
+        in_other_volume: spared.iter().any(|found| {
+            let spare = volume_of(record, found.track);
+            spare.is_some() && spare != volume_of(record, found.named)
+        }),
+        in_no_volume: spared.iter().any(|f| volume_of(record, f.track).is_none()),
+        with_its_spare: spared
+            .iter()
+            .any(|found| tried.iter().any(|other| other.named == found.track)),
+        spare_named: tried.iter().any(|f| record.table.has_spare(f.named)),
+        heads_elsewhere: tried.last().is_some_and(|last| {
+            last.track != last.named && last.track.cylinder != last.named.cylinder
+        }),
+        bad_mark_passed: reads && moved.iter().any(|found| passed_mark(world, unit, found)),
+        stopped_on_spare: stopped && tried.last().is_some_and(|last| last.track != last.named),
+        ..before
+    }
+}
+
+/// The volume that a track belongs to, if it belongs to one.
+fn volume_of(record: &Record, track: Track) -> Option<usize> {
+    let mut volumes = record.geometry.volumes.iter();
+    volumes.position(|volume| volume.has_head(track.head as u64))
+}
+
+/// Whether the sector that was named is marked, where another was moved that is not.
+fn passed_mark(world: &World, unit: usize, found: &Found) -> bool {
+    let geometry = &world.records[unit].geometry;
+    let s = geometry.sectors_a_track as u64;
+    let named = found.named.cylinder as u64 * geometry.drive_heads() + found.named.head as u64;
+    let marked = |place: u64| {
+        let at = (geometry.marks_at() + place) as usize;
+        world.images[unit].get(at).is_some_and(|mark| *mark != 0)
+    };
+    found.track != found.named && marked(named * s + found.place % s) && !marked(found.marked)
 }

@@ -56,6 +56,7 @@ fn record(draw: &mut Draw) -> Record {
                 ],
             },
             cylinder: word(10),
+            table: any_table(draw, 0),
         };
     }
     let mut record = Record {
@@ -66,7 +67,52 @@ fn record(draw: &mut Draw) -> Record {
     if draw.one_in(6) {
         record.geometry.volumes[1].heads = 0;
     }
+    match draw.below(16) {
+        0 => record.table = any_table(draw, 1),
+        1 => {
+            record.geometry.cylinders = 40;
+            record.table = Table::saying(32, far_pair);
+        }
+        2..=8 => record.table = few_pairs(draw),
+        _ => {}
+    }
     record
+}
+
+/// Tracks anywhere, or mostly near the small drive.
+fn any_table(draw: &mut Draw, near: u64) -> Table {
+    let bytes = draw.bytes(256);
+    let count = draw.below(40) as u16;
+    let track = |k: usize| Track {
+        cylinder: (bytes[k] as u64 % (11 + 4000 * (1 - near))) as u16,
+        head: bytes[k + 1] % if near == 1 { 4 } else { 255 },
+        last: (bytes[k + 2] == 0) as u8,
+    };
+    Table::saying(count, |k| Pair {
+        bad: track(8 * k),
+        spare: track(8 * k + 4),
+    })
+}
+
+/// Pairs of a longer drive, all of them behind the cylinders that the blocks name.
+fn far_pair(k: usize) -> Pair {
+    let track = |k: usize| Track::new(18 + (k / 3) as u16, (k % 3) as u8);
+    Pair {
+        bad: track(2 * k),
+        spare: track(2 * k + 1),
+    }
+}
+
+/// A few pairs that the small drive can have.
+fn few_pairs(draw: &mut Draw) -> Table {
+    let mut tracks: Vec<Track> = (0..30).map(|k| Track::new(k / 3, (k % 3) as u8)).collect();
+    for k in 0..30 {
+        tracks.swap(k, draw.below(30) as usize);
+    }
+    Table::saying(draw.below(16) as u16, |k| Pair {
+        bad: tracks[2 * k],
+        spare: tracks[2 * k + 1],
+    })
 }
 
 fn any_world(draw: &mut Draw) -> World {
@@ -79,7 +125,7 @@ fn any_world(draw: &mut Draw) -> World {
     let mut at = 0;
     while at + 28 <= host.len() && !draw.one_in(8) {
         let mut b = Block {
-            command: COMMANDS[draw.below(9) as usize],
+            command: COMMANDS[draw.below(10) as usize],
             options: draw.below(256) as u8,
             cylinder: if draw.one_in(2) {
                 0
@@ -102,6 +148,9 @@ fn any_world(draw: &mut Draw) -> World {
             b.cylinder = 0;
             b.head = 0;
             b.sector = draw.below(if b.volume() == 0 { 82 } else { 41 }) as u8;
+        }
+        if b.command == 0x85 && !draw.one_in(4) {
+            b.buffer_address = draw.below(4) as u32 * 0x100_0000;
         }
         if draw.one_in(20) {
             b.command = draw.below(256) as u8;
@@ -214,8 +263,12 @@ fn local(before: &World, after: &World, outcome: &Outcome, trace: &Trace, first:
     assert_eq!(left, *after);
 }
 
-fn traps(visit: &Visit) -> [bool; 5] {
+fn traps(visit: &Visit) -> [bool; 9] {
     [
+        visit.landing.on_spare,
+        visit.landing.in_part,
+        visit.landing.spare_named,
+        visit.landing.heads_elsewhere,
         visit.crossed_cylinder,
         visit.on_volume_1,
         visit.stored_over_own_status,
@@ -229,7 +282,7 @@ fn any_world_at_all() {
     let mut draw = Draw(0x2545_f491_4f6c_dd1d);
     let mut answers = [0u32; 7];
     let mut failed = [0u32; 256];
-    let mut met = [0u32; 5];
+    let mut met = [0u32; 9];
     for _ in 0..5_000 {
         let mut w = any_world(&mut draw);
         let first = if draw.one_in(12) {

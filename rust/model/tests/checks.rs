@@ -161,7 +161,7 @@ fn allowance_of_64_fills_the_events() {
 }
 
 #[test]
-fn only_the_nine_commands_are_listed() {
+fn only_the_ten_commands_are_listed() {
     for command in 0..=255 {
         let mut w = world(100);
         w.records[0] = unready();
@@ -175,7 +175,7 @@ fn only_the_nine_commands_are_listed() {
         match command {
             0x86 => assert_eq!(one(&mut w, &b), 0),
             0x87 => refusal(&mut w, &b, 12),
-            0x81 | 0x82 | 0x89 | 0x8a | 0x8c | 0xa1 | 0xa2 => refusal(&mut w, &b, 11),
+            0x81 | 0x82 | 0x85 | 0x89 | 0x8a | 0x8c | 0xa1 | 0xa2 => refusal(&mut w, &b, 11),
             _ => refusal(&mut w, &b, 10),
         }
     }
@@ -428,6 +428,7 @@ fn error_bytes() {
     }
     assert_eq!(error_byte(0), 0x00);
     assert_eq!(error_byte(21), 0xff);
+    assert_eq!((error_byte(22), error_byte(23)), (0xff, 0xff));
 }
 
 #[test]

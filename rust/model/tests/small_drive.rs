@@ -235,7 +235,8 @@ fn table_11() {
         Record {
             initialized: true,
             geometry: g,
-            cylinder: 0
+            cylinder: 0,
+            table: Table::NONE
         }
     );
     assert_eq!(travel(&w, 1), 0);

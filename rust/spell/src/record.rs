@@ -11,6 +11,9 @@ pub const UNIT_OPTION: u8 = 0x80;
 pub const LINK_OPTION: u8 = 0x20;
 const LOGICAL_OPTION: u8 = 0x10;
 
+/// The command whose block names a bad track and its spare.
+const REMAP: u8 = 0x85;
+
 /// The options, bit 7 down.
 const OPTION_NAMES: [&str; 8] = ["UN", "VO", "LK", "XL", "RV", "DE", "IE", "EC"];
 
@@ -76,6 +79,14 @@ const PHYSICAL_ADDRESS: [Part; 3] = [
     decimal("sector", 7, 1),
 ];
 
+/// Words 4 to 6 of an 85: the spare, and what nobody looks at.
+const SPARE: [Part; 4] = [
+    decimal("spare-cylinder", 8, 2),
+    decimal("spare-head", 10, 1),
+    decimal("spare-sector", 11, 1),
+    hex("fill", 12, 2),
+];
+
 const BLOCK_TAIL: [Part; 11] = [
     hex("type", 14, 1),
     hex("modifier", 15, 1),
@@ -108,16 +119,22 @@ const UIB_PARTS: [Part; 14] = [
 ];
 
 /// The parts of a block, in byte order: XL decides how words 2 and 3 are
-/// named, the command what words 5 and 6 are the address of.
+/// named, the command what words 5 and 6 are the address of. An 85 names two
+/// tracks, whatever XL says.
 fn block_parts(command: u8, options: u8) -> Vec<Part> {
     let mut parts = BLOCK_HEAD.to_vec();
-    if options & LOGICAL_OPTION != 0 {
-        parts.extend(LOGICAL_ADDRESS);
-    } else {
+    if command == REMAP {
         parts.extend(PHYSICAL_ADDRESS);
+        parts.extend(SPARE);
+    } else {
+        if options & LOGICAL_OPTION != 0 {
+            parts.extend(LOGICAL_ADDRESS);
+        } else {
+            parts.extend(PHYSICAL_ADDRESS);
+        }
+        parts.push(decimal("count", 8, 2));
+        parts.push(hex(buffer_name(command), 10, 4));
     }
-    parts.push(decimal("count", 8, 2));
-    parts.push(hex(buffer_name(command), 10, 4));
     parts.extend(BLOCK_TAIL);
     parts
 }

@@ -34,6 +34,21 @@ fn physical_addresses_have_three_names() {
     assert_eq!(file[13..17], [10, 11, 12, 13]);
 }
 
+/// XL or not: both tracks of an 85 are physical.
+#[test]
+fn an_85_names_two_tracks() {
+    for options in ["XL", "VO"] {
+        let text = format!(
+            "host 28\n  block 0x0000 command 85 options {options} cylinder 258 head 3 sector 4 \
+             spare-cylinder 1286 spare-head 7 spare-sector 8 fill 0x090A\nrun 0x0000 1"
+        );
+        assert_eq!(bytes(&text)[7..17], [1, 2, 3, 4, 5, 6, 7, 8, 9, 10]);
+        assert_eq!(check(&text), Ok(None));
+    }
+    assert!(error("host 28\nblock 0 command 85 count 2").starts_with("line 2: expected one of"));
+    assert!(error("host 28\nblock 0 command 81 fill 2").starts_with("line 2: expected one of"));
+}
+
 #[test]
 fn the_buffer_is_named_by_the_command() {
     for (command, name) in [

@@ -25,7 +25,7 @@ pub enum RunAnswer {
 #[derive(Clone, Copy, Debug, PartialEq, Eq, Hash)]
 #[repr(u8)]
 pub enum BlockAnswer {
-    /// The command is not one of the nine.
+    /// The command is not one of the ten.
     CommandUnknown = 10,
     /// The unit is not initialized, or its record counts as if it were not.
     NotInitialized = 11,
@@ -37,7 +37,7 @@ pub enum BlockAnswer {
     VolumeAbsent = 14,
     /// The sector count is 0.
     CountZero = 15,
-    /// The first sector or the last is outside the volume, or the track outside the drive.
+    /// The first sector or the last is outside the volume, or a track outside the drive.
     SectorOutside = 16,
     /// The image is shorter than the geometry needs.
     ImageShort = 17,
@@ -47,6 +47,10 @@ pub enum BlockAnswer {
     DataMisplaced = 19,
     /// A sector is unreadable; the sectors before it were moved.
     Unreadable = 20,
+    /// The bad track and the spare are one, or one of them is in the table already.
+    TracksTaken = 22,
+    /// The table has 32 pairs.
+    TableFull = 23,
 }
 
 impl RunAnswer {
@@ -74,7 +78,7 @@ impl RunAnswer {
 
 impl BlockAnswer {
     /// All of them, by number.
-    pub const ALL: [BlockAnswer; 11] = [
+    pub const ALL: [BlockAnswer; 13] = [
         BlockAnswer::CommandUnknown,
         BlockAnswer::NotInitialized,
         BlockAnswer::UibMisplaced,
@@ -86,12 +90,20 @@ impl BlockAnswer {
         BlockAnswer::ListBad,
         BlockAnswer::DataMisplaced,
         BlockAnswer::Unreadable,
+        BlockAnswer::TracksTaken,
+        BlockAnswer::TableFull,
     ];
 
-    /// The answer with a number, 10 to 20.
+    /// The answer with a number, 10 to 20, 22 or 23.
     pub fn from_number(number: u8) -> Option<BlockAnswer> {
-        let index = number.checked_sub(BlockAnswer::CommandUnknown.number())?;
-        BlockAnswer::ALL.get(usize::from(index)).copied()
+        let mut all = BlockAnswer::ALL.into_iter();
+        all.find(|answer| answer.number() == number)
+    }
+
+    /// Whether the block was refused before transfer, which 10 to 19, 22 and 23 say: it changed nothing
+    /// but its own status word and its event entry.
+    pub const fn before_transfer(self) -> bool {
+        !matches!(self, BlockAnswer::Unreadable)
     }
 
     /// The answer's number.

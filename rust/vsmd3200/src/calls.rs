@@ -75,8 +75,9 @@ fn assert_layouts() {
 ///
 /// `image0`, `image1` and `records` are the two units' images and records. The k-th block run
 /// leaves its entry in the 8 bytes of `events` from 8(k − 1) on. What the blocks wrote stands
-/// in host memory and the images afterwards; a record is another where a block changed it. With
-/// the answers 1, 2 and 3 nothing is changed.
+/// in host memory and the images afterwards; a record is another where a block changed it (an
+/// initialize, heads that stand elsewhere, a pair more in its table). With the answers 1, 2 and 3
+/// nothing is changed.
 ///
 /// # Panics
 ///
@@ -127,7 +128,8 @@ pub fn run(
 
 /// Which part of which image the sector at a place of a unit is, for images of these lengths.
 ///
-/// The place counts sectors from the start of the image. Where there is no such sector (unit over
+/// The place counts sectors from the start of the image; no table has a say in it, so a bad track and
+/// its spare are each seen where they stand. Where there is no such sector (unit over
 /// 1, unit not initialized, place too large, image too short) it is a part of length 0 at the
 /// start of unit 0's image.
 ///

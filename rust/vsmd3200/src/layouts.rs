@@ -1,22 +1,39 @@
-//! The layouts in which records and outcomes cross, version 1: bytes, numbers big-endian.
+//! The layouts in which records and outcomes cross, version 2: bytes, numbers big-endian.
 
 use crate::answers::{BlockAnswer, RunAnswer};
 
 /// The version of the layouts that this crate was written for.
-pub const LAYOUT_VERSION: u32 = 1;
+pub const LAYOUT_VERSION: u32 = 2;
 
 /// The bytes of a record.
-pub const RECORD_LEN: usize = 16;
+pub const RECORD_LEN: usize = 276;
+
+/// The bytes that a record had in version 1 of the layouts, which [`Record::upgrade`] takes.
+pub const RECORD_LEN_V1: usize = 16;
 
 /// The bytes of an outcome.
 pub const OUTCOME_LEN: usize = 16;
 
+/// The most pairs that the table of a record has.
+pub const PAIRS_MOST: usize = 32;
+
 /// The four bytes with which the record of an initialized unit opens: version, flag, and the
 /// length in two bytes. With any other four a record counts as not initialized.
-const OPENING: [u8; 4] = [LAYOUT_VERSION as u8, 0x01, 0x00, RECORD_LEN as u8];
+const OPENING: [u8; 4] = [LAYOUT_VERSION as u8, 0x01, 0x01, 0x14];
+
+/// The same of version 1.
+const OPENING_V1: [u8; 4] = [0x01, 0x01, 0x00, 0x10];
 
 /// The four bytes with which an outcome opens: version, 00, and the length in two bytes.
 const OUTCOME_OPENING: [u8; 4] = [LAYOUT_VERSION as u8, 0x00, 0x00, OUTCOME_LEN as u8];
+
+/// Where the parts of a record stand.
+const AT_ORDER: usize = 16;
+const AT_HOLDER: usize = 17;
+const AT_PAIRS: usize = 18;
+const AT_TABLE: usize = 20;
+const PAIR_LEN: usize = 8;
+const TRACK_LEN: usize = 4;
 
 /// The heads of a volume: the first one, and how many. Volume 1 is absent when it has none.
 #[derive(Clone, Copy, Debug, Default, PartialEq, Eq, Hash)]
@@ -41,11 +58,30 @@ pub struct Geometry {
     pub volumes: [Volume; 2],
 }
 
-/// A unit record, kept as the 16 bytes of its layout.
+/// A track: a cylinder, and a head counted over the whole drive. Any numbers can stand in one; the
+/// library judges them.
+#[derive(Clone, Copy, Debug, Default, PartialEq, Eq, Hash)]
+pub struct Track {
+    /// The cylinder, below C.
+    pub cylinder: u16,
+    /// The head, whatever volume it belongs to, if it belongs to one.
+    pub head: u8,
+}
+
+/// A bad track, and the spare that commands work on instead of it.
+#[derive(Clone, Copy, Debug, Default, PartialEq, Eq, Hash)]
+pub struct Pair {
+    /// The track that is not used any more.
+    pub bad: Track,
+    /// The track that serves it.
+    pub spare: Track,
+}
+
+/// A unit record, kept as the 276 bytes of its layout.
 ///
 /// A run hands a record back byte for byte unless a block changed it. So a record that a board
 /// keeps in flash may have any bytes at all: zeros, erased cells and the record of another
-/// version count as not initialized.
+/// version count as not initialized. [`Record::upgrade`] takes a record of version 1.
 #[derive(Clone, Copy, Debug, PartialEq, Eq, Hash)]
 #[repr(transparent)]
 pub struct Record([u8; RECORD_LEN]);
@@ -54,31 +90,51 @@ impl Record {
     /// A unit that no initialize has reached yet.
     pub const UNINITIALIZED: Record = Record([0; RECORD_LEN]);
 
-    /// The record with these parts.
+    /// The record with these parts and no pairs.
     pub const fn from_parts(initialized: bool, geometry: Geometry, cylinder: u16) -> Record {
-        let [c0, c1] = geometry.cylinders.to_be_bytes();
-        let [s0, s1] = geometry.sectors_a_track.to_be_bytes();
-        let [b0, b1] = geometry.bytes_a_sector.to_be_bytes();
+        let mut bytes = [0; RECORD_LEN];
+        bytes[0] = OPENING[0];
+        bytes[1] = if initialized { OPENING[1] } else { 0x00 };
+        bytes[2] = OPENING[2];
+        bytes[3] = OPENING[3];
+        bytes = with_word(bytes, 4, geometry.cylinders);
+        bytes = with_word(bytes, 6, geometry.sectors_a_track);
+        bytes = with_word(bytes, 8, geometry.bytes_a_sector);
         let [zero, one] = geometry.volumes;
-        let [h0, h1] = cylinder.to_be_bytes();
-        Record([
-            OPENING[0],
-            if initialized { OPENING[1] } else { 0x00 },
-            OPENING[2],
-            OPENING[3],
-            c0,
-            c1,
-            s0,
-            s1,
-            b0,
-            b1,
-            zero.start_head,
-            zero.heads,
-            one.start_head,
-            one.heads,
-            h0,
-            h1,
-        ])
+        bytes[10] = zero.start_head;
+        bytes[11] = zero.heads;
+        bytes[12] = one.start_head;
+        bytes[13] = one.heads;
+        Record(with_word(bytes, 14, cylinder))
+    }
+
+    /// The same record with these pairs and no other. None where they are over 32, which no table has
+    /// room for. Whether a drive can have them is judged when the record is used: a track outside
+    /// the drive, or one track twice, makes it count as not initialized.
+    pub fn with_pairs(&self, pairs: &[Pair]) -> Option<Record> {
+        if pairs.len() > PAIRS_MOST {
+            return None;
+        }
+        let mut record = Record(with_word(self.0, AT_PAIRS, pairs.len() as u16));
+        for (room, pair) in record.0[AT_TABLE..].chunks_exact_mut(PAIR_LEN).zip(pairs) {
+            let (bad, spare) = room.split_at_mut(TRACK_LEN);
+            put_track(bad, pair.bad);
+            put_track(spare, pair.spare);
+        }
+        Some(record)
+    }
+
+    /// The record of version 2 for one of version 1 that a board has kept: the same unit without
+    /// pairs. Any bytes that are not the record of an initialized unit there give
+    /// [`Record::UNINITIALIZED`].
+    pub fn upgrade(old: &[u8; RECORD_LEN_V1]) -> Record {
+        if old[..4] != OPENING_V1 {
+            return Record::UNINITIALIZED;
+        }
+        let mut bytes = [0; RECORD_LEN];
+        bytes[..4].copy_from_slice(&OPENING);
+        bytes[4..RECORD_LEN_V1].copy_from_slice(&old[4..]);
+        Record(bytes)
     }
 
     /// The record that stands in these bytes, whatever they are.
@@ -95,10 +151,11 @@ impl Record {
         &mut self.0
     }
 
-    /// Whether the record says that its unit is initialized. A geometry outside the limits, or a
-    /// cylinder that the geometry does not have, makes it count as not initialized all the same.
+    /// Whether the record says that its unit is initialized. A geometry outside the limits, a
+    /// cylinder that the geometry does not have, or a table that the drive cannot have makes it
+    /// count as not initialized all the same.
     pub fn initialized(&self) -> bool {
-        self.0[..4] == OPENING
+        self.0[..4] == OPENING && self.0[AT_ORDER] == 0 && self.0[AT_HOLDER] == 0
     }
 
     /// The geometry.
@@ -121,6 +178,38 @@ impl Record {
         (self.initialized(), self.geometry(), self.cylinder())
     }
 
+    /// How many pairs the record says that its table has. One that says over 32 counts as not
+    /// initialized.
+    pub const fn pairs_said(&self) -> u16 {
+        self.word(AT_PAIRS)
+    }
+
+    /// The pairs of the table in the order in which they were added, at most 32.
+    pub fn pairs(&self) -> impl ExactSizeIterator<Item = Pair> + '_ {
+        let pairs = usize::from(self.pairs_said()).min(PAIRS_MOST);
+        (0..pairs).map(|index| self.pair_at(index))
+    }
+
+    /// The pair with an index, from 0; None where the table has no such pair.
+    pub fn pair(&self, index: usize) -> Option<Pair> {
+        self.pairs().nth(index)
+    }
+
+    const fn pair_at(&self, index: usize) -> Pair {
+        let at = AT_TABLE + PAIR_LEN * index;
+        Pair {
+            bad: self.track(at),
+            spare: self.track(at + TRACK_LEN),
+        }
+    }
+
+    const fn track(&self, at: usize) -> Track {
+        Track {
+            cylinder: self.word(at),
+            head: self.0[at + 2],
+        }
+    }
+
     const fn word(&self, at: usize) -> u16 {
         u16::from_be_bytes([self.0[at], self.0[at + 1]])
     }
@@ -131,6 +220,20 @@ impl Record {
             heads: self.0[at + 1],
         }
     }
+}
+
+/// The bytes with a number stored in two of them.
+const fn with_word(mut bytes: [u8; RECORD_LEN], at: usize, word: u16) -> [u8; RECORD_LEN] {
+    let [upper, lower] = word.to_be_bytes();
+    bytes[at] = upper;
+    bytes[at + 1] = lower;
+    bytes
+}
+
+fn put_track(room: &mut [u8], track: Track) {
+    room[..2].copy_from_slice(&track.cylinder.to_be_bytes());
+    room[2] = track.head;
+    room[3] = 0x00;
 }
 
 impl Default for Record {

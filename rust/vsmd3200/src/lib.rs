@@ -21,6 +21,21 @@
 //! assert_eq!(events[..4], [0x80, 0x00, 0x00, 0x00]);
 //! ```
 //!
+//! A record holds the unit's bad tracks and their spares as well. Command 85 adds a pair of them; a
+//! board that knows its drive can make a record with them, and see them in one:
+//!
+//! ```
+//! use vsmd3200::{Geometry, Pair, Record, Track};
+//!
+//! # let geometry = Geometry::default();
+//! let bad = Track { cylinder: 1, head: 0 };
+//! let spare = Track { cylinder: 9, head: 2 };
+//! let record = Record::from_parts(true, geometry, 0);
+//! let record = record.with_pairs(&[Pair { bad, spare }]).unwrap();
+//! assert_eq!(record.pairs().len(), 1);
+//! assert_eq!(record.pair(0), Some(Pair { bad, spare }));
+//! ```
+//!
 //! Nothing is kept between calls, nothing is allocated, and two calls may be made at the same
 //! time: the borrows see to it that they work on different buffers.
 
@@ -33,7 +48,10 @@ mod layouts;
 
 pub use answers::{BlockAnswer, RunAnswer};
 pub use calls::{inspect, part_of, run, Part};
-pub use layouts::{Geometry, Outcome, Record, Volume, LAYOUT_VERSION, OUTCOME_LEN, RECORD_LEN};
+pub use layouts::{
+    Geometry, Outcome, Pair, Record, Track, Volume, LAYOUT_VERSION, OUTCOME_LEN, PAIRS_MOST,
+    RECORD_LEN, RECORD_LEN_V1,
+};
 
 /// The fewest bytes of an event buffer that a run takes: 64 entries of [`EVENT_LEN`].
 pub const EVENTS_LEN_LEAST: usize = 512;

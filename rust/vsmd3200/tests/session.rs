@@ -1,8 +1,8 @@
 //! The paper's session example through the wrapper, and the typed views of records and answers.
 
 use vsmd3200::{
-    inspect, part_of, run, BlockAnswer, Geometry, Outcome, Part, Record, RunAnswer, Volume,
-    EVENTS_LEN_LEAST,
+    inspect, part_of, run, BlockAnswer, Geometry, Outcome, Pair, Part, Record, RunAnswer, Track,
+    Volume, EVENTS_LEN_LEAST, PAIRS_MOST, RECORD_LEN,
 };
 
 const UIB: [u8; 18] = [
@@ -87,7 +87,7 @@ fn initialize_linked_to_the_read() {
 #[test]
 fn a_failed_block_says_why() {
     let (mut host, mut image, mut events) = (host(), image(), [0; EVENTS_LEN_LEAST]);
-    let mut records = [Record::from_bytes([0xff; 16]); 2];
+    let mut records = [Record::from_bytes([0xff; RECORD_LEN]); 2];
     let outcome = run(
         &mut host,
         &mut image,
@@ -99,7 +99,7 @@ fn a_failed_block_says_why() {
     );
     assert_eq!(outcome.answer, RunAnswer::BlockFailed);
     assert_eq!(outcome.failed, Some(BlockAnswer::NotInitialized));
-    assert_eq!(records, [Record::from_bytes([0xff; 16]); 2]);
+    assert_eq!(records, [Record::from_bytes([0xff; RECORD_LEN]); 2]);
     // The first of the two sectors is unreadable.
     image[7680 + 7] = 1;
     records[0] = Record::from_parts(true, SMALL, 4);
@@ -172,13 +172,21 @@ fn sectors_are_lent_from_the_right_image() {
     assert_eq!(kept, &image0[..64]);
 }
 
+/// The first 20 bytes of a record without pairs; those after them are 0 here.
+const OPEN: [u8; 20] = [
+    0x02, 0x01, 0x01, 0x14, 0x02, 0x84, 0x00, 0x40, 0x02, 0x00, 0x00, 0x0a, 0x3c, 0x00, 0x01, 0x02,
+    0x00, 0x00, 0x00, 0x00,
+];
+
+fn bytes(open: &[u8]) -> [u8; RECORD_LEN] {
+    let mut bytes = [0; RECORD_LEN];
+    bytes[..open.len()].copy_from_slice(open);
+    bytes
+}
+
 #[test]
 fn records_are_their_bytes() {
-    let bytes = [
-        0x01, 0x01, 0x00, 0x10, 0x02, 0x84, 0x00, 0x40, 0x02, 0x00, 0x00, 0x0a, 0x3c, 0x00, 0x01,
-        0x02,
-    ];
-    let record = Record::from_bytes(bytes);
+    let record = Record::from_bytes(bytes(&OPEN));
     let (initialized, geometry, cylinder) = record.parts();
     assert!(initialized);
     assert_eq!(
@@ -199,14 +207,140 @@ fn records_are_their_bytes() {
     );
     assert_eq!(
         Record::from_parts(true, geometry, cylinder).as_bytes(),
-        &bytes
+        &bytes(&OPEN)
     );
-    for at in 0..4 {
-        let mut other = bytes;
+    // version, flag, length, order and holder
+    for at in [0, 1, 2, 3, 16, 17] {
+        let mut other = bytes(&OPEN);
         other[at] ^= 0x40;
         assert!(!Record::from_bytes(other).initialized());
     }
     assert!(!Record::from_parts(false, geometry, 0).initialized());
+}
+
+fn track(cylinder: u16, head: u8) -> Track {
+    Track { cylinder, head }
+}
+
+fn pair(bad: (u16, u8), spare: (u16, u8)) -> Pair {
+    Pair {
+        bad: track(bad.0, bad.1),
+        spare: track(spare.0, spare.1),
+    }
+}
+
+#[test]
+fn pairs_are_their_bytes() {
+    let none = Record::from_bytes(bytes(&OPEN));
+    assert_eq!((none.pairs_said(), none.pairs().len()), (0, 0));
+    assert_eq!(none.pair(0), None);
+    let two = [pair((0x0102, 3), (0x0405, 6)), pair((7, 8), (0x0f00, 63))];
+    let record = none.with_pairs(&two).unwrap();
+    let mut expected = bytes(&OPEN);
+    expected[19] = 2;
+    let tracks = [
+        0x01, 0x02, 3, 0, 0x04, 0x05, 6, 0, 0x00, 7, 8, 0, 0x0f, 0x00, 63, 0,
+    ];
+    expected[20..36].copy_from_slice(&tracks);
+    assert_eq!(record.as_bytes(), &expected);
+    assert_eq!(record.pairs().collect::<Vec<_>>(), two);
+    assert_eq!(record.pair(1), Some(two[1]));
+    assert_eq!(record.pair(2), None);
+    // What stands after the pairs that count is nobody's.
+    assert_eq!(record.with_pairs(&two[..1]).unwrap().pairs().len(), 1);
+    let most = [pair((0, 0), (1, 1)); PAIRS_MOST + 1];
+    let full = none.with_pairs(&most[1..]).unwrap();
+    assert_eq!(
+        (full.pairs_said(), full.pair(31)),
+        (32, Some(pair((0, 0), (1, 1))))
+    );
+    assert_eq!(none.with_pairs(&most), None);
+    let mut many = *full.as_bytes();
+    many[18] = 1;
+    let many = Record::from_bytes(many);
+    assert_eq!((many.pairs_said(), many.pairs().len()), (256 + 32, 32));
+}
+
+#[test]
+fn a_record_of_version_1_is_upgraded() {
+    let mut old: [u8; 16] = OPEN[..16].try_into().unwrap();
+    old[..4].copy_from_slice(&[0x01, 0x01, 0x00, 0x10]);
+    assert_eq!(Record::upgrade(&old), Record::from_bytes(bytes(&OPEN)));
+    for at in 0..4 {
+        let mut other = old;
+        other[at] ^= 0x03;
+        assert_eq!(Record::upgrade(&other), Record::UNINITIALIZED);
+    }
+    assert_eq!(Record::upgrade(&[0; 16]), Record::UNINITIALIZED);
+    assert_eq!(Record::upgrade(&[0xff; 16]), Record::UNINITIALIZED);
+}
+
+/// One block at 0 on the small drive, run.
+fn go(block: &[u8], image: &mut [u8], records: &mut [Record; 2]) -> (Outcome, Vec<u8>) {
+    let mut host = vec![0x33; 300];
+    host[..28].fill(0);
+    host[..block.len()].copy_from_slice(block);
+    let mut events = [0; EVENTS_LEN_LEAST];
+    let outcome = run(&mut host, image, &mut [], &mut events, records, 0, 1);
+    (outcome, host)
+}
+
+/// Cylinder 1, head 0 is bad; cylinder 9, head 2 serves it. A write of logical 8 goes there.
+#[test]
+fn a_bad_track_and_its_spare() {
+    let (mut image, before) = (image(), image());
+    let mut records = [Record::from_parts(true, SMALL, 4), Record::UNINITIALIZED];
+    let remap = [0x85, 0, 0, 0, 0, 1, 0, 0xaa, 0, 9, 2, 0xbb];
+    let (outcome, _) = go(&remap, &mut image, &mut records);
+    assert_eq!((outcome.answer, outcome.sectors), (RunAnswer::Done, 0));
+    let served = pair((1, 0), (9, 2));
+    let expected = Record::from_parts(true, SMALL, 4).with_pairs(&[served]);
+    assert_eq!(Some(records[0]), expected);
+    assert_eq!(image, before);
+
+    let write = [0x82, 0x10, 0, 0, 0, 0, 0, 8, 0, 1, 0, 0, 0, 100];
+    let (outcome, _) = go(&write, &mut image, &mut records);
+    assert_eq!((outcome.answer, outcome.sectors), (RunAnswer::Done, 1));
+    assert_eq!(records[0].cylinder(), 9);
+    let spare = inspect(&image, &[], &records, 0, 116);
+    assert_eq!(spare, &[0x33; 64]);
+    let bad = inspect(&image, &[], &records, 0, 12);
+    assert_eq!(bad, &before[768..832]);
+
+    let (outcome, _) = go(&remap, &mut image, &mut records);
+    assert_eq!(outcome.failed, Some(BlockAnswer::TracksTaken));
+    assert_eq!(outcome.failed.map(BlockAnswer::before_transfer), Some(true));
+    let most = [served; PAIRS_MOST];
+    // One track twice in a table: the unit counts as not initialized.
+    let mut twice = [records[0].with_pairs(&most).unwrap(), records[1]];
+    let (outcome, _) = go(&write, &mut image, &mut twice);
+    assert_eq!(outcome.failed, Some(BlockAnswer::NotInitialized));
+    assert_eq!(inspect(&image, &[], &twice, 0, 12), &[] as &[u8]);
+}
+
+/// 22 cylinders have 66 tracks: two are left when 32 pairs stand.
+#[test]
+fn a_table_that_is_full() {
+    let long = Geometry {
+        cylinders: 22,
+        ..SMALL
+    };
+    let pairs: Vec<Pair> = (0..32u8)
+        .map(|k| {
+            pair(
+                (u16::from(k) / 3, k % 3),
+                (u16::from(k + 32) / 3, (k + 32) % 3),
+            )
+        })
+        .collect();
+    let record = Record::from_parts(true, long, 0)
+        .with_pairs(&pairs)
+        .unwrap();
+    let mut records = [record, Record::UNINITIALIZED];
+    let remap = [0x85, 0, 0, 0, 0, 21, 1, 0, 0, 21, 2];
+    let (outcome, _) = go(&remap, &mut [], &mut records);
+    assert_eq!(outcome.failed, Some(BlockAnswer::TableFull));
+    assert_eq!(records[0], record);
 }
 
 #[test]
@@ -216,21 +350,23 @@ fn answers_are_their_numbers() {
         assert_eq!(run.is_some(), number <= 6);
         assert!(run.is_none_or(|answer| answer.number() == number));
         let block = BlockAnswer::from_number(number);
-        assert_eq!(block.is_some(), (10..=20).contains(&number));
+        let given = (10..=20).contains(&number) || matches!(number, 22 | 23);
+        assert_eq!(block.is_some(), given);
         assert!(block.is_none_or(|answer| answer.number() == number));
     }
-    let mut bytes = [0x01, 0x00, 0x00, 0x10, 4, 20, 0, 0, 0, 0, 0, 3, 0, 1, 0, 0];
+    let mut bytes = [0x02, 0x00, 0x00, 0x10, 4, 20, 0, 0, 0, 0, 0, 3, 0, 1, 0, 0];
     let outcome = Outcome::from_bytes(&bytes).unwrap();
     assert_eq!(outcome.failed, Some(BlockAnswer::Unreadable));
     assert_eq!((outcome.blocks, outcome.sectors), (3, 65_536));
     for (at, byte) in [
-        (0, 2),
+        (0, 1),
         (1, 1),
         (2, 1),
         (3, 12),
         (4, 7),
         (5, 9),
-        (5, 22),
+        (5, 21),
+        (5, 24),
         (6, 1),
         (7, 1),
     ] {

@@ -2,9 +2,10 @@
 
 use super::drives::{geometry, ready, unready, wide_geometry, Way};
 use super::memory::Memory;
+use super::{tables, Theme};
 use crate::case::{record_bytes, RecordBytes};
 use crate::draw::Draw;
-use model::{Block, Geometry, COMMANDS};
+use model::{Block, Geometry, Pair, Record, Table, COMMANDS};
 
 pub const UN: u8 = 0x80;
 pub const VO: u8 = 0x40;
@@ -22,6 +23,10 @@ pub struct Unit {
     pub ready: bool,
     /// Its geometry then, or the one that its record was spoiled from.
     pub meant: Geometry,
+    /// Its table then.
+    pub table: Table,
+    /// Every pair that its tables have had, with the geometry of the time.
+    pub added: Vec<(Geometry, Pair)>,
     /// The geometries that it has in turn, those aside whose image nobody has.
     pub shapes: Vec<Geometry>,
     /// The geometry meant is one whose image nobody has.
@@ -32,7 +37,7 @@ pub struct Unit {
 pub struct Plant {
     pub victim: usize,
     pub unit: usize,
-    pub geometry: Geometry,
+    pub drive: Record,
     pub aim: Aim,
     /// Address and bytes of each piece.
     pub pieces: Vec<(u32, u64)>,
@@ -48,19 +53,20 @@ pub struct Aim {
 
 impl Aim {
     /// The place on the drive of the k-th sector, k from 0.
-    pub fn place(&self, g: &Geometry, k: u64) -> Option<u64> {
-        let address = g.address(self.volume, self.first + k)?;
-        g.place(self.volume, address)
+    pub fn place(&self, drive: &Record, k: u64) -> Option<u64> {
+        let found = drive.find(self.volume, self.first + k)?;
+        Some(found.place)
     }
 
     /// Where the k-th byte of the transfer stands in the image, k from 0.
-    pub fn image_byte(&self, g: &Geometry, k: u64) -> Option<usize> {
-        let b = g.bytes_a_sector as u64;
-        Some((self.place(g, k / b)? * b + k % b) as usize)
+    pub fn image_byte(&self, drive: &Record, k: u64) -> Option<usize> {
+        let b = drive.geometry.bytes_a_sector as u64;
+        Some((self.place(drive, k / b)? * b + k % b) as usize)
     }
 }
 
 pub struct Maker {
+    pub theme: Theme,
     pub draw: Draw,
     /// How often in a thousand times a choice goes wrong.
     pub slips: u64,
@@ -73,7 +79,25 @@ pub struct Maker {
 }
 
 impl Unit {
-    pub fn new(draw: &mut Draw) -> Unit {
+    pub fn new(theme: Theme, draw: &mut Draw) -> Unit {
+        match theme {
+            Theme::Plain => Unit::plain(draw),
+            Theme::Tables => Unit::tabled(draw),
+            Theme::FreshTables => Unit::fresh(draw),
+        }
+    }
+
+    /// The unit as a drive: the geometry and the table that a block meets.
+    pub fn drive(&self) -> Record {
+        Record {
+            initialized: true,
+            geometry: self.meant,
+            cylinder: 0,
+            table: self.table,
+        }
+    }
+
+    fn plain(draw: &mut Draw) -> Unit {
         let wide = draw.percent(4);
         let meant = if wide {
             wide_geometry(draw)
@@ -94,6 +118,8 @@ impl Unit {
             record,
             ready: is_ready,
             meant,
+            table: Table::NONE,
+            added: Vec::new(),
             shapes: if wide { Vec::new() } else { vec![meant] },
             wide,
         }
@@ -148,13 +174,20 @@ impl Maker {
         });
         if lies_over_the_next && self.draw.percent(70) {
             block.command = 0x86;
-        } else if !self.units[unit].ready && !self.draw.percent(4 + self.slips) {
+        } else if !self.units[unit].ready && !self.draw.percent(self.too_early()) {
             self.initialize(k, unit, &mut block);
         } else {
             self.command(k, unit, &mut block);
         }
         self.link(k, &mut block);
         block
+    }
+
+    /// How often in a hundred times a unit that is not ready is asked for something else than an
+    /// initialize.
+    fn too_early(&self) -> u64 {
+        let more = if self.theme.tables() { 10 } else { 0 };
+        4 + self.slips + more
     }
 
     /// A block with any bytes, so that what a command ignores is never the same.
@@ -206,7 +239,9 @@ impl Maker {
             block.command = self.unlisted();
             return;
         }
-        block.command = if self.units[unit].wide {
+        block.command = if self.theme.tables() {
+            self.command_with_tables(unit)
+        } else if self.units[unit].wide {
             self.draw.weighted(&[
                 (50, 0x8a),
                 (15, 0x89),
@@ -231,6 +266,7 @@ impl Maker {
             ])
         };
         match block.command {
+            0x85 => self.remap(unit, block),
             0x87 => self.initialize(k, unit, block),
             0x8a => {
                 self.aim(unit, block, 1);
@@ -244,6 +280,38 @@ impl Maker {
         }
     }
 
+    fn command_with_tables(&mut self, unit: usize) -> u8 {
+        if self.units[unit].wide {
+            return self.draw.weighted(&[
+                (40, 0x8a),
+                (36, 0x85),
+                (5, 0x89),
+                (3, 0x86),
+                (8, 0x87),
+                (3, 0x81),
+                (2, 0x82),
+                (2, 0x8c),
+                (1, 0xa1),
+            ]);
+        }
+        // with 32 pairs an 85 ends the chain
+        let remaps = if self.units[unit].table.full() { 9 } else { 17 };
+        self.draw.weighted(&[
+            (22, 0x81),
+            (14, 0x82),
+            (remaps, 0x85),
+            (2, 0x86),
+            (5, 0x87),
+            (3, 0x89),
+            (9, 0x8a),
+            (9, 0x8c),
+            (12, 0xa1),
+            (8, 0xa2),
+        ])
+    }
+
+    /// A command that is not listed, or 85: in worlds without tables it names what tracks its bytes
+    /// happen to be.
     pub fn unlisted(&mut self) -> u8 {
         let near = [
             0x80, 0x83, 0x84, 0x85, 0x88, 0x8b, 0x8d, 0x8e, 0xa0, 0xa3, 0x01, 0x21, 0x31, 0x00,
@@ -252,7 +320,7 @@ impl Maker {
         let near = self.draw.pick(&near);
         let any = self.draw.byte();
         let command = self.draw.weighted(&[(3, near), (1, any)]);
-        if COMMANDS.contains(&command) {
+        if COMMANDS.contains(&command) && command != 0x85 {
             0x83
         } else {
             command
@@ -267,6 +335,11 @@ impl Maker {
 
     /// Lets the block aim at some sectors of a volume, `most` at most.
     pub fn aim(&mut self, unit: usize, block: &mut Block, most: u64) -> Aim {
+        if self.theme.tables() && self.draw.percent(70) {
+            if let Some(aim) = self.aim_at_table(unit, block, most) {
+                return aim;
+            }
+        }
         let g = self.units[unit].meant;
         let present = g.volumes[1].present();
         let volume = if present {
@@ -297,7 +370,7 @@ impl Maker {
         aim
     }
 
-    fn count(&mut self, most: u64) -> u64 {
+    pub fn count(&mut self, most: u64) -> u64 {
         match self.draw.below(12) {
             0..=2 => 1,
             3 | 4 => most.min(2),
@@ -323,7 +396,7 @@ impl Maker {
     }
 
     /// The aim in words 2, 3 and 4, as a number or as a physical address.
-    fn point(&mut self, block: &mut Block, g: &Geometry, aim: Aim) {
+    pub fn point(&mut self, block: &mut Block, g: &Geometry, aim: Aim) {
         block.options &= !(VO | XL);
         if aim.volume == 1 {
             block.options |= VO;
@@ -413,7 +486,7 @@ impl Maker {
         self.plants.push(Plant {
             victim,
             unit,
-            geometry: self.units[unit].meant,
+            drive: self.units[unit].drive(),
             aim,
             pieces: vec![(address as u32, bytes)],
         });
@@ -450,6 +523,9 @@ impl Maker {
         let g = self.units[unit].meant;
         block.cylinder = self.draw.below(g.cylinders as u64) as u16;
         block.head = self.draw.below(g.drive_heads()) as u8;
+        if self.theme.tables() && self.draw.percent(65) {
+            self.track_of_table(unit, block);
+        }
         if self.slip() {
             block.cylinder = g.cylinders.saturating_add(self.draw.below(2) as u16);
         }
@@ -466,7 +542,7 @@ impl Maker {
             0..=8 => (old, self.units[unit].wide),
             9 => (wide_geometry(&mut self.draw), true),
             10 => (Geometry::table_11(), true),
-            _ => (geometry(&mut self.draw), false),
+            _ => (self.another_geometry(), false),
         };
         let mut uib = self.uib(&new);
         if self.slip() {
@@ -475,6 +551,7 @@ impl Maker {
             let unit = &mut self.units[unit];
             unit.ready = true;
             unit.meant = new;
+            unit.table = Table::NONE;
             unit.wide = wide;
             if !wide {
                 unit.shapes.push(new);
@@ -483,6 +560,14 @@ impl Maker {
         self.put_uib(k, block, &uib);
         if self.slip() {
             block.buffer_address = self.memory.misplaced(&mut self.draw, UIB as u64);
+        }
+    }
+
+    fn another_geometry(&mut self) -> Geometry {
+        if self.theme.tables() {
+            tables::geometry(&mut self.draw)
+        } else {
+            geometry(&mut self.draw)
         }
     }
 

@@ -1,8 +1,8 @@
 //! Geometries, the records that hold them, and the images.
 
-use crate::case::{record_bytes, RecordBytes, OPENING};
+use crate::case::{record_bytes, RecordBytes, OPENING, RECORD_LEN};
 use crate::draw::Draw;
-use model::{Geometry, Record, Volume};
+use model::{Geometry, Record, Table, Volume};
 
 /// The single ways in which a record can be outside: "a geometry outside the limits, or a
 /// cylinder of C or more".
@@ -157,7 +157,7 @@ fn sectors_a_track(draw: &mut Draw) -> u64 {
 
 /// Two volumes that end at `most` heads or before; where that leaves room, with heads of no
 /// volume before, between them, and either volume first.
-fn volumes(draw: &mut Draw, most: u64) -> [Volume; 2] {
+pub fn volumes(draw: &mut Draw, most: u64) -> [Volume; 2] {
     let heads0 = draw.between(1, most.min(3));
     let left = most - heads0;
     if left == 0 || draw.percent(30) {
@@ -227,6 +227,7 @@ pub fn ready(draw: &mut Draw, g: Geometry) -> Record {
         initialized: true,
         geometry: g,
         cylinder,
+        table: Table::NONE,
     }
 }
 
@@ -242,11 +243,11 @@ pub fn unready(draw: &mut Draw, g: Geometry) -> RecordBytes {
             record.initialized = false;
             record_bytes(&record)
         }
-        14 => [0; 16],
-        15 => [0xff; 16],
+        14 => [0; RECORD_LEN],
+        15 => [0xff; RECORD_LEN],
         16 => {
-            let mut bytes = [0; 16];
-            draw.fill(&mut bytes);
+            let mut bytes = [0; RECORD_LEN];
+            draw.fill(&mut bytes[..16]);
             bytes
         }
         _ => other_opening(draw, record_bytes(&record)),
@@ -256,7 +257,8 @@ pub fn unready(draw: &mut Draw, g: Geometry) -> RecordBytes {
 /// One of the four opening bytes is another.
 fn other_opening(draw: &mut Draw, mut bytes: RecordBytes) -> RecordBytes {
     let at = draw.below(4) as usize;
-    let near = [OPENING[at] ^ 1, OPENING[at].wrapping_add(1), 0xff, 0x80];
+    // one less is the version before, and a flag that says no
+    let near = [OPENING[at] ^ 1, OPENING[at].wrapping_sub(1), 0xff, 0x80];
     bytes[at] = draw.pick(&near);
     bytes
 }

@@ -137,7 +137,7 @@ impl Maker {
         self.plants.push(Plant {
             victim: k + 1,
             unit,
-            geometry: self.units[unit].meant,
+            drive: self.units[unit].drive(),
             aim,
             pieces: elements.iter().map(|(bytes, at)| (*at, *bytes)).collect(),
         });

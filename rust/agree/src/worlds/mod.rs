@@ -6,20 +6,50 @@ mod drives;
 mod lists;
 mod memory;
 mod pair;
+mod tables;
 
-use crate::case::{Case, Inspection};
+use crate::case::{record_in, stored_end, Case, Inspection, RecordBytes};
 use crate::draw::Draw;
 use chain::{Maker, Plant, Unit, BLOCK, LK};
 pub use drives::Way;
 use memory::Memory;
 use model::Block;
 pub use pair::pair;
+pub use tables::TableWay;
 
-/// The world with an index; it depends on the seed and the index alone.
-pub fn world(seed: u64, index: u64) -> Case {
+/// What worlds are about. Those of one theme are drawn apart from those of another.
+#[derive(Clone, Copy, Debug, PartialEq, Eq)]
+pub enum Theme {
+    /// All that there was before tables. No record has a pair, and an 85 is as rare as any command that
+    /// nobody lists.
+    Plain,
+    /// Records with tables, blocks that add to them, and blocks that land on them.
+    Tables,
+    /// The same for a session, whose units no initialize has reached.
+    FreshTables,
+}
+
+impl Theme {
+    pub fn tables(self) -> bool {
+        self != Theme::Plain
+    }
+
+    /// The seed from which the worlds of the theme are drawn.
+    fn seed(self, seed: u64) -> u64 {
+        match self {
+            Theme::Plain => seed,
+            Theme::Tables => seed ^ 0x7ab1_e500,
+            Theme::FreshTables => seed ^ 0x7ab1_e50f,
+        }
+    }
+}
+
+/// The world with an index; it depends on theme, seed and index alone.
+pub fn world(theme: Theme, seed: u64, index: u64) -> Case {
+    let seed = theme.seed(seed);
     let mut draw = Draw::of(seed, index);
     let slips = draw.weighted(&[(45, 0), (38, 10), (17, 50)]);
-    let units = [Unit::new(&mut draw), Unit::new(&mut draw)];
+    let units = [0, 1].map(|_| Unit::new(theme, &mut draw));
     let blocks = match draw.below(40) {
         0..=6 => 1,
         7..=24 => draw.between(2, 5),
@@ -29,6 +59,7 @@ pub fn world(seed: u64, index: u64) -> Case {
     } as usize;
     let memory = memory(&mut draw, blocks, &units);
     let mut maker = Maker {
+        theme,
         draw,
         slips,
         memory,
@@ -38,7 +69,21 @@ pub fn world(seed: u64, index: u64) -> Case {
         plants: Vec::new(),
     };
     maker.chain(blocks);
-    finish(maker)
+    let mut case = finish(maker);
+    tails(seed, index, &mut case.records);
+    case
+}
+
+/// What stands in a record after the pairs that count may be anything. It is drawn apart, so that
+/// worlds are the same with it and without.
+fn tails(seed: u64, index: u64, records: &mut [RecordBytes; 2]) {
+    let mut draw = Draw::of(seed ^ 0x7a11, index);
+    for bytes in records {
+        if draw.percent(60) {
+            let from = stored_end(record_in(bytes).table.count());
+            draw.fill(&mut bytes[from..]);
+        }
+    }
 }
 
 fn memory(draw: &mut Draw, blocks: usize, units: &[Unit; 2]) -> Memory {
@@ -95,7 +140,11 @@ fn image(maker: &mut Maker, unit: usize) -> Vec<u8> {
         let more = draw.between(1, 40);
         need + draw.weighted(&[(6, 0), (2, more), (1, 1)])
     };
-    drives::image(&mut maker.draw, len as usize, &maker.units[unit].shapes)
+    let mut image = drives::image(&mut maker.draw, len as usize, &maker.units[unit].shapes);
+    if maker.theme.tables() {
+        maker.mark_tables(unit, &mut image);
+    }
+    image
 }
 
 /// The sectors that are read over a later block get what stands in memory there, and the block
@@ -115,7 +164,7 @@ fn grow(maker: &mut Maker, images: &mut [Vec<u8>; 2], plant: &Plant) {
                 continue;
             };
             let inside = place.checked_sub(at).and_then(|inside| new.get(inside));
-            let to = plant.aim.image_byte(&plant.geometry, moved);
+            let to = plant.aim.image_byte(&plant.drive, moved);
             if let Some(byte) = to.and_then(|to| image.get_mut(to)) {
                 *byte = *inside.unwrap_or(stands);
             }
@@ -208,11 +257,20 @@ fn inspection(maker: &mut Maker) -> Inspection {
     // Lengths are only numbers here, so that a drive can be looked at that is in no memory.
     let lens = [g.need(), g.need().saturating_sub(1), u64::MAX, 0];
     let lens = [draw.pick(&lens), draw.pick(&lens)];
+    let image_lens = draw.percent(40).then_some(lens);
     Inspection {
         unit,
-        place,
-        image_lens: draw.percent(40).then_some(lens),
+        place: inspected(maker, unit).unwrap_or(place),
+        image_lens,
     }
+}
+
+/// In worlds with tables often a place on a bad track or on a spare.
+fn inspected(maker: &mut Maker, unit: u32) -> Option<u64> {
+    if maker.theme.tables() && maker.draw.percent(60) {
+        return maker.place_of_table((unit % 2) as usize);
+    }
+    None
 }
 
 /// What is done to a world that was fine. Also where no choice slipped, now and then.

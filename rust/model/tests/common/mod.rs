@@ -1,7 +1,7 @@
 //! The small drive of the paper, and worlds laid out by hand.
 #![allow(dead_code)]
 
-use model::{Block, Geometry, Record, Volume, World};
+use model::{Block, Geometry, Pair, Record, Table, Track, Volume, World};
 
 pub const UN: u8 = 0x80;
 pub const VO: u8 = 0x40;
@@ -45,6 +45,33 @@ pub fn ready() -> Record {
         initialized: true,
         geometry: small(),
         cylinder: 0,
+        table: Table::NONE,
+    }
+}
+
+/// A cylinder and a head over the whole drive.
+pub type At = (u16, u8);
+
+pub fn track(at: At) -> Track {
+    Track::new(at.0, at.1)
+}
+
+/// A table of bad tracks and their spares.
+pub fn table(pairs: &[(At, At)]) -> Table {
+    Table::saying(pairs.len() as u16, |k| Pair {
+        bad: track(pairs[k].0),
+        spare: track(pairs[k].1),
+    })
+}
+
+/// An 85 that names a bad track and its spare.
+pub fn remap(options: u8, bad: At, spare: At) -> Block {
+    Block {
+        cylinder: bad.0,
+        head: bad.1,
+        sector_count: spare.0,
+        buffer_address: spare.1 as u32 * 0x100_0000,
+        ..block(0x85, options)
     }
 }
 
@@ -140,7 +167,7 @@ pub fn put_element(world: &mut World, at: usize, byte_count: u16, address: u32) 
     put(&mut world.host, at + 6, &[0, 0]);
 }
 
-/// The answer of one block at address 0 with no link: 0 or 10 to 20.
+/// The answer of one block at address 0 with no link: 0, or 10 and up.
 pub fn one(world: &mut World, block: &Block) -> u8 {
     put_block(world, 0, block);
     let outcome = model::run(world, 0, 1);

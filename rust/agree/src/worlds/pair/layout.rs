@@ -24,6 +24,25 @@ const OVER: [(Kind, Kind); 11] = [
     (Kind::Stored, Kind::Stored),
 ];
 
+/// The same where chains have 85s.
+const OVER_WITH_TABLES: [(Kind, Kind); 15] = [
+    OVER[0],
+    OVER[1],
+    OVER[2],
+    OVER[3],
+    OVER[4],
+    OVER[5],
+    OVER[6],
+    OVER[7],
+    OVER[8],
+    OVER[9],
+    OVER[10],
+    (Kind::Taken, Kind::Remap),
+    (Kind::Taken, Kind::Remap),
+    (Kind::Taken, Kind::Remap),
+    (Kind::Stored, Kind::Remap),
+];
+
 impl Plan {
     /// Lays everything side by side, but for two things that are to lie over one another, and makes
     /// a memory that holds all data, moved or not.
@@ -64,16 +83,26 @@ impl Plan {
         let draw = &mut self.maker.draw;
         order.retain(|thing| *thing != one);
         let at = order.iter().position(|thing| *thing == other)?;
-        order.insert(at + draw.below(2) as usize, one);
         let all = self.things[one].room.min(self.things[other].room);
+        if self.things[other].kind == Kind::Remap && draw.percent(70) {
+            // the data begin in the words that name the tracks, after the status
+            order.insert(at + 1, one);
+            return Some((at + 1, all.min(18 + draw.even(6))));
+        }
+        order.insert(at + draw.below(2) as usize, one);
         let some = 2 + draw.even(all - 2);
         Some((at + 1, draw.weighted(&[(4, 2), (3, all), (4, some)])))
     }
 
     /// One thing of each chain, of kinds that may lie over one another.
     fn two_things(&mut self) -> Option<(usize, usize)> {
-        let from = self.maker.draw.below(OVER.len() as u64) as usize;
-        let (later, earlier) = (&OVER[from..], &OVER[..from]);
+        let over: &[(Kind, Kind)] = if self.maker.theme.tables() {
+            &OVER_WITH_TABLES
+        } else {
+            &OVER
+        };
+        let from = self.maker.draw.below(over.len() as u64) as usize;
+        let (later, earlier) = (&over[from..], &over[..from]);
         let found = later.iter().chain(earlier).find_map(|kinds| {
             let fitting = self.of_kinds(*kinds);
             (!fitting.is_empty()).then_some(fitting)
@@ -226,7 +255,7 @@ fn plant(read: &Step, offset: u64, bytes: &[u8], images: &mut [Vec<u8>; 2]) {
     for (k, byte) in bytes.iter().enumerate() {
         let to = read
             .aim
-            .and_then(|aim| aim.image_byte(&read.geometry, offset + k as u64));
+            .and_then(|aim| aim.image_byte(&read.drive, offset + k as u64));
         if let Some(place) = to.and_then(|to| image.get_mut(to)) {
             *place = *byte;
         }

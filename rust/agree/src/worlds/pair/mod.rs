@@ -12,9 +12,10 @@ mod steps;
 use super::chain::{Aim, Maker, Unit, BLOCK, UIB};
 use super::drives::geometry;
 use super::memory::Memory;
+use super::{tables, Theme};
 use crate::case::Case;
 use crate::draw::Draw;
-use model::{Block, Geometry};
+use model::{Block, Geometry, Record};
 
 /// What a chain has in host memory.
 #[derive(Clone, Copy, PartialEq, Eq)]
@@ -22,6 +23,8 @@ enum Kind {
     Block,
     /// The block of an 86.
     Handshake,
+    /// The block of an 85, in pairs that are about tables.
+    Remap,
     /// A list or a UIB.
     Table,
     /// The data of 82, A2 and 8C.
@@ -60,7 +63,8 @@ enum End {
 /// A block and what belongs to it. Things are told by their numbers; where they lie comes later.
 struct Step {
     block: Block,
-    geometry: Geometry,
+    /// The drive that the block meets.
+    drive: Record,
     aim: Option<Aim>,
     /// The thing that the block lies in, and where in it.
     place: (usize, u64),
@@ -89,8 +93,8 @@ struct Plan {
 }
 
 /// The pair with an index: two cases that differ in first block, allowance and event buffer alone.
-pub fn pair(seed: u64, index: u64) -> [Case; 2] {
-    let mut draw = Draw::of(seed ^ 0xd3, index);
+pub fn pair(theme: Theme, seed: u64, index: u64) -> [Case; 2] {
+    let mut draw = Draw::of(theme.seed(seed) ^ 0xd3, index);
     let over = draw.percent(40);
     let unit = draw.below(2) as usize;
     // A pair that breaks the condition in two ways shows less.
@@ -100,7 +104,7 @@ pub fn pair(seed: u64, index: u64) -> [Case; 2] {
         (one_unit, Units::One(unit)),
         (1, Units::Any),
     ]);
-    let mut plan = Plan::new(draw);
+    let mut plan = Plan::new(theme, draw);
     for chain in 0..2 {
         plan.chain(chain, units);
     }
@@ -110,14 +114,18 @@ pub fn pair(seed: u64, index: u64) -> [Case; 2] {
 }
 
 impl Plan {
-    fn new(mut draw: Draw) -> Plan {
+    fn new(theme: Theme, mut draw: Draw) -> Plan {
         let units = [0, 1].map(|_| {
-            let meant = small(&mut draw);
+            let meant = small(theme, &mut draw);
+            if theme.tables() {
+                return Unit::tabled_as(&mut draw, meant, false);
+            }
             let is_ready = draw.percent(85);
             Unit::with(&mut draw, meant, false, is_ready)
         });
         let memory = Memory::new(&mut draw, 0, 0);
         let maker = Maker {
+            theme,
             draw,
             slips: 0,
             memory,
@@ -170,8 +178,13 @@ impl Plan {
 }
 
 /// The smaller of two drives: its image is copied many times.
-fn small(draw: &mut Draw) -> Geometry {
-    let (one, other) = (geometry(draw), geometry(draw));
+fn small(theme: Theme, draw: &mut Draw) -> Geometry {
+    let any = if theme.tables() {
+        tables::geometry
+    } else {
+        geometry
+    };
+    let (one, other) = (any(draw), any(draw));
     if one.need() < other.need() {
         one
     } else {

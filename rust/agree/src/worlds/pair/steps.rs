@@ -2,7 +2,9 @@
 
 use super::super::chain::{BLOCK, DE, UIB, XL};
 use super::super::lists::ELEMENT;
+use super::super::tables::name;
 use super::{small, End, Kind, Plan, Step, Units};
+use model::Table;
 
 /// The data of a block have so many bytes at most, or one sector.
 const MOST_DATA: u64 = 400;
@@ -13,7 +15,10 @@ type Place = ((usize, u64), Option<usize>);
 impl Plan {
     /// A chain as it goes alone: for the next one the units are again as at the start.
     pub fn chain(&mut self, chain: usize, units: Units) {
-        let start = [0, 1].map(|unit| (self.maker.units[unit].ready, self.maker.units[unit].meant));
+        let start = [0, 1].map(|unit| {
+            let unit = &self.maker.units[unit];
+            (unit.ready, unit.meant, unit.table)
+        });
         let draw = &mut self.maker.draw;
         let blocks = draw.weighted(&[(3, 1), (4, 2), (3, 3), (1, 5)]);
         self.ends[chain] = draw.weighted(&[
@@ -31,9 +36,10 @@ impl Plan {
             let last = k + 1 == blocks;
             self.step(chain, unit, if last { self.ends[chain] } else { End::Done });
         }
-        for (unit, (ready, meant)) in start.into_iter().enumerate() {
+        for (unit, (ready, meant, table)) in start.into_iter().enumerate() {
             self.maker.units[unit].ready = ready;
             self.maker.units[unit].meant = meant;
+            self.maker.units[unit].table = table;
         }
     }
 
@@ -43,7 +49,7 @@ impl Plan {
         let (place, read_by) = self.place(chain, block.command);
         let mut step = Step {
             block,
-            geometry: self.maker.units[unit].meant,
+            drive: self.maker.units[unit].drive(),
             aim: None,
             place,
             read_by,
@@ -56,6 +62,7 @@ impl Plan {
         self.aim(unit, &mut step);
         self.data(chain, &mut step);
         match (block.command, end) {
+            (0x85, _) => self.remap(unit, end, &mut step),
             (0x87, _) => self.initialize(chain, unit, end, &mut step),
             (0x81 | 0xa1, End::Stopped) => self.stop(unit, &mut step),
             (_, End::Refused) => self.refuse(&mut step),
@@ -68,6 +75,9 @@ impl Plan {
         let draw = &mut self.maker.draw;
         if !self.maker.units[unit].ready && !draw.one_in(12) {
             return 0x87;
+        }
+        if self.maker.theme.tables() && end != End::Stopped && draw.percent(16) {
+            return 0x85;
         }
         match end {
             End::Stopped => draw.pick(&[0x81, 0xa1]),
@@ -100,6 +110,7 @@ impl Plan {
             }
         }
         let kind = match command {
+            0x85 => Kind::Remap,
             0x86 => Kind::Handshake,
             _ => Kind::Block,
         };
@@ -107,7 +118,7 @@ impl Plan {
     }
 
     fn aim(&mut self, unit: usize, step: &mut Step) {
-        let most = (MOST_DATA / step.geometry.bytes_a_sector as u64).max(1);
+        let most = (MOST_DATA / step.drive.geometry.bytes_a_sector as u64).max(1);
         match step.block.command {
             0x81 | 0x82 | 0x8a | 0xa1 | 0xa2 => {
                 step.aim = Some(self.maker.aim(unit, &mut step.block, most));
@@ -121,7 +132,7 @@ impl Plan {
 
     /// The list, where there is one, and the pieces of data.
     fn data(&mut self, chain: usize, step: &mut Step) {
-        let b = step.geometry.bytes_a_sector as u64;
+        let b = step.drive.geometry.bytes_a_sector as u64;
         let bytes = step.aim.map_or(b, |aim| aim.count * b);
         let (kind, parts) = match step.block.command {
             0x81 => (Kind::Stored, vec![bytes]),
@@ -141,14 +152,25 @@ impl Plan {
         }
     }
 
+    /// The tracks of an 85; one that is refused names some that cannot be had.
+    fn remap(&mut self, unit: usize, end: End, step: &mut Step) {
+        if end == End::Refused {
+            let pair = self.maker.refused_pair(unit, None);
+            name(&mut step.block, &pair);
+        } else {
+            self.maker.remap(unit, &mut step.block);
+        }
+    }
+
     /// The UIB. One that is refused is misplaced, and then not read, or outside the limits.
     fn initialize(&mut self, chain: usize, unit: usize, end: End, step: &mut Step) {
         let draw = &mut self.maker.draw;
         let new = if draw.percent(60) {
-            step.geometry
+            step.drive.geometry
         } else {
-            small(draw)
+            small(self.maker.theme, draw)
         };
+        let draw = &mut self.maker.draw;
         step.odd = end == End::Refused && draw.percent(40);
         step.uib = self.maker.uib(&new);
         if end == End::Refused && !step.odd {
@@ -159,6 +181,7 @@ impl Plan {
         let unit = &mut self.maker.units[unit];
         unit.ready = true;
         unit.meant = new;
+        unit.table = Table::NONE;
         unit.shapes.push(new);
     }
 
@@ -169,10 +192,10 @@ impl Plan {
         };
         let sectors = self.maker.draw.below(aim.count);
         step.block.options &= !DE;
-        if let Some(place) = aim.place(&step.geometry, sectors) {
-            self.unreadable.push((unit, step.geometry, place));
+        if let Some(place) = aim.place(&step.drive, sectors) {
+            self.unreadable.push((unit, step.drive.geometry, place));
         }
-        let mut moved = sectors * step.geometry.bytes_a_sector as u64;
+        let mut moved = sectors * step.drive.geometry.bytes_a_sector as u64;
         for (bytes, thing) in &step.pieces {
             let room = moved.min(*bytes);
             self.things[*thing].room = room;
@@ -199,7 +222,7 @@ impl Plan {
             // 16
             (0x81 | 0x82 | 0x8a | 0x8c | 0xa1 | 0xa2, 0..=3) => {
                 step.block.options &= !XL;
-                step.block.cylinder = step.geometry.cylinders;
+                step.block.cylinder = step.drive.geometry.cylinders;
                 self.no_room_for_the_list(step);
             }
             // 10
