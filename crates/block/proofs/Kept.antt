@@ -8,8 +8,9 @@ use Rattle.judge.specs.declared.Leaving.the-variants.{AsItWas, HeadsAt, HeadsAt
 use Rattle.judge.specs.Fits.{LeavingFits}
 use Rattle.transfer.specs.Progress.{lastTried}
 use Rattle.unit.specs.Landing.{spotOf}
-use Rattle.unit.specs.Standing.{CountsAsInitialized, UnitRecord}
-use Rattle.unit.proofs.Kept.{fresh-counts, mapped-counts, moved-counts}
+use Rattle.spares.specs.Table.{BlankPast}
+use Rattle.unit.specs.Standing.{CountsAsInitialized, UnitRecord, pairs, table}
+use Rattle.unit.proofs.Kept.{fresh-blank, fresh-counts, mapped-blank, mapped-counts, moved-counts}
 use Rattle.unit.proofs.Laws.{spot-inside}
 use Rattle.wire.specs.Promise.{Says}
 use Rattle.block.specs.Block.{leftBy}
@@ -32,3 +33,11 @@ module _ (u : UnitRecord) (moved : ℕ) where
       Says told (CountsAsInitialized (leftBy u moved l))
   stays-told l true needs counts fits = still-counts l counts fits
   stays-told l false needs not-it fits = absurd (not-it (needs fits))
+
+  -- So does a table that is blank past the pairs that count.
+  pub still-blank : (l : Leaving) → BlankPast (pairs u) (table u) → LeavingFits u l → BlankPast (pairs (leftBy u moved l)) (table (leftBy u moved l))
+  still-blank AsItWas past fits = past
+  still-blank (HeadsAt c) past fits = past
+  still-blank (HeadsAtLastTried s) past fits = past
+  still-blank (Fresh g) past fits = fresh-blank g
+  still-blank (Mapped bad spare) past fits = mapped-blank u bad spare (fits .1 .room) past

@@ -157,7 +157,7 @@ module _ (v : Visit) where
 
 -- ---- records and lengths
 
-some-none : (vs : List Visit) → Some (λ v. ⊥) vs → ⊥
+pub some-none : (vs : List Visit) → Some (λ v. ⊥) vs → ⊥
 some-none [] there = there
 some-none (v ∷ vs) (inl here) = here
 some-none (v ∷ vs) (inr there) = some-none vs there

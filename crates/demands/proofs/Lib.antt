@@ -8,5 +8,6 @@ pub mod Reports
 pub mod RunAnswers
 pub mod RunMarks
 pub mod RunNumbers
+pub mod Tables
 pub mod VersionTwo
 pub mod Written

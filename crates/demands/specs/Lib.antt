@@ -1,2 +1,3 @@
 pub mod Footprint
+pub mod Tables
 pub mod Visits

@@ -102,7 +102,7 @@ module _ (u : UnitRecord) (image : ℕ) (host : List ℕ) where
       record {
         fits =
             record {
-              moving = record { span = span; long = omega arith; buffer = good };
+              moving = record { counts = so (counts? u) initialized; span = span; long = omega arith; buffer = good };
               report = tt;
               leaving = (so (counts? u) initialized, span);
             };
@@ -145,6 +145,11 @@ module _ (u : UnitRecord) (image : ℕ) (host : List ℕ) where
             record {
               moving =
                   record {
+                    counts = counts;
+                    cylinder = k .cylinder;
+                    head = k .head;
+                    named = on;
+                    lands = refl;
                     some = counts .within .sizes .sectors .0;
                     track = omega (arith, track-inside u (k .cylinder) (k .head) on, track-whole u (k .cylinder) (k .head));
                     long = omega arith;

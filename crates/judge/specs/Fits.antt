@@ -2,8 +2,10 @@
 -- where the heads go is on the drive. Between the judge and who carries a plan out.
 use Prim.Native.Nat.{ℕ, _+_, _*_, _≤_, _<_}
 use mathlib.Core.List.{List}
+use mathlib.Core.Path.{_≡_}
 use Rattle.geometry.specs.Drive.{B, C, S, driveSectors, need, volumeSectors}
 use Rattle.geometry.specs.Limits.{Within}
+use Rattle.geometry.specs.Sectors.{OnDrive, address}
 use Rattle.memory.specs.Lists.{ListGood, Ranges}
 use Rattle.request.specs.declared.Buffer.{Buffer}
 use Rattle.request.specs.declared.Buffer.the-variants.{Piece, List as Elements}
@@ -11,6 +13,7 @@ use Rattle.spares.specs.Table.{Free}
 use Rattle.spares.specs.Tracks.{TrackOn}
 use Rattle.unit.specs.declared.Span.{Span}
 use Rattle.unit.specs.declared.Spot.{Spot}
+use Rattle.unit.specs.Landing.{trackOf}
 use Rattle.unit.specs.Standing.{CountsAsInitialized, UnitRecord, geometry, pairs, table}
 use Rattle.wire.specs.Memory.{InMemory}
 use Rattle.judge.specs.declared.Job.{Job}
@@ -32,12 +35,20 @@ pub record SpanGood (u : UnitRecord) (s : Span) : Type 0 where
   pub some : 0 < s .count
   pub inside : s .first + s .count ≤ volumeSectors (geometry u) (s .volume)
 
+-- A job on a unit that counts as initialized: its volume has the sectors, the image is long enough, and the buffer is good.
 pub record JobGood (u : UnitRecord) (image : ℕ) (host : List ℕ) (j : Job) : Type 0 where
+  pub counts : CountsAsInitialized u
   pub span : SpanGood u (j .span)
   pub long : need (geometry u) ≤ image
   pub buffer : BufferGood host (j .buffer) (j .span .count * B (geometry u))
 
+-- A format on such a unit: the spot is where a track of the drive lands.
 pub record TrackGood (u : UnitRecord) (image : ℕ) (host : List ℕ) (spot : Spot) (at : ℕ) : Type 0 where
+  pub counts : CountsAsInitialized u
+  pub cylinder : ℕ
+  pub head : ℕ
+  pub named : OnDrive (geometry u) (address cylinder head 0)
+  pub lands : spot ≡ trackOf u cylinder head
   pub some : 0 < S (geometry u)
   pub track : spot .place + S (geometry u) ≤ driveSectors (geometry u)
   pub long : need (geometry u) ≤ image

@@ -12,7 +12,7 @@ use lib.ListN.{getD, length, length-set, set}
 use lib.Seq.{getD-set-other, getD-set-same}
 use Rattle.geometry.specs.declared.Geometry.{Geometry}
 use Rattle.spares.specs.declared.Served.the-variants.{By}
-use Rattle.spares.specs.Table.{Free, Good, InTable, Serves, badOf, served, servedFrom, serves?, spareOf, withPair}
+use Rattle.spares.specs.Table.{BlankPast, Free, Good, InTable, onePairMore, Serves, badOf, served, servedFrom, serves?, spareOf, withPair}
 use Rattle.spares.specs.Tracks.{TrackOn, standsFor}
 use Rattle.spares.proofs.Laws.{served-by-its-spare, serves-first, serves-later, serves-none}
 
@@ -67,6 +67,21 @@ module _ (n : ℕ) (ts : List ℕ) (b s : ℕ) (room : n < 32) (long : length ts
   its-spare =
       ap (λ (l : List ℕ). getD l (2 * n + 1) 0) stored ∙
       getD-set-same (set ts (2 * n) b) (2 * n + 1) s 0 (omega (arith, length-set ts (2 * n) b))
+
+  -- Past the pair the table is as blank as it was.
+  pub blank-past-the-pair : BlankPast n ts → BlankPast (onePairMore n) (withPair n ts b s)
+  blank-past-the-pair past =
+      record {
+        long = long-still;
+        blank = λ i from.
+            let more : onePairMore n ≡ n + 1 = if-pos (decLt n 32) room _ _ in
+            let all : min (n + 1) 32 ≡ n + 1 = min-eq-left (omega arith) in
+            let then-all : min n 32 ≡ n = min-eq-left (omega arith) in
+            let beyond : 2 * (n + 1) ≤ i = omega (arith, rw (more, all) at from) in
+            ap (λ (l : List ℕ). getD l i 0) stored ∙ getD-set-other (set ts (2 * n) b) (2 * n + 1) i s 0 (λ same. omega arith) ∙
+            getD-set-other ts (2 * n) i b 0 (λ same. omega arith) ∙
+            past .blank i (omega (arith, then-all));
+      }
 
   module _ (g : Geometry) where
     -- What a place of the table holds now: what it held, or one of the two.

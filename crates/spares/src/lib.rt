@@ -190,7 +190,7 @@ pub fn serving(table: &[u32; 64], pairs: u16, g: Geometry, cylinder: u16, head: 
 pub fn one_more(pairs: u16) -> u16
     ensures { λ r. ⌜ r ≡ onePairMore pairs ⌝ }
 {
-    if pairs < 32 { pairs + 1 } else { pairs }
+    if 32 <= pairs { pairs } else { pairs + 1 }
 }
 
 // A pair more, after so many. A table without room is left as it is.

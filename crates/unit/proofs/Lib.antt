@@ -1,4 +1,5 @@
 pub mod Answers
+pub mod Apart
 pub mod Decided
 pub mod Kept
 pub mod Laws

@@ -1,7 +1,8 @@
 -- Where one sector, or one track, lands on a unit: its cylinder, its place, and how far its track goes on from there. None of
 -- it asks whether the unit counts as initialized. Everything above goes by these and by proofs/Laws; what is behind is shut.
-use Prim.Native.Nat.{ℕ, _-_}
+use Prim.Native.Nat.{ℕ, _-_, _<_}
 use mathlib.Core.Logic.{ite}
+use mathlib.Core.Path.{_≡_}
 use native.Mathlib.Decide.{decLt}
 use Rattle.geometry.specs.declared.Address.{Address}
 use Rattle.geometry.specs.declared.Geometry.{Geometry}
@@ -12,7 +13,9 @@ use Rattle.geometry.specs.Sectors.{address, addressOf, numbered, onDrive?, plac
 use Rattle.unit.specs.declared.Landing.{Landing}
 use Rattle.spares.specs.declared.Served.{Served}
 use Rattle.spares.specs.declared.Served.the-variants.{Itself, By}
-use Rattle.spares.specs.Table.{servedAt}
+use Rattle.spares.specs.declared.Track.{Track}
+use Rattle.spares.specs.Table.{badOf, servedAt}
+use Rattle.spares.specs.Tracks.{standsFor}
 use Rattle.unit.specs.declared.Spot.{Spot}
 use Rattle.unit.specs.Standing.{UnitRecord, geometry, pairs, table}
 pub mod Behind
@@ -54,3 +57,14 @@ trackLanding u c h = ite (onDrive? (geometry u) (address c h 0)) (Landing.At (tr
 -- The number in a volume of a physical address, which goes by the shape of the drive alone.
 unfoldable pub numberOn : Geometry → VolumeNumber → ℕ → ℕ → ℕ → Number
 numberOn g v c h s = numbered g v c h s
+
+-- A place of the image is one of a track's, and a unit's table has a track as bad: that no block touches such a place is said with these.
+pub record OnTrack (g : Geometry) (k : Track) (place : ℕ) : Type 0 where
+  pub sector : ℕ
+  pub less : sector < S g
+  pub here : place ≡ placeOf g (address (k .cylinder) (k .head) sector)
+
+pub record Bad (u : UnitRecord) (k : Track) : Type 0 where
+  pub pair : ℕ
+  pub counts : pair < pairs u
+  pub bad : standsFor (badOf (table u) pair) ≡ k

@@ -11,10 +11,10 @@ add-result : tie.Need-add-result
 add-result c = search needs
 
 returns : tie.Need-returns
-returns c = sym (if-pos (decLt (c .before .args .pairs) 32) (c .if1 .taken) _ _)
+returns c = sym (if-neg (decLt (c .before .args .pairs) 32) (λ less. omega arith) _ _)
 
 returns-2 : tie.Need-returns-2
-returns-2 c = sym (if-neg (decLt (c .before .args .pairs) 32) (λ less. omega arith) _ _)
+returns-2 c = sym (if-pos (decLt (c .before .args .pairs) 32) (omega arith) _ _)
 
 pub one-more-spec : {M : Type 1} → statement M
 one-more-spec = tie.close (tie.spec add-result returns returns-2)
