@@ -7,7 +7,7 @@ use mathlib.Core.Logic.{by-cases}
 use mathlib.Core.Path.{_≡_, refl, sym, _∙_, ap}
 use native.Mathlib.Omega.{arith}
 use lib.ListN.{drop, getD, length, length-drop, replicate, take-append-drop}
-use lib.Seq.{ext-getD, getD-drop, getD-take, length-take-le}
+use lib.Seq.{ext-getD, getD-drop, getD-take, length-sets, length-take-le}
 use Rattle.wire.specs.Words.{word}
 use Rattle.geometry.specs.declared.Geometry.{Geometry}
 use Rattle.geometry.specs.Drive.{B, C, S}
@@ -18,9 +18,9 @@ use Rattle.unit.specs.Standing.{UnitRecord, bare, byValue, cylinder, geometry, 
 use Rattle.board.specs.Chain.{Ending}
 use Rattle.block.specs.Steps.{written}
 use Rattle.abi.specs.Calls.{recordLeft, standsIn?}
-use Rattle.abi.specs.Layouts.{endingBytes, geometryBytes, openingBytes, outcomeLength, recordBytes, recordIn, recordLength, saysInitialized, trackBytes, tracksIn, twoBytes, wordsFrom}
+use Rattle.abi.specs.Layouts.{endingBytes, geometryBytes, openingBytes, outcomeLength, pairsIn, recordBytes, recordIn, recordLength, saysInitialized, trackBytes, tracksIn, twoBytes, wordsFrom}
 use Rattle.abi.proofs.Left.{left-anew, left-as-it-came, same-tracks}
-use Rattle.abi.proofs.Tracks.{at-the-head, length-tracks, tracks-back, words-past}
+use Rattle.abi.proofs.Tracks.{at-the-head, length-tracks, length-words, past-written, tracks-back, words-past}
 
 -- A record is stored to the last pair that counts, which lies within the layout.
 module _ (u : UnitRecord) (long : length (table u) ≡ 64) where
@@ -55,7 +55,7 @@ unfolding word
 opening-back true g y rest = refl
 opening-back false g y rest = refl
 
-zeros : (n i : ℕ) → _≡_ {A = ℕ} (getD (replicate n 0) i 0) 0
+pub zeros : (n i : ℕ) → _≡_ {A = ℕ} (getD (replicate n 0) i 0) 0
 zeros zero i = refl
 zeros (suc n) zero = refl
 zeros (suc n) (suc i) = zeros n i
@@ -69,6 +69,16 @@ known-by-its-pairs n ts b =
     ext-getD 0 (drop m noTracks) (drop m ts) (simp length-drop (omega (arith, b .long)))
     (λ i less. getD-drop m noTracks i 0 ∙ zeros 64 (m + i) ∙ sym (getD-drop m ts i 0 ∙ b .blank (m + i) (omega arith))) in
     rw (at-the-head noTracks (counted n ts) (omega arith), many, rest, take-append-drop)
+
+-- A table that is read is such a one.
+pub read-blank : (bytes : List ℕ) → BlankPast (pairsIn bytes) (tracksIn bytes)
+unfolding written
+read-blank bytes =
+    let words = wordsFrom bytes 20 (2 * min (pairsIn bytes) 32) in
+    record {
+      long = length-sets noTracks 0 words;
+      blank = λ i from. past-written noTracks 0 words i (omega (arith, length-words bytes 20 (2 * min (pairsIn bytes) 32))) ∙ zeros 64 i;
+    }
 
 -- Bytes in which a record stands read as it.
 reads-as :

@@ -1,6 +1,6 @@
 -- The bytes of a record are stored only where a block changed the record: those of any other come back as they were, also from a call
 -- that is refused. A run keeps the record of a unit of which it writes none, a record that is the same is left as it came, and a store goes no
--- further than the pairs that count.
+-- further than the pairs that count. What a call leaves reads back as the record that its run left.
 use Prim.Native.Nat.{ℕ, _+_, _*_, _≤_, min}
 use mathlib.Core.List.{List}
 use mathlib.Core.Logic.{by-cases}
@@ -12,10 +12,13 @@ use Rattle.request.specs.declared.UnitNumber.the-variants.{Zero, One}
 use Rattle.unit.specs.Standing.{UnitRecord, pairs, table}
 use Rattle.demands.specs.Footprint.{RunWritesRecord}
 use Rattle.demands.proofs.Keeps.{run-keeps-record}
+use Rattle.demands.proofs.Tables.{run-keeps-blank}
+use Rattle.block.specs.World.{World}
+use Rattle.board.specs.Chain.{ran}
 use Rattle.abi.specs.Calls.{Called, Lent, called, calledOf, made, recordLeft, standsIn?, worldIn}
-use Rattle.abi.specs.Layouts.{recordBytes}
+use Rattle.abi.specs.Layouts.{recordBytes, recordIn}
 use Rattle.abi.proofs.Called.{called-made, called-refused-0, called-refused-1, called-refused-2}
-use Rattle.abi.proofs.Laws.{record-length}
+use Rattle.abi.proofs.Laws.{Narrow, left-reads-back, read-blank, record-length}
 use Rattle.abi.proofs.Left.{left-anew, left-as-it-came, stands-as-read}
 use Rattle.abi.proofs.Tracks.{past-written}
 
@@ -43,6 +46,22 @@ module _ (first allowance : ℕ) (l : Lent) where
   record1-comes-back none =
       every-call (λ c. c .lent .record1 ≡ l .record1) (λ code. refl)
       (left-as-it-came (l .record1) _ (stands-as-read (l .record1) (sym (run-keeps-record first allowance (worldIn l) One none))))
+
+  -- After a call that was made a record reads as the one that the run left, its table with it, whatever its bytes were before: two calls in a row are
+  -- two runs in a row.
+  module _ (fits0 : 276 ≤ length (l .record0)) (fits1 : 276 ≤ length (l .record1)) (fits : 16 ≤ length (l .outcome)) where
+    abbrev left : World
+    left = ran first allowance (worldIn l) .world
+
+    pub record0-reads-back : Narrow (left .drive0 .unit) → recordIn (called first allowance l .lent .record0) ≡ left .drive0 .unit
+    record0-reads-back narrow =
+        ap (λ (c : Called). recordIn (c .lent .record0)) (called-made first allowance l fits0 fits1 fits)
+        ∙ left-reads-back (left .drive0 .unit) narrow (run-keeps-blank first allowance (worldIn l) Zero (read-blank (l .record0))) (l .record0) fits0
+
+    pub record1-reads-back : Narrow (left .drive1 .unit) → recordIn (called first allowance l .lent .record1) ≡ left .drive1 .unit
+    record1-reads-back narrow =
+        ap (λ (c : Called). recordIn (c .lent .record1)) (called-made first allowance l fits0 fits1 fits)
+        ∙ left-reads-back (left .drive1 .unit) narrow (run-keeps-blank first allowance (worldIn l) One (read-blank (l .record1))) (l .record1) fits1
 
 -- Of a record that is stored, the bytes past the pairs that count are as they came.
 pub past-the-pairs-as-they-came :
