@@ -3,7 +3,7 @@
 use Prim.Native.Nat.{ℕ, zero, suc, _+_, _-_, _≤_, _<_}
 use mathlib.Core.List.{List}
 use mathlib.Core.Logic.{by-cases, if-neg, if-pos}
-use mathlib.Core.Path.{_≡_, refl}
+use mathlib.Core.Path.{_≡_, refl, sym, _∙_}
 use native.Mathlib.Nat.{add-sub-cancel-left}
 use native.Mathlib.Omega.{arith}
 use lib.ListN.{drop, length, take}
@@ -14,7 +14,8 @@ use Rattle.request.specs.declared.UnitNumber.{UnitNumber}
 use Rattle.request.specs.declared.UnitNumber.the-variants.{Zero, One}
 use Rattle.board.specs.Inspection.{Inspectable, bytesOf, imageOf, inspectable?, noPart, partOf, sectorPart}
 use Rattle.board.specs.declared.inspection.Part.{Part}
-use Rattle.unit.specs.Standing.{UnitRecord, geometry}
+use Rattle.spares.proofs.Laws.{empty-is-good}
+use Rattle.unit.specs.Standing.{CountsAsInitialized, UnitRecord, cylinder, geometry, initialized, noTracks, recordOf}
 
 -- One unit: its sector, or nothing.
 module _ (n : UnitNumber) (u : UnitRecord) (long place : ℕ) where
@@ -25,6 +26,24 @@ module _ (n : UnitNumber) (u : UnitRecord) (long place : ℕ) where
 
   pub sector-not-there : (Inspectable u long place → ⊥) → sectorPart n u long place ≡ noPart
   sector-not-there not-there = if-neg (inspectable? u long place) not-there _ _
+
+-- "The inspection call still goes by place in the image" (02, K5): of a unit that counts as initialized it hands back what it would without a table.
+pub maps-nothing :
+    (n : UnitNumber) (u : UnitRecord) (long place : ℕ) → CountsAsInitialized u →
+    sectorPart n u long place ≡ sectorPart n (recordOf (initialized u) (geometry u) (cylinder u) 0 noTracks) long place
+maps-nothing n u long place counts =
+    let without = recordOf (initialized u) (geometry u) (cylinder u) 0 noTracks in
+    let so : CountsAsInitialized without =
+    record { said = counts .said; within = counts .within; cylinder = counts .cylinder; good = empty-is-good (geometry u) noTracks refl } in
+    by-cases (inspectable? u long place)
+    (λ there.
+    sector-there n u long place there
+    ∙ sym (sector-there n without long place (record { initialized = so; inside = there .inside; image = there .image })))
+    (λ not-there.
+    sector-not-there n u long place not-there
+    ∙ sym
+    (sector-not-there n without long place
+    (λ there. not-there (record { initialized = counts; inside = there .inside; image = there .image }))))
 
 -- The unit's number picks the unit.
 module _ (u0 u1 : UnitRecord) (long0 long1 place : ℕ) where

@@ -121,7 +121,7 @@ module _ (v : Visit) where
       by-way (stopped stop) =
           absurd (subst BeforeTransfer (stopped-with (namedDrive v .image) (transferBy (askedOf v)) r stop) early)
 
-  -- So each of 10 to 19 is "given in its stated case and no other" (00, demand 1): a check's answer is the block's exactly where its
+  -- So each of 10 to 19, and of 22 and 23, is "given in its stated case and no other" (00, demand 1): a check's answer is the block's exactly where its
   -- case is given and that of no check before it, "Block answers, in order".
   pub answered-in-its-case :
       (before : List Check) (k : Check) (rest : List Check) → checks (askedOf v) ≡ before ++ k ∷ rest →
