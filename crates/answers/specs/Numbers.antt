@@ -1,4 +1,4 @@
--- The number of each answer (01, Answer numbers), and the status of a block.
+-- The number of each answer (01, Answer numbers; 02, K5), and the status of a block.
 use Prim.Native.Nat.{ℕ, _≤_}
 use mathlib.Core.Path.{_≡_}
 use Rattle.answers.specs.declared.BlockAnswer.{BlockAnswer}
@@ -37,7 +37,7 @@ refusalNumber UibOutsideLimits = 13
 refusalNumber VolumeAbsent = 14
 -- "count 0"
 refusalNumber CountZero = 15
--- "first sector outside the volume, or the last; 8C: track outside the drive"
+-- "first sector outside the volume, or the last; 8C: track outside the drive; 8A: the one address only"; 85: "either track" (02, K5)
 refusalNumber SectorOutside = 16
 -- "image shorter than the geometry needs"
 refusalNumber ImageShort = 17

@@ -1,4 +1,5 @@
--- The inspection call (01, Answer numbers, last paragraph): which part of which image it hands back.
+-- The inspection call (01, Answer numbers, last paragraph): which part of which image it hands back. It "still goes by place in the image" (02, K5),
+-- and a unit whose table is not good is not initialized here too.
 use Prim.Native.Nat.{ℕ, zero, suc, _≤_, _<_}
 use mathlib.Core.List.{List}
 use mathlib.Core.Logic.{ite, Dec·and}

@@ -309,7 +309,7 @@ module _ (first allowance : ℕ) (w : World) where
   )
 
   -- "A record handed in with a geometry outside the limits, or a cylinder of C or more, counts as not initialized; unless an 87
-  -- succeeds it is handed back as it came" (01, Geometry).
+  -- succeeds it is handed back as it came" (01, Geometry); so is one with a table that is not good (02, K5).
   pub bad-record-handed-back :
       (n : UnitNumber) → (CountsAsInitialized (driveOf w n .unit) → ⊥) →
       (Some (λ v. (names v ≡ n) × Renews (askedOf v)) (fetchedBy first allowance w) → ⊥) →

@@ -3,7 +3,7 @@
 use Prim.Native.Nat.{ℕ, _+_, _-_, _*_, _/_, _%_, _≤_, _<_}
 use mathlib.Core.Bool.{Bool}
 use mathlib.Core.List.{List, [], _++_}
-use mathlib.Core.Logic.{by-cases}
+use mathlib.Core.Logic.{_⊎_, by-cases, inl, inr}
 use mathlib.Core.Path.{_≡_, refl, sym, ap, subst, _∙_}
 use native.Mathlib.Nat.{div-lt-iff-lt-mul, mod-lt, zero-add, zero-mul}
 use native.Mathlib.Omega.{arith}
@@ -22,6 +22,7 @@ use Rattle.wire.specs.Memory.{Among}
 use Rattle.judge.specs.declared.Moving.{Moving}
 use Rattle.judge.specs.declared.Moving.the-variants.{Nothing, Sectors, Track as Tracked}
 use Rattle.judge.specs.declared.Leaving.{Leaving}
+use Rattle.judge.specs.declared.Leaving.the-variants.{AsItWas, HeadsAt, HeadsAtLastTried, Fresh, Mapped}
 use Rattle.judge.specs.declared.Plan.{Plan}
 use Rattle.judge.specs.declared.Report.{Report}
 use Rattle.judge.specs.declared.Verdict.{Verdict}
@@ -44,12 +45,12 @@ use Rattle.block.specs.Block.{Effect, begun, finish, finished, reported, judged
 use Rattle.block.specs.World.{Drive, World, driveOf}
 use Rattle.block.proofs.Kept.{still-blank, still-counts}
 use Rattle.board.specs.Chain.{ran}
-use Rattle.demands.specs.Footprint.{DiskData, askedOf, comes, leavingOf, movingOf, namedDrive, names, transferBy, verdictOf}
-use Rattle.demands.specs.Tables.{AddsItsPair, TrackByte}
+use Rattle.demands.specs.Footprint.{DiskData, Renews, Some, askedOf, comes, leavingOf, movingOf, namedDrive, names, transferBy, verdictOf}
+use Rattle.demands.specs.Tables.{AddsItsPair, Maps, TrackByte}
 use Rattle.demands.specs.Tables.TrackByte.{data-byte, mark-byte}
 use Rattle.demands.specs.Visits.{Visit, blockOf, effectOf, fetchedBy, worldLeft}
 use Rattle.demands.proofs.Fits.{drives-geometry, leaving-fits, moving-fits, on-drive}
-use Rattle.demands.proofs.Keeps.{block-keeps-drive, named-record, run-hands, same-unit?, some-none, unit-left}
+use Rattle.demands.proofs.Keeps.{block-keeps-drive, named-record, run-hands, run-keeps, same-unit?, some-none, unit-left}
 use Rattle.demands.proofs.Written.{effect-is}
 
 -- ---- no bad track is touched
@@ -168,7 +169,7 @@ module _ (P : UnitRecord → Type 0) (kept : (u : UnitRecord) (moved : ℕ) (l :
   run-hands-records first allowance w n now =
       run-hands (λ x. P (driveOf x n .unit)) first allowance w (λ v. ⊥) (λ v out so. block-hands n v so) (some-none (fetchedBy first allowance w)) now
 
--- A unit that counts as initialized still does after every block and every run: so is a table that 87 and 85 made, and no other is needed.
+-- A unit that counts as initialized still does after every block and every run: a table that 87 and 85 made is always good.
 pub block-keeps-counting :
     (v : Visit) (n : UnitNumber) → CountsAsInitialized (driveOf (v .world) n .unit) → CountsAsInitialized (driveOf (worldLeft v) n .unit)
 block-keeps-counting v n = block-hands CountsAsInitialized still-counts n v
@@ -184,3 +185,35 @@ pub run-keeps-blank :
     let u = driveOf (ran first allowance w .world) n .unit in
     BlankPast (pairs u) (table u)
 run-keeps-blank = run-hands-records (λ u. BlankPast (pairs u) (table u)) still-blank
+
+-- A table is changed by a successful 85 or 87 for its unit and by nothing else: heads move over it, and refused blocks leave it.
+abbrev pairsAndTracks : UnitRecord → ℕ × List ℕ
+pairsAndTracks u = (pairs u, table u)
+
+pub block-keeps-table :
+    (v : Visit) (n : UnitNumber) → ((names v ≡ n) × (Renews (askedOf v) ⊎ Maps (askedOf v)) → ⊥) →
+    pairsAndTracks (driveOf (worldLeft v) n .unit) ≡ pairsAndTracks (driveOf (v .world) n .unit)
+block-keeps-table v n none =
+    by-cases (same-unit? (names v) n) here (λ other. ap (λ (d : Drive). pairsAndTracks (d .unit)) (block-keeps-drive v n other))
+  where
+    kept :
+        (l : Leaving) → leavingOf (verdictOf v) ≡ l → (Renews (askedOf v) ⊎ Maps (askedOf v) → ⊥) →
+        pairsAndTracks (leftBy (namedDrive v .unit) (effectOf v .sectors) l) ≡ pairsAndTracks (namedDrive v .unit)
+    kept AsItWas is out = refl
+    kept (HeadsAt c) is out = refl
+    kept (HeadsAtLastTried s) is out = refl
+    kept (Fresh g) is out = absurd (out (inl (g, is)))
+    kept (Mapped bad spare) is out = absurd (out (inr (bad, (spare, is))))
+
+    here : names v ≡ n → pairsAndTracks (driveOf (worldLeft v) n .unit) ≡ pairsAndTracks (driveOf (v .world) n .unit)
+    here named =
+        subst (λ (m : UnitNumber). pairsAndTracks (driveOf (worldLeft v) m .unit) ≡ pairsAndTracks (driveOf (v .world) m .unit)) named
+        (ap pairsAndTracks (named-record v ∙ unit-left v) ∙ kept (leavingOf (verdictOf v)) refl (λ does. none (named, does)))
+
+pub run-keeps-table :
+    (first allowance : ℕ) (w : World) (n : UnitNumber) →
+    (Some (λ v. (names v ≡ n) × (Renews (askedOf v) ⊎ Maps (askedOf v))) (fetchedBy first allowance w) → ⊥) →
+    pairsAndTracks (driveOf (ran first allowance w .world) n .unit) ≡ pairsAndTracks (driveOf w n .unit)
+run-keeps-table first allowance w n none =
+    run-keeps (λ x. pairsAndTracks (driveOf x n .unit)) first allowance w (λ v. (names v ≡ n) × (Renews (askedOf v) ⊎ Maps (askedOf v)))
+    (λ v out. block-keeps-table v n out) none

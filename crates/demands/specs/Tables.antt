@@ -8,13 +8,15 @@ use Rattle.geometry.specs.declared.Geometry.{Geometry}
 use Rattle.geometry.specs.Drive.{B}
 use Rattle.geometry.specs.Sectors.{firstByte, markByte}
 use Rattle.request.specs.declared.Pair.{Pair}
-use Rattle.judge.specs.Given.{badNumber, spareNumber}
+use Rattle.judge.specs.declared.Leaving.the-variants.{Mapped}
+use Rattle.judge.specs.Given.{Asked, badNumber, spareNumber}
+use Rattle.judge.specs.Verdict.{verdict}
 use Rattle.spares.specs.declared.Track.{Track}
 use Rattle.unit.specs.Landing.{OnTrack}
 use Rattle.unit.specs.Standing.{mapped}
 use Rattle.wire.specs.Memory.{Among}
 use Rattle.block.specs.Block.{begun, finish}
-use Rattle.demands.specs.Footprint.{namedDrive}
+use Rattle.demands.specs.Footprint.{leavingOf, namedDrive}
 use Rattle.demands.specs.Visits.{Visit, blockOf, effectOf}
 
 -- A block adds a pair and does nothing else: "85 moves neither data nor heads". It stores its word 1, twice, and its entry with travel 0, and
@@ -24,6 +26,10 @@ pub record AddsItsPair (v : Visit) (k : Pair) : Type 0 where
   pub sectors : effectOf v .sectors ≡ 0
   pub stores : effectOf v .stores ≡ begun (v .at) ++ finish (blockOf v) (v .at) (v .index) Ended (pos 0)
   pub unit : effectOf v .unit ≡ mapped (namedDrive v .unit) (badNumber k) (spareNumber k)
+
+-- An 85 that succeeds: a pair is added.
+abbrev pub Maps : Asked → Type 0
+Maps a = (bad : ℕ) × ((spare : ℕ) × (leavingOf (verdict a) ≡ Mapped bad spare))
 
 -- A byte of the image is one of a track's: of one of its sectors, or a sector's mark.
 pub data TrackByte (g : Geometry) (k : Track) (x : ℕ) : Type 0 where

@@ -32,7 +32,7 @@ pub struct Geometry {
     volume1: Volume,
 }
 
-// A sector of the drive. Its head is counted over the whole drive, since 8C reaches heads that no volume has.
+// A sector of the drive. Its head is counted over the whole drive, since 8C and a spare track reach heads that no volume has.
 pub struct Address {
     pub cylinder: u16,
     pub head: u16,

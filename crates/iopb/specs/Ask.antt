@@ -1,4 +1,4 @@
--- The request that a block makes (01, The block, One run).
+-- The request that a block makes (01, The block, One run; 02, K5).
 use Prim.Native.Nat.{ℕ, _/_, _^_}
 use mathlib.Core.Bool.{Bool, true, false, cond}
 use mathlib.Core.List.{List, [], _∷_}
@@ -50,7 +50,8 @@ abbrev pub trackOf : Block → Track
 trackOf b = record { cylinder = b .cylinder; head = b .head; buffer = b .address }
 
 -- 85: "Words 2 and 3 name the bad track, words 4 and 5 the spare, both physical over the whole drive" (02, K5), a cylinder and then a head
--- in the upper byte, as the manual has it. Word 4 is a count elsewhere, and the upper byte of word 5 the first of the address.
+-- in the upper byte, as the manual has it. Word 4 is a count elsewhere, and the upper byte of word 5 the first of the address. The lower bytes of
+-- words 3 and 5, word 6, VO and XL are not looked at.
 abbrev pub pairOf : Block → Pair
 pairOf b =
     record {

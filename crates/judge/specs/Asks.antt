@@ -1,4 +1,4 @@
--- What each command is asked, in the order of the answers (01, Answer numbers), and what it does where no check refuses it. Whatever
+-- What each command is asked, in the order of the answers (01, Answer numbers; 02, K5), and what it does where no check refuses it. Whatever
 -- goes by command stands here; Table compares it with the paper's rows.
 use Prim.Native.Nat.{ℕ, _*_, _≤_, _<_}
 use mathlib.Core.Bool.{Bool, true, false}
@@ -203,7 +203,7 @@ planOf u (Moves m) = carrying (jobOf m (found (beginsAt u (m .target))))
 planOf u Handshake = plan Moving.Nothing Identity AsItWas
 -- "87 replaces the unit record"
 planOf u (Initialize s) = only (renewed s)
--- "89 goes to cylinder 0", "8A goes to the address given"
+-- "89 goes to cylinder 0"; "8A goes to the address given", to the cylinder on which that lands
 planOf u Restore = only (HeadsAt 0)
 planOf u (Seek t) = only (HeadsAt (spotOf u (t .volume) (found (beginsAt u t)) .cylinder))
 -- 8C reports how many sectors the track has (02, K1). "The heads end on the named cylinder", but where the track is bad "the heads then stand

@@ -1,4 +1,4 @@
--- What is judged, and the cases of the answers before transfer that need words of their own (01, Answer numbers).
+-- What is judged, and the cases of the answers before transfer that need words of their own (01, Answer numbers; 02, K5).
 use Prim.Native.Nat.{ℕ, _+_, _-_, _<_}
 use mathlib.Core.List.{List}
 use Rattle.geometry.specs.declared.Geometry.{Geometry}
@@ -30,7 +30,7 @@ pub record Asked : Type 0 where
 abbrev pub on : UnitRecord → (image : ℕ) → Task → (host : List ℕ) → Asked
 on u image t host = record { task = t; unit = u; image = image; host = host }
 
--- The same as the judge is handed it.
+-- The same as the judge is handed it. That the record counts as initialized, which it is told besides, follows from the record.
 abbrev pub asked : Task → Standing → (tracks host : List ℕ) → Asked
 asked t s tracks host = on (unitOf (s .record) tracks) (s .image) t host
 

@@ -1,4 +1,4 @@
--- The data of a block: which bytes its transfer moves (01, One run: 81, 82, A1, A2 and 8C).
+-- The data of a block: which bytes its transfer moves (01, One run: 81, 82, A1, A2 and 8C; 02, K5).
 use Prim.Native.Nat.{ℕ, _+_, _*_, _/_, _%_, _<_}
 use mathlib.Core.Bool.{Bool, true, false, not, cond, _&&_}
 use mathlib.Core.List.{List}
@@ -25,7 +25,7 @@ pub record Transfer : Type 0 where
   pub host-byte : ℕ → ℕ
 
 -- The place of sector j from a number of a volume on: "Consecutive sectors go by sector, head, cylinder" (01, Geometry), which is
--- the order of the numbers (the geometry's law numbers-consecutive).
+-- the order of the numbers (the geometry's law numbers-consecutive). Each stands where its number lands, on a spare where its track is bad.
 abbrev pub placeFrom : UnitRecord → VolumeNumber → ℕ → ℕ → ℕ
 placeFrom u v first j = spotOf u v (first + j) .place
 
@@ -42,8 +42,8 @@ moving u to-host past-marks v first count host-byte =
       host-byte = host-byte;
     }
 
--- 8C "takes B bytes and writes them to every sector of the named track": its S sectors stand in a row from its first on (the
--- geometry's law track-consecutive).
+-- 8C "takes B bytes and writes them to every sector of the named track", or of the spare that serves it: the S sectors stand in a row from the
+-- first on, where the track lands (the unit's law landed-in-a-row, the geometry's track-consecutive).
 abbrev pub formatting : UnitRecord → Spot → ℕ → Transfer
 formatting u spot at =
     record {

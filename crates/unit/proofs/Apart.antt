@@ -16,9 +16,9 @@ use Rattle.geometry.proofs.Laws as geometry
 use Rattle.spares.specs.declared.Served.{Served}
 use Rattle.spares.specs.declared.Served.the-variants.{Itself, By}
 use Rattle.spares.specs.declared.Track.{Track}
-use Rattle.spares.specs.Table.{badOf, landsOn, numberServing, served, servedAt}
+use Rattle.spares.specs.Table.{badOf, landsOn, numberServing, served, servedAt, spareOf}
 use Rattle.spares.specs.Tracks.{TrackOn, standsFor, trackNumber}
-use Rattle.spares.proofs.Laws.{never-on-a-bad-track, number-again}
+use Rattle.spares.proofs.Laws.{never-on-a-bad-track, number-again, served-by-its-spare}
 use Rattle.unit.specs.Landing.{Bad, OnTrack, landed, onto, spotOf, trackOf}
 use Rattle.unit.specs.Landing.Behind.{landed-is, spotAt-is, spotOf-is, trackOf-is}
 use Rattle.unit.specs.Standing.{CountsAsInitialized, UnitRecord, pairs, table}
@@ -41,18 +41,33 @@ module _ (u : UnitRecord) (counts : CountsAsInitialized u) where
       subst (λ (p : ℕ). p < driveSectors g) (sym (there .here))
       (geometry.place-inside g (address (k .cylinder) (k .head) (there .sector)) (bad-on-drive k bad (there .sector) (there .less)))
 
+  by-its-number :
+      (a : Address) → OnDrive g a →
+      servedAt g (pairs u) (table u) (a .cylinder) (a .head) ≡ served g (pairs u) (table u) (trackNumber (a .cylinder) (a .head))
+  by-its-number a on =
+      let low : a .head < 256 = omega (arith, on .head, heads-of-within g (counts .within .volumes)) in
+      if-pos (decLt (a .head) 256) low _ _
+
   -- The number of the track that an address lands on is the one that its track's number lands on.
   lands-by-number : (a : Address) → OnDrive g a → landsOn g (pairs u) (table u) (trackNumber (a .cylinder) (a .head)) ≡ trackNumber (landed u a .cylinder) (landed u a .head)
   lands-by-number a on =
-      let low : a .head < 256 = omega (arith, on .head, heads-of-within g (counts .within .volumes)) in
-      let by : servedAt g (pairs u) (table u) (a .cylinder) (a .head) ≡ served g (pairs u) (table u) (trackNumber (a .cylinder) (a .head)) =
-      if-pos (decLt (a .head) 256) low _ _ in
       by-served (served g (pairs u) (table u) (trackNumber (a .cylinder) (a .head)))
-      ∙ ap (λ (b : Address). trackNumber (b .cylinder) (b .head)) (sym (landed-is u a ∙ ap (λ (x : Served). onto x a) by))
+      ∙ ap (λ (b : Address). trackNumber (b .cylinder) (b .head)) (sym (landed-is u a ∙ ap (λ (x : Served). onto x a) (by-its-number a on)))
     where
       by-served : (x : Served) → numberServing (trackNumber (a .cylinder) (a .head)) x ≡ trackNumber (onto x a .cylinder) (onto x a .head)
       by-served Itself = refl
       by-served (By k) = refl
+
+  -- "Every later command that lands on a bad track works on its spare": an address on the bad track of a pair lands on that pair's spare, at the same
+  -- sector.
+  pub bad-lands-on-its-spare :
+      (a : Address) → OnDrive g a → (i : ℕ) → i < pairs u → trackNumber (a .cylinder) (a .head) ≡ badOf (table u) i →
+      let k = standsFor (spareOf (table u) i) in
+      landed u a ≡ address (k .cylinder) (k .head) (a .sector)
+  bad-lands-on-its-spare a on i less is =
+      landed-is u a
+      ∙ ap (λ (x : Served). onto x a)
+      (by-its-number a on ∙ ap (served g (pairs u) (table u)) is ∙ served-by-its-spare g (pairs u) (table u) (counts .good) i less)
 
   pub never-lands-on-bad : (a : Address) → OnDrive g a → (k : Track) → Bad u k → OnTrack g k (placeOf g (landed u a)) → ⊥
   never-lands-on-bad a on k bad there =

@@ -1,5 +1,5 @@
 -- Where one sector, or one track, lands on a unit: its cylinder, its place, and how far its track goes on from there. None of
--- it asks whether the unit counts as initialized. Everything above goes by these and by proofs/Laws; what is behind is shut.
+-- it asks whether the unit counts as initialized. Everything above goes by these and by the laws of proofs/; what is behind is shut.
 use Prim.Native.Nat.{ℕ, _-_, _<_}
 use mathlib.Core.Logic.{ite}
 use mathlib.Core.Path.{_≡_}
@@ -64,6 +64,7 @@ pub record OnTrack (g : Geometry) (k : Track) (place : ℕ) : Type 0 where
   pub less : sector < S g
   pub here : place ≡ placeOf g (address (k .cylinder) (k .head) sector)
 
+-- Where more pairs are said to count than there is room for, the table is not good and no block goes by it.
 pub record Bad (u : UnitRecord) (k : Track) : Type 0 where
   pub pair : ℕ
   pub counts : pair < pairs u

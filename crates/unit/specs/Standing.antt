@@ -39,7 +39,7 @@ unitOf r ts = record { held = r; tracks = ts }
 abbrev pub byValue : UnitRecord → Record
 byValue u = u .held
 
--- What goes by value alone, for whoever asks it what no table tells; with pairs that count it never counts as initialized.
+-- What goes by value alone, for whoever asks it what no table tells. Without a table it never counts as initialized.
 abbrev pub bare : Record → UnitRecord
 bare r = unitOf r []
 
