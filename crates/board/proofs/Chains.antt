@@ -20,19 +20,18 @@ use Rattle.transfer.specs.Stores.{Buffers}
 use Rattle.board.specs.declared.Units.{Units}
 use Rattle.block.specs.declared.Done.{Done}
 use Rattle.board.specs.declared.chain.Count.{Count}
-use Rattle.board.specs.declared.chain.Learnt.{Learnt}
-use Rattle.board.specs.declared.chain.Outcome.{Outcome}
+use Rattle.board.specs.declared.chain.End.{End}
 use Rattle.board.specs.declared.chain.Stepped.{Stepped}
 use Rattle.block.specs.declared.Known.the-variants.{Counts}
 use Rattle.block.specs.Block.{Effect, effectAt, effectOn, unitAt, worldAfter}
-use Rattle.board.specs.Chain.{Ending, Tally, ends, executed, fetched}
-use Rattle.board.specs.Steps.{CameTo, Spare, SteppedTo, countedOf, endedOf, tallyOf, wentOf}
+use Rattle.board.specs.Chain.{Ending, Tally, ends, executed, fetched, nothing}
+use Rattle.board.specs.Steps.{CameTo, EndedIn, Spare, SteppedTo, countedOf, endedOf, nothingCounted, outcomeWith, steppedOf, tallyOf, toldOf}
 use Rattle.block.specs.Steps.{Did, Knows}
 use Rattle.unit.specs.Standing.{unitOf}
 use Rattle.unit.proofs.Decided.{counts?}
 use Rattle.wire.proofs.Promises.{decided-says}
 use Rattle.block.specs.World.{World, buffersOf, changed, driveOf}
-use Rattle.board.specs.Lent.{worldOf}
+use Rattle.board.specs.Lent.{unitsOf}
 
 module _ (w : World) (at i : ℕ) (n : UnitNumber) (named : unitAt w at ≡ n) where
   effect-named : effectAt at i w ≡ effectOn (w .host) (driveOf w n) at i
@@ -40,11 +39,11 @@ module _ (w : World) (at i : ℕ) (n : UnitNumber) (named : unitAt w at ≡ n) w
   effect-named = ap (λ (x : UnitNumber). effectOn (w .host) (driveOf w x) at i) named
 
   step-made :
-      (m : Buffers) (ts : List ℕ) (d : Done) (units : Units) (l : Learnt) →
+      (m : Buffers) (ts : List ℕ) (d : Done) (units : Units) →
       Did (blockAt (w .host) at) (effectOn (w .host) (driveOf w n) at i) (buffersOf w n) m ts d →
-      SteppedTo w at i (changed w n m (unitOf (d .unit) ts)) (wentOf d units l .stepped)
+      SteppedTo w at i (changed w n m (unitOf (d .unit) ts)) (steppedOf (toldOf d) units)
   unfolding worldAfter
-  step-made m ts d units l did =
+  step-made m ts d units did =
       rw (did .result, did .table, did .stored)
       (record {
         world = rw (effect-named, named);
@@ -57,10 +56,10 @@ module _ (w : World) (at i : ℕ) (n : UnitNumber) (named : unitAt w at ≡ n) w
 -- The same with the unit as it was told: it is the unit of the block's request.
 pub step-by :
     (w : World) (at i : ℕ) (x n : UnitNumber) → x ≡ ask.unitOf (blockAt (w .host) at) → x ≡ n →
-    (m : Buffers) (ts : List ℕ) (d : Done) (units : Units) (l : Learnt) →
+    (m : Buffers) (ts : List ℕ) (d : Done) (units : Units) →
     Did (blockAt (w .host) at) (effectOn (w .host) (driveOf w n) at i) (buffersOf w n) m ts d →
-    SteppedTo w at i (changed w n m (unitOf (d .unit) ts)) (wentOf d units l .stepped)
-step-by w at i x n asks is m ts d units l did = step-made w at i n (sym asks ∙ is) m ts d units l did
+    SteppedTo w at i (changed w n m (unitOf (d .unit) ts)) (steppedOf (toldOf d) units)
+step-by w at i x n asks is m ts d units did = step-made w at i n (sym asks ∙ is) m ts d units did
 
 -- Whether its unit counts as initialized then, a block tells.
 pub told-then :
@@ -109,15 +108,25 @@ module _ (left : ℕ) (t : Tally) (at : ℕ) (w : World) (some : 0 < left) where
 
 -- ---- an end
 
-pub came-to :
-    (answer : RunAnswer) (failed : ℕ) (count : Count) (units : Units) (host image0 image1 events tracks0 tracks1 : List ℕ) (e : Ending) →
-    e ≡ ends answer failed (tallyOf count) (worldOf host image0 image1 events tracks0 tracks1 units) →
-    CameTo e (worldOf host image0 image1 events tracks0 tracks1 units) (endedOf answer failed count units)
-came-to answer failed count units host image0 image1 events tracks0 tracks1 e is = rw is (record { result = refl; world = refl })
+pub ended-in :
+    (answer : RunAnswer) (failed : ℕ) (count : Count) (w : World) (e : Ending) →
+    e ≡ ends answer failed (tallyOf count) w → EndedIn e w (endedOf answer failed count)
+ended-in answer failed count w e is = rw is (record { result = refl; world = refl })
 
 -- An end that is another's.
-pub came-the-same : (e f : Ending) (w : World) (r : Outcome) → e ≡ f → CameTo f w r → CameTo e w r
-came-the-same e f w r same came = rw same came
+pub ended-the-same : (e f : Ending) (w : World) (r : End) → e ≡ f → EndedIn f w r → EndedIn e w r
+ended-the-same e f w r same ended = rw same ended
+
+-- What a run came to is how its chain ended, with the records of the world that it left.
+pub came-to : (e : Ending) (w : World) (r : End) → EndedIn e w r → CameTo e w (outcomeWith r (unitsOf w))
+came-to e w r ended =
+    record { result = λ t. outcomeWith (ended .result t) (unitsOf (ended .world t)); world = ended .world }
+
+-- A run that is refused has counted nothing.
+pub came-refused :
+    (answer : RunAnswer) (w : World) (e : Ending) → e ≡ ends answer 0 nothing w →
+    CameTo e w (outcomeWith (endedOf answer 0 nothingCounted) (unitsOf w))
+came-refused answer w e is = came-to e w (endedOf answer 0 nothingCounted) (ended-in answer 0 nothingCounted w e is)
 
 -- What is spare after a block.
 pub spare-less :

@@ -1,7 +1,7 @@
 -- What a caller of a run lends, as a world.
 use Prim.Native.Nat.{ℕ}
 use mathlib.Core.List.{List}
-use Rattle.unit.specs.Standing.{unitOf}
+use Rattle.unit.specs.Standing.{byValue, unitOf}
 use Rattle.block.specs.World.{World}
 use Rattle.board.specs.declared.Units.{Units}
 
@@ -13,3 +13,7 @@ worldOf host image0 image1 events tracks0 tracks1 units =
       drive1 = record { unit = unitOf (units .one) tracks1; image = image1 };
       events = events;
     }
+
+-- The records of a world's two units, as they go by value.
+abbrev pub unitsOf : World → Units
+unitsOf w = record { zero = byValue (w .drive0 .unit); one = byValue (w .drive1 .unit) }

@@ -1,4 +1,5 @@
 pub mod Chain
 pub mod Inspection
 pub mod Lent
+pub mod Records
 pub mod Steps

@@ -14,14 +14,28 @@ use Rattle.unit.specs.Standing.{UnitRecord, byValue}
 use Rattle.block.specs.World.{World}
 use Rattle.board.specs.declared.Units.{Units}
 use Rattle.board.specs.declared.chain.Count.{Count}
+use Rattle.board.specs.declared.chain.End.{End}
 use Rattle.board.specs.declared.chain.Learnt.{Learnt}
 use Rattle.board.specs.declared.chain.Outcome.{Outcome}
 use Rattle.board.specs.declared.chain.Single.{Single}
 use Rattle.board.specs.declared.chain.Single.the-variants.{Ran, NoRoom}
 use Rattle.board.specs.declared.chain.Went.{Went}
 use Rattle.board.specs.declared.chain.Stepped.{Stepped}
+use Rattle.board.specs.declared.chain.Told.{Told}
 use Rattle.board.specs.Chain.{Ending, Tally}
-use Rattle.board.specs.Lent.{worldOf}
+use Rattle.board.specs.Lent.{unitsOf, worldOf}
+
+-- What is returned of a block, in two parts: what it told, and the record that it left of its unit.
+abbrev pub toldOf : Done → Told
+toldOf d = record { counts = d .counts; answer = d .answer; sectors = d .sectors; linked = d .linked; link = d .link }
+
+abbrev pub doneWith : Told → UnitRecord → Done
+doneWith t u =
+    record { unit = byValue u; counts = t .counts; answer = t .answer; sectors = t .sectors; linked = t .linked; link = t .link }
+
+-- What a block told, with the records of both units.
+abbrev pub steppedOf : Told → Units → Stepped
+steppedOf t units = record { units = units; answer = t .answer; sectors = t .sectors; linked = t .linked; link = t .link }
 
 -- A block of a chain: the world after it, and what the chain goes by.
 pub record SteppedTo (w : World) (at i : ℕ) (w′ : World) (s : Stepped) : Type 0 where
@@ -36,29 +50,28 @@ abbrev pub KnowsBoth : Learnt → (zero one : UnitRecord) → Type 0
 KnowsBoth l zero one = Knows (l .zero) zero × Knows (l .one) one
 
 pub record SteppedOn (w : World) (at i : ℕ) (w′ : World) (s : Went) : Type 0 where
-  pub to : SteppedTo w at i w′ (s .stepped)
+  pub to : SteppedTo w at i w′ (steppedOf (s .told) (unitsOf w′))
   pub knows : KnowsBoth (s .learnt) (w′ .drive0 .unit) (w′ .drive1 .unit)
-
-abbrev pub wentOf : Done → Units → Learnt → Went
-wentOf d units learnt =
-    record {
-      stepped = record { units = units; answer = d .answer; sectors = d .sectors; linked = d .linked; link = d .link };
-      learnt = learnt;
-    }
 
 abbrev pub nothingLearnt : Learnt
 nothingLearnt = record { zero = Unasked; one = Unasked }
 
--- A chain that has come to its end: what is returned, and the world.
+-- How a chain ends, but for the world that it leaves.
+abbrev pub endOf : Ending → End
+endOf e = record { answer = e .answer; failed = e .failed; blocks = e .tally .blocks; sectors = e .tally .sectors }
+
+-- What a run came to: how its chain ended, with the records that it left.
+abbrev pub outcomeWith : End → Units → Outcome
+outcomeWith r units =
+    record { answer = r .answer; failed = r .failed; blocks = r .blocks; sectors = r .sectors; units = units }
+
 abbrev pub outcomeOf : Ending → Outcome
-outcomeOf e =
-    record {
-      answer = e .answer;
-      failed = e .failed;
-      blocks = e .tally .blocks;
-      sectors = e .tally .sectors;
-      units = record { zero = byValue (e .world .drive0 .unit); one = byValue (e .world .drive1 .unit) };
-    }
+outcomeOf e = outcomeWith (endOf e) (unitsOf (e .world))
+
+-- A chain that has come to its end: what is returned, and the world. Along the chain the records are in the world alone.
+pub record EndedIn (e : Ending) (w : World) (r : End) : Type 0 where
+  pub result : r ≡ endOf e
+  pub world : w ≡ e .world
 
 pub record CameTo (e : Ending) (w : World) (r : Outcome) : Type 0 where
   pub result : r ≡ outcomeOf e
@@ -76,9 +89,8 @@ tallyOf t = record { blocks = t .blocks; sectors = t .sectors }
 abbrev pub countedOf : Count → ℕ → Count
 countedOf t sectors = record { blocks = t .blocks + 1; sectors = t .sectors + sectors }
 
-abbrev pub endedOf : RunAnswer → ℕ → Count → Units → Outcome
-endedOf answer failed t units =
-    record { answer = answer; failed = failed; blocks = t .blocks; sectors = t .sectors; units = units }
+abbrev pub endedOf : RunAnswer → ℕ → Count → End
+endedOf answer failed t = record { answer = answer; failed = failed; blocks = t .blocks; sectors = t .sectors }
 
 abbrev pub nothingCounted : Count
 nothingCounted = record { blocks = 0; sectors = 0 }
@@ -93,4 +105,4 @@ RanOne w at i host image0 image1 events tracks0 tracks1 (Ran s) =
     Fetchable w at i × SteppedTo w at i (worldOf host image0 image1 events tracks0 tracks1 (s .units)) s
 RanOne w at i host image0 image1 events tracks0 tracks1 NoRoom =
     (Fetchable w at i → ⊥) ×
-    (worldOf host image0 image1 events tracks0 tracks1 (record { zero = byValue (w .drive0 .unit); one = byValue (w .drive1 .unit) }) ≡ w)
+    (worldOf host image0 image1 events tracks0 tracks1 (unitsOf w) ≡ w)

@@ -1,5 +1,8 @@
 // A chain: each block is fetched and executed, and one that ends with a link leads to fetching the next.
 use crate::Units;
+use crate::records::numbers_of;
+use crate::records::record_of;
+use crate::records::units_of;
 use answers::BlockAnswer;
 use answers::Refusal;
 use answers::RunAnswer;
@@ -11,18 +14,29 @@ ghost use mathlib.Core.Path.{_≡_};
 ghost use Prim.Native.Nat.{_+_, _*_, _≤_};
 ghost use lib.ListN.{length};
 ghost use Rattle.board.specs.Chain.{executed, fetched, ran};
-ghost use Rattle.board.specs.Steps.{CameTo, KnowsBoth, RanOne, Spare, SteppedOn, countedOf, endedOf, nothingCounted, nothingLearnt, wentOf, tallyOf};
-ghost use Rattle.block.specs.Steps.{Room};
+ghost use Rattle.board.specs.Steps.{CameTo, EndedIn, KnowsBoth, RanOne, Spare, SteppedOn, countedOf, doneWith, endedOf, nothingCounted, nothingLearnt, outcomeWith, steppedOf, tallyOf, toldOf};
+ghost use Rattle.block.specs.Block.{effectOn};
+ghost use Rattle.block.specs.Steps.{Did, Knows, Room, driveWith, three};
 ghost use Rattle.board.specs.Lent.{worldOf};
-ghost use Rattle.unit.specs.Standing.{unitOf};
+ghost use Rattle.board.specs.Records.{unitIn, unitsIn};
+ghost use Rattle.iopb.specs.Layout.{blockAt};
 ghost use Rattle.wire.specs.Memory.{InMemory};
 ghost use Rattle.wire.specs.Promise.{Says};
 ghost use Rattle.answers.specs.declared.RunAnswer.{RunAnswer};
 ghost use Rattle.answers.specs.Numbers.{refusalNumber};
 
-// What a chain goes by after a block.
+// What a block alone came to: the records that it left, what it told, and what it said of the next.
 pub struct Stepped {
     pub units: Units,
+    pub answer: BlockAnswer,
+    pub sectors: u16,
+    pub linked: bool,
+    pub link: u32,
+}
+
+// What a chain goes by after a block, and whether the block's unit counts as initialized then.
+pub(crate) struct Told {
+    pub counts: bool,
     pub answer: BlockAnswer,
     pub sectors: u16,
     pub linked: bool,
@@ -37,12 +51,20 @@ pub(crate) struct Learnt {
 
 // A block of a chain: what the chain goes by after it, and what it has learnt.
 pub(crate) struct Went {
-    pub stepped: Stepped,
+    pub told: Told,
     pub learnt: Learnt,
 }
 
 // The blocks run and the sectors moved so far.
 pub(crate) struct Count {
+    pub blocks: u32,
+    pub sectors: u32,
+}
+
+// How a chain ended, but for the records: these are left where they are lent. `failed` is as in an outcome.
+pub(crate) struct End {
+    pub answer: RunAnswer,
+    pub failed: u8,
     pub blocks: u32,
     pub sectors: u32,
 }
@@ -56,8 +78,41 @@ pub struct Outcome {
     pub units: Units,
 }
 
-// One block of a chain, on the drive of its request's unit. The block itself is read below, since what stands here stays on the stack while the
+// What a block tells the chain, without the record that it left of its unit.
+fn told_by(done: Done) -> Told
+    ensures { λ t. ⌜ t ≡ toldOf done ⌝ }
+{
+    let answer = done.answer;
+    Told {
+        counts: done.counts,
+        answer,
+        sectors: done.sectors,
+        linked: done.linked,
+        link: done.link,
+    }
+}
+
+// A block on the drive of one unit. The unit's record goes by value here alone: what stands in the functions below stays on the stack while the
 // rest of the chain runs.
+fn work_on(
+    host: &mut [u8],
+    image: &mut [u8],
+    events: &mut [u8],
+    held: &mut [u16; 10],
+    known: Known,
+    map: &mut [u32; 64],
+    at: usize,
+    i: usize,
+) -> Told
+    requires { ⌜ Room (now host) (now events) at i × Knows known (unitIn (now held) (now map)) ⌝ }
+    ensures { λ t. ⌜ Did (blockAt (now (host .entry)) at) (effectOn (now (host .entry)) (driveWith (unitIn (now (held .entry)) (now (map .entry))) (now (image .entry))) at i) (three (now (host .entry)) (now (image .entry)) (now (events .entry))) (three (now (host .exit)) (now (image .exit)) (now (events .exit))) (now (map .exit)) (doneWith t (unitIn (now (held .exit)) (now (map .exit)))) ⌝ }
+{
+    let done = run_block(host, image, events, record_of(held), known, map, at, i);
+    *held = numbers_of(done.unit);
+    told_by(done)
+}
+
+// One block of a chain, on the drive of its request's unit.
 pub(crate) fn step(
     host: &mut [u8],
     image0: &mut [u8],
@@ -65,58 +120,35 @@ pub(crate) fn step(
     events: &mut [u8],
     map0: &mut [u32; 64],
     map1: &mut [u32; 64],
-    units: Units,
+    record0: &mut [u16; 10],
+    record1: &mut [u16; 10],
     learnt: Learnt,
     at: usize,
     i: usize,
 ) -> Went
-    requires { ⌜ Room (now host) (now events) at i × KnowsBoth learnt (unitOf (units .zero) (now map0)) (unitOf (units .one) (now map1)) ⌝ }
-    ensures { λ s. ⌜ SteppedOn (worldOf (now (host .entry)) (now (image0 .entry)) (now (image1 .entry)) (now (events .entry)) (now (map0 .entry)) (now (map1 .entry)) units) at i (worldOf (now (host .exit)) (now (image0 .exit)) (now (image1 .exit)) (now (events .exit)) (now (map0 .exit)) (now (map1 .exit)) (s .stepped .units)) s ⌝ }
+    requires { ⌜ Room (now host) (now events) at i × KnowsBoth learnt (unitIn (now record0) (now map0)) (unitIn (now record1) (now map1)) ⌝ }
+    ensures { λ s. ⌜ SteppedOn (worldOf (now (host .entry)) (now (image0 .entry)) (now (image1 .entry)) (now (events .entry)) (now (map0 .entry)) (now (map1 .entry)) (unitsIn (now (record0 .entry)) (now (record1 .entry)))) at i (worldOf (now (host .exit)) (now (image0 .exit)) (now (image1 .exit)) (now (events .exit)) (now (map0 .exit)) (now (map1 .exit)) (unitsIn (now (record0 .exit)) (now (record1 .exit)))) s ⌝ }
 {
-    let zero = units.zero;
-    let one = units.one;
-    let of_zero = learnt.zero;
-    let of_one = learnt.one;
+    let zero = learnt.zero;
+    let one = learnt.one;
     match iopb::unit_at(host, at) {
         UnitNumber::Zero => {
-            let done = run_block(host, image0, events, zero, of_zero, map0, at, i);
-            let zero = done.unit;
-            went_on(
-                done,
-                Units { zero, one },
-                Learnt {
-                    zero: Known::Counts(done.counts),
-                    one: of_one,
-                },
-            )
+            let told = work_on(host, image0, events, record0, zero, map0, at, i);
+            let zero = Known::Counts(told.counts);
+            Went {
+                told,
+                learnt: Learnt { zero, one },
+            }
         }
         UnitNumber::One => {
-            let done = run_block(host, image1, events, one, of_one, map1, at, i);
-            let one = done.unit;
-            went_on(
-                done,
-                Units { zero, one },
-                Learnt {
-                    zero: of_zero,
-                    one: Known::Counts(done.counts),
-                },
-            )
+            let told = work_on(host, image1, events, record1, one, map1, at, i);
+            let one = Known::Counts(told.counts);
+            Went {
+                told,
+                learnt: Learnt { zero, one },
+            }
         }
     }
-}
-
-fn went_on(done: Done, units: Units, learnt: Learnt) -> Went
-    ensures { λ s. ⌜ s ≡ wentOf done units learnt ⌝ }
-{
-    let answer = done.answer;
-    let stepped = Stepped {
-        units,
-        answer,
-        sectors: done.sectors,
-        linked: done.linked,
-        link: done.link,
-    };
-    Went { stepped, learnt }
 }
 
 // What a chain knows before its first block.
@@ -136,23 +168,22 @@ fn holds_block(host: &[u8], at: u32) -> bool
     wire::holds(host, at, 28)
 }
 
-fn ended(answer: RunAnswer, failed: u8, count: Count, units: Units) -> Outcome
-    ensures { λ r. ⌜ r ≡ endedOf answer failed count units ⌝ }
+fn ended(answer: RunAnswer, failed: u8, count: Count) -> End
+    ensures { λ r. ⌜ r ≡ endedOf answer failed count ⌝ }
 {
-    Outcome {
+    End {
         answer,
         failed,
         blocks: count.blocks,
         sectors: count.sectors,
-        units,
     }
 }
 
 // A failed block ends the chain, with its number.
-fn failed(r: Refusal, count: Count, units: Units) -> Outcome
-    ensures { λ o. ⌜ o ≡ endedOf RunAnswer.BlockFailed (refusalNumber r) count units ⌝ }
+fn failed(r: Refusal, count: Count) -> End
+    ensures { λ o. ⌜ o ≡ endedOf RunAnswer.BlockFailed (refusalNumber r) count ⌝ }
 {
-    ended(RunAnswer::BlockFailed, r.number(), count, units)
+    ended(RunAnswer::BlockFailed, r.number(), count)
 }
 
 // Each fetch spends one of the allowance. What is asked first, before the block's address is looked at, is whether any is left.
@@ -163,20 +194,21 @@ fn fetch(
     events: &mut [u8],
     map0: &mut [u32; 64],
     map1: &mut [u32; 64],
-    units: Units,
+    record0: &mut [u16; 10],
+    record1: &mut [u16; 10],
     learnt: Learnt,
     at: u32,
     left: u32,
     count: Count,
-) -> Outcome
-    requires { ⌜ Spare (now events) left (tallyOf count) × KnowsBoth learnt (unitOf (units .zero) (now map0)) (unitOf (units .one) (now map1)) ⌝ }
-    ensures { λ r. ⌜ CameTo (fetched left (tallyOf count) at (worldOf (now (host .entry)) (now (image0 .entry)) (now (image1 .entry)) (now (events .entry)) (now (map0 .entry)) (now (map1 .entry)) units)) (worldOf (now (host .exit)) (now (image0 .exit)) (now (image1 .exit)) (now (events .exit)) (now (map0 .exit)) (now (map1 .exit)) (r .units)) r ⌝ }
+) -> End
+    requires { ⌜ Spare (now events) left (tallyOf count) × KnowsBoth learnt (unitIn (now record0) (now map0)) (unitIn (now record1) (now map1)) ⌝ }
+    ensures { λ r. ⌜ EndedIn (fetched left (tallyOf count) at (worldOf (now (host .entry)) (now (image0 .entry)) (now (image1 .entry)) (now (events .entry)) (now (map0 .entry)) (now (map1 .entry)) (unitsIn (now (record0 .entry)) (now (record1 .entry))))) (worldOf (now (host .exit)) (now (image0 .exit)) (now (image1 .exit)) (now (events .exit)) (now (map0 .exit)) (now (map1 .exit)) (unitsIn (now (record0 .exit)) (now (record1 .exit)))) r ⌝ }
 {
     if left == 0 {
-        return ended(RunAnswer::AllowanceSpent, 0, count, units);
+        return ended(RunAnswer::AllowanceSpent, 0, count);
     }
     if !holds_block(host, at) {
-        return ended(RunAnswer::LinkBad, 0, count, units);
+        return ended(RunAnswer::LinkBad, 0, count);
     }
     execute(
         host,
@@ -185,7 +217,8 @@ fn fetch(
         events,
         map0,
         map1,
-        units,
+        record0,
+        record1,
         learnt,
         at,
         left - 1,
@@ -201,14 +234,15 @@ fn execute(
     events: &mut [u8],
     map0: &mut [u32; 64],
     map1: &mut [u32; 64],
-    units: Units,
+    record0: &mut [u16; 10],
+    record1: &mut [u16; 10],
     learnt: Learnt,
     at: u32,
     left: u32,
     count: Count,
-) -> Outcome
-    requires { ⌜ InMemory (now host) at 28 × Spare (now events) (left + 1) (tallyOf count) × KnowsBoth learnt (unitOf (units .zero) (now map0)) (unitOf (units .one) (now map1)) ⌝ }
-    ensures { λ r. ⌜ CameTo (executed (fetched left) (tallyOf count) at (worldOf (now (host .entry)) (now (image0 .entry)) (now (image1 .entry)) (now (events .entry)) (now (map0 .entry)) (now (map1 .entry)) units)) (worldOf (now (host .exit)) (now (image0 .exit)) (now (image1 .exit)) (now (events .exit)) (now (map0 .exit)) (now (map1 .exit)) (r .units)) r ⌝ }
+) -> End
+    requires { ⌜ InMemory (now host) at 28 × Spare (now events) (left + 1) (tallyOf count) × KnowsBoth learnt (unitIn (now record0) (now map0)) (unitIn (now record1) (now map1)) ⌝ }
+    ensures { λ r. ⌜ EndedIn (executed (fetched left) (tallyOf count) at (worldOf (now (host .entry)) (now (image0 .entry)) (now (image1 .entry)) (now (events .entry)) (now (map0 .entry)) (now (map1 .entry)) (unitsIn (now (record0 .entry)) (now (record1 .entry))))) (worldOf (now (host .exit)) (now (image0 .exit)) (now (image1 .exit)) (now (events .exit)) (now (map0 .exit)) (now (map1 .exit)) (unitsIn (now (record0 .exit)) (now (record1 .exit)))) r ⌝ }
 {
     let step = step(
         host,
@@ -217,18 +251,17 @@ fn execute(
         events,
         map0,
         map1,
-        units,
+        record0,
+        record1,
         learnt,
         at as usize,
         count.blocks as usize,
     );
-    let s = step.stepped;
-    let learnt = step.learnt;
-    let units = s.units;
+    let s = step.told;
     let answer = s.answer;
     let count = counted(count, s.sectors);
     match answer {
-        BlockAnswer::Failed(r) => failed(r, count, units),
+        BlockAnswer::Failed(r) => failed(r, count),
         BlockAnswer::Ended => {
             if s.linked {
                 fetch(
@@ -238,14 +271,15 @@ fn execute(
                     events,
                     map0,
                     map1,
-                    units,
-                    learnt,
+                    record0,
+                    record1,
+                    step.learnt,
                     s.link,
                     left,
                     count,
                 )
             } else {
-                ended(RunAnswer::Done, 0, count, units)
+                ended(RunAnswer::Done, 0, count)
             }
         }
     }
@@ -287,6 +321,27 @@ fn is_allowance(n: u32) -> bool
     n <= 64
 }
 
+// A run's outcome: how its chain ended, and the records that it left.
+fn outcome_with(end: End, units: Units) -> Outcome
+    ensures { λ r. ⌜ r ≡ outcomeWith end units ⌝ }
+{
+    let answer = end.answer;
+    Outcome {
+        answer,
+        failed: end.failed,
+        blocks: end.blocks,
+        sectors: end.sectors,
+        units,
+    }
+}
+
+// A run that is refused counts nothing, and leaves the records as they are.
+fn refused(answer: RunAnswer, units: Units) -> Outcome
+    ensures { λ r. ⌜ r ≡ outcomeWith (endedOf answer 0 nothingCounted) units ⌝ }
+{
+    outcome_with(ended(answer, 0, nothing()), units)
+}
+
 // Runs the chain from the first block on, once the event buffer, the allowance and that block's place have been found good.
 pub fn run(
     host: &mut [u8],
@@ -302,33 +357,51 @@ pub fn run(
     ensures { λ r. ⌜ CameTo (ran first allowance (worldOf (now (host .entry)) (now (image0 .entry)) (now (image1 .entry)) (now (events .entry)) (now (map0 .entry)) (now (map1 .entry)) units)) (worldOf (now (host .exit)) (now (image0 .exit)) (now (image1 .exit)) (now (events .exit)) (now (map0 .exit)) (now (map1 .exit)) (r .units)) r ⌝ }
 {
     if !holds_entries(events) {
-        return ended(RunAnswer::EventsShort, 0, nothing(), units);
+        return refused(RunAnswer::EventsShort, units);
     }
     if !is_allowance(allowance) {
-        return ended(RunAnswer::AllowanceBad, 0, nothing(), units);
+        return refused(RunAnswer::AllowanceBad, units);
     }
     if !holds_block(host, first) {
-        return ended(RunAnswer::FirstBad, 0, nothing(), units);
+        return refused(RunAnswer::FirstBad, units);
     }
-    fetch(
+    let mut record0 = numbers_of(units.zero);
+    let mut record1 = numbers_of(units.one);
+    let end = fetch(
         host,
         image0,
         image1,
         events,
         map0,
         map1,
-        units,
+        &mut record0,
+        &mut record1,
         unasked(),
         first,
         allowance,
         nothing(),
-    )
+    );
+    outcome_with(end, units_of(&record0, &record1))
 }
 
 // What a block alone came to, or that it cannot be fetched or has no room for its entry.
 pub enum Single {
     Ran(Stepped),
     NoRoom,
+}
+
+// What a block told, with the records of both units.
+fn stepped_with(told: Told, units: Units) -> Stepped
+    ensures { λ s. ⌜ s ≡ steppedOf told units ⌝ }
+{
+    let answer = told.answer;
+    Stepped {
+        units,
+        answer,
+        sectors: told.sectors,
+        linked: told.linked,
+        link: told.link,
+    }
 }
 
 // Runs the one block at an address, as the block of a run after i others, and follows no link.
@@ -351,6 +424,8 @@ pub fn run_one(
     if (events.len() as u64) < 8 * (i as u64) + 8 {
         return Single::NoRoom;
     }
+    let mut record0 = numbers_of(units.zero);
+    let mut record1 = numbers_of(units.one);
     let step = step(
         host,
         image0,
@@ -358,11 +433,12 @@ pub fn run_one(
         events,
         map0,
         map1,
-        units,
+        &mut record0,
+        &mut record1,
         unasked(),
         at as usize,
         i as usize,
     );
-    let stepped = step.stepped;
-    Single::Ran(stepped)
+    let told = step.told;
+    Single::Ran(stepped_with(told, units_of(&record0, &record1)))
 }

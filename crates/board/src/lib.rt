@@ -6,6 +6,7 @@ ghost use mathlib.Core.Path.{_≡_};
 
 mod chain;
 mod inspection;
+mod records;
 
 pub use chain::Outcome;
 pub use chain::Single;

@@ -1,4 +1,5 @@
--- Where the block can be fetched and has room for its entry, it is the step; elsewhere nothing is touched.
+-- Where the block can be fetched and has room for its entry, it is the step, on the records as numbers; elsewhere nothing is touched.
+-- A record comes back from its numbers, so the step begins with the records that came.
 use mathlib.Core.Path.{refl}
 use native.Mathlib.Omega.{arith}
 use Rattle.wire.proofs.Promises.{denied, granted}
@@ -29,31 +30,46 @@ same-length-2 c = search needs
 returns-2 : tie.Need-returns-2
 returns-2 c = search needs
 
+numbers-of-requires : tie.Need-numbers-of-requires
+numbers-of-requires c κs = search needs
+
+numbers-of-requires-2 : tie.Need-numbers-of-requires-2
+numbers-of-requires-2 c κs = search needs
+
 unasked-requires : tie.Need-unasked-requires
 unasked-requires c κs = search needs
 
 step-requires : tie.Need-step-requires
 step-requires c κs =
-    let held = c .before .before .before .before .before .before .before .before .before .holds-block in
-    let place = granted (held .result) _ (c .before .before .before .before .before .before .before .before .if1 .left) (held .ensures) in
+    let held = c .before .before .before .before .before .before .before .before .before .before .before .before .before .holds-block in
+    let place = granted (held .result) _ (c .before .before .before .before .before .before .before .before .before .before .before .before .if1 .left) (held .ensures) in
     (record { block = place .inside; entry = omega arith }, rw (c .unasked .ensures) (tt, tt))
 
+units-of-requires : tie.Need-units-of-requires
+units-of-requires c κs = search needs
+
+stepped-with-requires : tie.Need-stepped-with-requires
+stepped-with-requires c κs = search needs
+
 same-length-3 : tie.Need-same-length-3
-same-length-3 c = search needs
+same-length-3 c = c .before .before .before .before .before .before .before .before .before .before .before .before .before .step .kept .0
 
 same-length-4 : tie.Need-same-length-4
-same-length-4 c = search needs
+same-length-4 c = c .before .before .before .before .before .before .before .before .before .before .before .before .before .step .kept .1 .0
 
 same-length-5 : tie.Need-same-length-5
-same-length-5 c = search needs
+same-length-5 c = c .before .before .before .before .before .before .before .before .before .before .before .before .before .step .kept .1 .1 .0
 
 same-length-6 : tie.Need-same-length-6
-same-length-6 c = search needs
+same-length-6 c = c .before .before .before .before .before .before .before .before .before .before .before .before .before .step .kept .1 .1 .1 .0
 
 returns-3 : tie.Need-returns-3
 returns-3 c =
-    let held = c .before .before .before .before .before .before .before .before .before .before .before .before .before .before .before .before .before .before .before .holds-block in
-    (record { place = granted (held .result) _ (c .before .before .before .before .before .before .before .before .before .before .before .before .before .before .before .before .before .before .if1 .left) (held .ensures); entry = omega (arith, c .before .before .before .before .before .before .before .before .before .before .before .before .before .before .before .before .before .if2 .left) }, c .before .before .before .before .before .before .before .before .before .step .ensures .to)
+    let held = c .before .before .before .before .before .before .before .before .before .before .before .before .before .before .before .before .before .before .before .before .before .before .before .before .before .before .before .holds-block in
+    rw (c .stepped-with .ensures, c .before .units-of .ensures) (
+      record { place = granted (held .result) _ (c .before .before .before .before .before .before .before .before .before .before .before .before .before .before .before .before .before .before .before .before .before .before .before .before .before .before .if1 .left) (held .ensures); entry = omega (arith, c .before .before .before .before .before .before .before .before .before .before .before .before .before .before .before .before .before .before .before .before .before .before .before .before .before .if2 .left) },
+      rw (c .before .before .before .before .before .before .before .before .before .before .before .before .before .before .before .before .before .before .before .before .before .before .before .before .numbers-of .ensures, c .before .before .before .before .before .before .before .before .before .before .before .before .before .before .before .before .before .before .before .before .before .before .before .numbers-of2 .ensures) at (c .before .before .before .before .before .before .before .before .before .before .before .before .before .step .ensures .to),
+    )
 
 pub run-one-spec : {M : Type 1} → statement M
 run-one-spec =
@@ -66,8 +82,12 @@ run-one-spec =
     add-if2
     same-length-2
     returns-2
+    numbers-of-requires
+    numbers-of-requires-2
     unasked-requires
     step-requires
+    units-of-requires
+    stepped-with-requires
     same-length-3
     same-length-4
     same-length-5

@@ -3,6 +3,8 @@
 use Rattle.request.specs.declared.UnitNumber.{UnitNumber}
 use Rattle.block.specs.Steps.{three}
 use Rattle.board.specs.Lent.{worldOf}
+use Rattle.board.specs.Records.{unitIn, unitsIn}
+use Rattle.board.specs.Steps.{doneWith}
 use Rattle.board.proofs.Chains.{step-by, told-then}
 use borrow.Author.Needs.{needs}
 use Rattle.board.proofs.chain.step.Statement.{statement}
@@ -14,24 +16,14 @@ unit-at-requires c κs = search needs
 enum-told : tie.Need-enum-told
 enum-told c = search needs
 
-run-block-requires : tie.Need-run-block-requires
-run-block-requires c κs =
-    let start = c .before .before .before .before .before .before .before .before .before .before .before .before .before .before in
-    (start .pre .0, start .pre .1 .0)
-
-went-on-requires : tie.Need-went-on-requires
-went-on-requires c κs = search needs
+work-on-requires : tie.Need-work-on-requires
+work-on-requires c κs = search needs
 
 enum-told-2 : tie.Need-enum-told-2
 enum-told-2 c = search needs
 
-run-block-requires-2 : tie.Need-run-block-requires-2
-run-block-requires-2 c κs =
-    let start = c .before .before .before .before .before .before .before .before .before .before .before .before .before .before in
-    (start .pre .0, start .pre .1 .1)
-
-went-on-requires-2 : tie.Need-went-on-requires-2
-went-on-requires-2 c κs = search needs
+work-on-requires-2 : tie.Need-work-on-requires-2
+work-on-requires-2 c κs = search needs
 
 same-length : tie.Need-same-length
 same-length c = search needs
@@ -44,17 +36,18 @@ same-length-3 c = search needs
 
 returns : tie.Need-returns
 returns c =
-    let start = c .before .before .before .before .before .before .before .before .before .before .before .before .before .before .before .before .before .before .before .before .before .before .before in
+    let start = c .before .before .before .before .before .before .before .before .before .before .before .before .before .before .before .before .before .before .before .before in
     let a = start .args in
-    let done = c .before .before .before .before .before .before .before .before .run-block in
-    let told = told-then _ _ _ _ _ (done .result) (done .ensures) in
-    rw (c .went-on .ensures)
-    (record {
+    let w = (worldOf (a .host .now) (a .image0 .now) (a .image1 .now) (a .events .now) (a .map0 .now) (a .map1 .now) (unitsIn (a .record0 .now) (a .record1 .now))) in
+    let block = c .before .before .before .before .before .before .work-on in
+    let done = doneWith (block .result) (unitIn (block .last .1 .1 .1 .0) (block .last .1 .1 .1 .1 .1 .0)) in
+    let told = told-then _ _ _ _ _ done (block .ensures) in
+    record {
       to =
-          step-by (worldOf (a .host .now) (a .image0 .now) (a .image1 .now) (a .events .now) (a .map0 .now) (a .map1 .now) (a .units)) (a .at) (a .i) _ UnitNumber.Zero (c .before .before .before .before .before .before .before .before .before .before .before .before .before .before .before .unit-at .ensures) (c .before .before .before .before .before .before .before .before .before .before .before .before .before .enum-told .given .1)
-          (three (done .last .0) (done .last .1 .0) (done .last .1 .1 .0)) (done .last .1 .1 .1 .1 .1 .0) (done .result) _ (a .learnt) (done .ensures);
+          step-by w (a .at) (a .i) _ UnitNumber.Zero (c .before .before .before .before .before .before .before .before .before .before .before .before .before .before .unit-at .ensures) (c .before .before .before .before .before .before .before .before .before .before .before .before .enum-told .given .1)
+          (three (block .last .0) (block .last .1 .0) (block .last .1 .1 .0)) (block .last .1 .1 .1 .1 .1 .0) done _ (block .ensures);
       knows = (told, start .pre .1 .1);
-    })
+    }
 
 same-length-4 : tie.Need-same-length-4
 same-length-4 c = search needs
@@ -67,17 +60,18 @@ same-length-6 c = search needs
 
 returns-2 : tie.Need-returns-2
 returns-2 c =
-    let start = c .before .before .before .before .before .before .before .before .before .before .before .before .before .before .before .before .before .before .before .before .before .before .before in
+    let start = c .before .before .before .before .before .before .before .before .before .before .before .before .before .before .before .before .before .before .before .before in
     let a = start .args in
-    let done = c .before .before .before .before .before .before .before .before .run-block2 in
-    let told = told-then _ _ _ _ _ (done .result) (done .ensures) in
-    rw (c .went-on2 .ensures)
-    (record {
+    let w = (worldOf (a .host .now) (a .image0 .now) (a .image1 .now) (a .events .now) (a .map0 .now) (a .map1 .now) (unitsIn (a .record0 .now) (a .record1 .now))) in
+    let block = c .before .before .before .before .before .before .work-on2 in
+    let done = doneWith (block .result) (unitIn (block .last .1 .1 .1 .0) (block .last .1 .1 .1 .1 .1 .0)) in
+    let told = told-then _ _ _ _ _ done (block .ensures) in
+    record {
       to =
-          step-by (worldOf (a .host .now) (a .image0 .now) (a .image1 .now) (a .events .now) (a .map0 .now) (a .map1 .now) (a .units)) (a .at) (a .i) _ UnitNumber.One (c .before .before .before .before .before .before .before .before .before .before .before .before .before .before .before .unit-at .ensures) (c .before .before .before .before .before .before .before .before .before .before .before .before .before .enum-told2 .given .1)
-          (three (done .last .0) (done .last .1 .0) (done .last .1 .1 .0)) (done .last .1 .1 .1 .1 .1 .0) (done .result) _ (a .learnt) (done .ensures);
+          step-by w (a .at) (a .i) _ UnitNumber.One (c .before .before .before .before .before .before .before .before .before .before .before .before .before .before .unit-at .ensures) (c .before .before .before .before .before .before .before .before .before .before .before .before .enum-told2 .given .1)
+          (three (block .last .0) (block .last .1 .0) (block .last .1 .1 .0)) (block .last .1 .1 .1 .1 .1 .0) done _ (block .ensures);
       knows = (start .pre .1 .0, told);
-    })
+    }
 
 pub step-spec : {M : Type 1} → statement M
 step-spec =
@@ -85,11 +79,9 @@ step-spec =
     (tie.spec
     unit-at-requires
     enum-told
-    run-block-requires
-    went-on-requires
+    work-on-requires
     enum-told-2
-    run-block-requires-2
-    went-on-requires-2
+    work-on-requires-2
     same-length
     same-length-2
     same-length-3

@@ -1,0 +1,45 @@
+-- The block is run on the record of the numbers, and the numbers are made those of the record that it leaves.
+-- A record comes back from its numbers, so what the block did is told by the numbers as well.
+use borrow.Author.Needs.{needs}
+use Rattle.board.proofs.chain.work_on.Statement.{statement}
+use Rattle.board.proofs.chain.work_on.Tie as tie
+
+record-of-requires : tie.Need-record-of-requires
+record-of-requires c κs = search needs
+
+run-block-requires : tie.Need-run-block-requires
+run-block-requires c κs =
+    let start = c .before .before .before .before .before .before .before .before .before in
+    (start .pre .0, rw (c .before .record-of .ensures) (start .pre .1))
+
+numbers-of-requires : tie.Need-numbers-of-requires
+numbers-of-requires c κs = search needs
+
+told-by-requires : tie.Need-told-by-requires
+told-by-requires c κs = search needs
+
+same-length : tie.Need-same-length
+same-length c = search needs
+
+same-length-2 : tie.Need-same-length-2
+same-length-2 c = search needs
+
+same-length-3 : tie.Need-same-length-3
+same-length-3 c = search needs
+
+returns : tie.Need-returns
+returns c =
+    rw (c .told-by .ensures, c .before .numbers-of .ensures) (rw (c .before .before .before .before .before .before .before .before .before .before .record-of .ensures) at (c .before .before .before .before .before .before .before .before .run-block .ensures))
+
+pub work-on-spec : {M : Type 1} → statement M
+work-on-spec =
+    tie.close
+    (tie.spec
+    record-of-requires
+    run-block-requires
+    numbers-of-requires
+    told-by-requires
+    same-length
+    same-length-2
+    same-length-3
+    returns)
