@@ -11,18 +11,10 @@ use Rattle.wire.specs.Words.{be32, with32, word}
 use Rattle.wire.proofs.Laws.{word-same}
 use Rattle.block.specs.Events.{bigEndian}
 use Rattle.block.specs.Steps.{written}
-use Rattle.block.proofs.Entries.{with32-is}
+use Rattle.block.proofs.Entries.{with32-is, written-row}
 use Rattle.abi.specs.Layouts.{trackBytes, wordsFrom}
 
--- ---- stores in a row
-
--- Two lists stored one after the other are one.
-pub written-row : (l : List ℕ) (at : ℕ) (xs ys : List ℕ) → written (written l at xs) (at + length xs) ys ≡ written l at (xs ++ ys)
-unfolding written
-written-row l at [] ys = rw add-zero
-written-row l at (x ∷ xs) ys =
-    let next : at + suc (length xs) ≡ suc at + length xs = omega arith in
-    rw next (written-row (set l at x) (suc at) xs ys)
+-- ---- what stands once a list is stored
 
 -- Stored from the first place on, a list stands at the head.
 pub at-the-head : (l xs : List ℕ) → length xs ≤ length l → written l 0 xs ≡ xs ++ drop (length xs) l

@@ -1,7 +1,7 @@
 -- An entry that is stored byte by byte is the buffer with the entry's 8 bytes stored in a row.
 -- A word of 32 bits is four stores in a row, and these follow the four before them.
 use Prim.Native.Nat.{ℕ, suc, _+_, _≤_}
-use mathlib.Core.List.{List, [], _∷_}
+use mathlib.Core.List.{List, [], _∷_, _++_}
 use mathlib.Core.Path.{_≡_, sym, _∙_}
 use native.Mathlib.Nat.{add-zero}
 use native.Mathlib.Numerals.{add-one}
@@ -50,6 +50,14 @@ pub entry-stored :
     after ≡ written bytes at (entry b answer travel)
 unfolding written
 entry-stored bytes at b answer travel s e l v t is = is ∙ in-a-row bytes at _ _ _ _ _ ∙ rw (s, e, l, v, t)
+
+-- Two lists stored one after the other are one.
+pub written-row : (bytes : List ℕ) (at : ℕ) (xs ys : List ℕ) → written (written bytes at xs) (at + length xs) ys ≡ written bytes at (xs ++ ys)
+unfolding written
+written-row bytes at [] ys = rw add-zero
+written-row bytes at (x ∷ xs) ys =
+    let next : at + suc (length xs) ≡ suc at + length xs = omega arith in
+    rw next (written-row (set bytes at x) (suc at) xs ys)
 
 -- Two bytes stored one after the other.
 pub two-written : (bytes : List ℕ) (at a b : ℕ) → set (set bytes (at + 2) a) (at + 3) b ≡ written bytes (at + 2) (a ∷ b ∷ [])

@@ -126,7 +126,8 @@ performed host d at plan =
       travel = travelled (cylinder (d .unit)) (plan .leaving) (cylinder unit);
     }
 
--- "For 10 to 19", and for 22 and 23 (02, K5), "only the block's word 1 and its event entry change"; travel is "zero for .. a block refused before transfer".
+-- "For 10 to 19", and for 22 and 23 (02, K5), "only the block's word 1 and its event entry change"; travel is "zero for .. a block refused
+-- before transfer".
 abbrev pub refused : Drive → Refusal → Performance
 refused d r = record { stores = []; unit = d .unit; answer = BlockAnswer.Failed r; sectors = 0; travel = pos 0 }
 

@@ -1,5 +1,6 @@
 -- What is known of a plan that was let through: what is moved fits the drive, the image and host memory, what is reported fits its bytes, and
--- what is left of the record counts as initialized: heads on the drive, a geometry inside the limits, a pair that fits. Between the judge and who carries a plan out.
+-- what is left of the record counts as initialized: heads on the drive, a geometry inside the limits, a pair that fits. Between the judge and
+-- who carries a plan out.
 use Prim.Native.Nat.{ℕ, _+_, _*_, _≤_, _<_}
 use mathlib.Core.List.{List}
 use mathlib.Core.Path.{_≡_}

@@ -30,7 +30,7 @@ pub record Asked : Type 0 where
 abbrev pub on : UnitRecord → (image : ℕ) → Task → (host : List ℕ) → Asked
 on u image t host = record { task = t; unit = u; image = image; host = host }
 
--- The same as the judge is handed it. That the record counts as initialized, which it is told besides, follows from the record.
+-- The same as the judge is handed it. Whether the record counts as initialized, which it is told besides, is no part of what is asked: the record says it.
 abbrev pub asked : Task → Standing → (tracks host : List ℕ) → Asked
 asked t s tracks host = on (unitOf (s .record) tracks) (s .image) t host
 

@@ -1,5 +1,6 @@
--- The table of the answers before transfer as the papers have it, by rows (01, Answer numbers; 02, K5). The checks are listed by command (Asks); proofs/Table computes
--- the rows from those lists, and that each list keeps the rows' order. The case of each answer stands with its check.
+-- The table of the answers before transfer as the papers have it, by rows (01, Answer numbers; 02, K5). The checks are listed by command
+-- (Asks); proofs/Table computes the rows from those lists, and that each list keeps the rows' order. The case of each answer stands with its
+-- check.
 use Prim.Native.Nat.{ℕ}
 use mathlib.Core.Bool.{Bool, true, false, cond, _||_}
 use mathlib.Core.List.{List, [], _∷_}

@@ -18,7 +18,8 @@ abbrev pub spareOf : List ℕ → ℕ → ℕ
 spareOf ts i = getD ts (2 * i + 1) 0
 
 -- A table of which n pairs count is good: it has the "32 pairs", no more than these count, every track of those that do is on the drive, and none
--- is there twice. One that is not, with "over 32 pairs, a track outside the drive, or one track twice in the table", makes its record count as not initialized.
+-- is there twice. One that is not, with "over 32 pairs, a track outside the drive, or one track twice in the table", makes its record count as
+-- not initialized.
 pub record Good (g : Geometry) (n : ℕ) (ts : List ℕ) : Type 0 where
   pub long : length ts ≡ 64
   pub room : n ≤ 32

@@ -1,27 +1,22 @@
 -- What stands in a text once bytes are put into it one part after the other, and how long a number is in decimal.
--- Stores in a row go along the bytes; a decimal number goes by its last digit, and the bound on its digits is never met.
+-- Stores in a row are one store; a decimal number goes by its last digit, and the bound on its digits is never met.
 use Prim.Native.Nat.{ℕ, zero, suc, _+_, _-_, _*_, _/_, _%_, _^_, _≤_, _<_}
 use mathlib.Core.List.{List, [], _∷_, _++_, append-assoc}
 use mathlib.Core.Logic.{by-cases, if-neg, if-pos}
 use mathlib.Core.Path.{_≡_, refl, sym, ap, _∙_}
 use native.Mathlib.Decide.{decLt}
-use native.Mathlib.Nat.{add-zero, pow-suc}
+use native.Mathlib.Nat.{pow-suc}
 use native.Mathlib.Numerals.{add-one}
 use native.Mathlib.Omega.{arith}
 use lib.ListN.{length, set, length-append}
-use lib.Seq.{sets, length-sets}
+use lib.Seq.{length-sets}
 use Rattle.block.specs.Steps.{written}
+use Rattle.block.proofs.Entries.{written-row}
 use Rattle.wire.specs.Words.{be32}
 use Rattle.transcript.specs.Steps.{Appended}
 use Rattle.transcript.specs.Text.{blockLine, blockLines, decimal, digit, digitsWithin, letters, lettersFrom, refusalLine, runLine, signed}
 
 -- ---- parts in a row
-
-sets-row : (text : List ℕ) (at : ℕ) (xs ys : List ℕ) → sets (sets text at xs) (at + length xs) ys ≡ sets text at (xs ++ ys)
-sets-row text at [] ys = rw add-zero
-sets-row text at (x ∷ xs) ys =
-    let next : at + suc (length xs) ≡ suc at + length xs = omega arith in
-    rw next (sets-row (set text at x) (suc at) xs ys)
 
 -- Nothing is put by doing nothing, and two parts in a row are one.
 pub nothing-put : (text : List ℕ) (at : ℕ) → Appended text at [] text at
@@ -31,10 +26,9 @@ nothing-put text at = record { stored = refl; after = omega arith }
 pub put-then :
     {text text′ text″ : List ℕ} {at next end : ℕ} {xs ys : List ℕ} →
     Appended text at xs text′ next → Appended text′ next ys text″ end → Appended text at (xs ++ ys) text″ end
-unfolding written
 put-then {text} {text′} {text″} {at} {next} {end} {xs} {ys} a b =
     record {
-      stored = b .stored ∙ rw (a .stored, a .after) (sets-row text at xs ys);
+      stored = b .stored ∙ rw (a .stored, a .after) (written-row text at xs ys);
       after = omega (arith, a .after, b .after, length-append xs ys);
     }
 

@@ -17,6 +17,15 @@ fn with_pairs(host_bytes: usize, pairs: &[(At, At)]) -> World {
     w
 }
 
+/// An 87 with the small drive's UIB, which is put into memory for it.
+fn initialize(w: &mut World) -> Block {
+    put(&mut w.host, 40, &SMALL_UIB);
+    Block {
+        buffer_address: 40,
+        ..block(0x87, 0)
+    }
+}
+
 fn refused(w: &mut World, b: &Block, answer: u8) {
     put_block(w, 0, b);
     let mut expected = w.clone();
@@ -265,11 +274,7 @@ fn sixteen_goes_by_the_address_named() {
 #[test]
 fn initialize_clears_the_table() {
     let mut w = with_pairs(100, &[((1, 0), (9, 2))]);
-    put(&mut w.host, 40, &SMALL_UIB);
-    let b = Block {
-        buffer_address: 40,
-        ..block(0x87, 0)
-    };
+    let b = initialize(&mut w);
     assert_eq!(one(&mut w, &b), 0);
     assert_eq!(w.records[0], ready());
     w.host[52] = 0xff;
@@ -307,11 +312,7 @@ fn tables_that_no_record_can_have() {
             refused(&mut w, &block(command, 0), 11);
         }
         assert_eq!(inspect(&w.records, [7800, 0], 0, 12).bytes, 0);
-        put(&mut w.host, 40, &SMALL_UIB);
-        let b = Block {
-            buffer_address: 40,
-            ..block(0x87, 0)
-        };
+        let b = initialize(&mut w);
         assert_eq!(one(&mut w, &b), 0);
         assert_eq!(w.records[0], ready());
     }
