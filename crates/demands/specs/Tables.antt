@@ -1,20 +1,24 @@
--- What is said of a unit's table of bad tracks (02, K5): what an 85 does, and which bytes are those of a track.
-use Prim.Native.Nat.{ℕ, _+_}
+-- What is said of a unit's table of bad tracks: what an 85 does (02, K5), which tables the commands reach, and which sectors a block names (02, K7).
+use Prim.Native.Nat.{ℕ, _+_, _<_}
 use lib.IntN.{pos}
 use mathlib.Core.List.{_++_}
 use mathlib.Core.Path.{_≡_}
 use Rattle.answers.specs.declared.BlockAnswer.the-variants.{Ended}
+use Rattle.geometry.specs.declared.Address.{Address}
 use Rattle.geometry.specs.declared.Geometry.{Geometry}
-use Rattle.geometry.specs.Drive.{B}
-use Rattle.geometry.specs.Sectors.{firstByte, markByte}
+use Rattle.geometry.specs.Drive.{C, S}
+use Rattle.geometry.specs.Limits.{Within}
+use Rattle.geometry.specs.Sectors.{address, addressOf}
+use Rattle.request.specs.declared.Move.{Move}
 use Rattle.request.specs.declared.Pair.{Pair}
+use Rattle.request.specs.declared.Task.{Task}
+use Rattle.request.specs.declared.Track.{Track}
 use Rattle.judge.specs.declared.Leaving.the-variants.{Mapped}
-use Rattle.judge.specs.Given.{Asked, badNumber, spareNumber}
+use Rattle.judge.specs.Asks.{found}
+use Rattle.judge.specs.Fits.{PairFits}
+use Rattle.judge.specs.Given.{Asked, badNumber, beginsAt, spareNumber}
 use Rattle.judge.specs.Verdict.{verdict}
-use Rattle.spares.specs.declared.Track.{Track}
-use Rattle.unit.specs.Landing.{OnTrack}
-use Rattle.unit.specs.Standing.{mapped}
-use Rattle.wire.specs.Memory.{Among}
+use Rattle.unit.specs.Standing.{UnitRecord, fresh, geometry, mapped, movedTo}
 use Rattle.block.specs.Block.{begun, finish}
 use Rattle.demands.specs.Footprint.{leavingOf, namedDrive}
 use Rattle.demands.specs.Visits.{Visit, blockOf, effectOf}
@@ -31,7 +35,18 @@ pub record AddsItsPair (v : Visit) (k : Pair) : Type 0 where
 abbrev pub Maps : Asked → Type 0
 Maps a = (bad : ℕ) × ((spare : ℕ) × (leavingOf (verdict a) ≡ Mapped bad spare))
 
--- A byte of the image is one of a track's: of one of its sectors, or a sector's mark.
-pub data TrackByte (g : Geometry) (k : Track) (x : ℕ) : Type 0 where
-  data-byte : (place : ℕ) → OnTrack g k place → Among (firstByte g place) (B g) x → TrackByte g k x
-  mark-byte : (place : ℕ) → OnTrack g k place → x ≡ markByte g place → TrackByte g k x
+-- A record with a "table reached by the commands" (02, K7): an 87 that succeeds clears the table, an 85 adds a pair that its checks let through, and
+-- what moves the heads leaves the table. That every block and every run keeps to these is proved.
+pub data ReachedByCommands : UnitRecord → Type 0 where
+  by-87 : (g : Geometry) → Within g → ReachedByCommands (fresh g)
+  by-85 : (u : UnitRecord) (bad spare : ℕ) → ReachedByCommands u → PairFits u bad spare → ReachedByCommands (mapped u bad spare)
+  heads-moved : (u : UnitRecord) (c : ℕ) → ReachedByCommands u → c < C (geometry u) → ReachedByCommands (movedTo u c)
+
+-- The sectors that a block names, by their addresses: of a read or a write the numbers of its volume from where it begins on, as many as it
+-- counts; of a format those of its track.
+pub data NamesSector (a : Asked) : Address → Type 0 where
+  by-number :
+      (m : Move) → a .task ≡ Task.Move m → (j : ℕ) → j < m .count →
+      NamesSector a (addressOf (geometry (a .unit)) (m .target .volume) (found (beginsAt (a .unit) (m .target)) + j))
+  on-its-track :
+      (k : Track) → a .task ≡ Task.Format k → (j : ℕ) → j < S (geometry (a .unit)) → NamesSector a (address (k .cylinder) (k .head) j)

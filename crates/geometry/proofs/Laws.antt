@@ -14,7 +14,8 @@ use Rattle.geometry.specs.declared.VolumeNumber.the-variants.{Zero, One}
 use Rattle.geometry.specs.Drive.{B, C, N, S, driveHeads, driveSectors, end, marksAt, need, start, table11, volume, volumeSectors}
 use Rattle.geometry.specs.Drive.Inside.{driveSectors-is, marksAt-is, need-is, volumeSectors-is}
 use Rattle.geometry.specs.Limits.{Has, Present, VolumesWithin, Within}
-use Rattle.geometry.specs.Sectors.{InVolume, OnDrive, address, addressOf, firstByte, markByte, next, numberOf, placeOf}
+use Rattle.geometry.specs.Sectors.{InVolume, OnDrive, SectorByte, address, addressOf, firstByte, markByte, next, numberOf, placeOf}
+use Rattle.geometry.specs.Sectors.SectorByte.{data-byte, mark-byte}
 use Rattle.geometry.specs.Sectors.Inside.{addressOf-is, firstByte-is, markByte-is, next-is, numberOf-is, placeOf-is}
 use Rattle.geometry.proofs.Counting.{Digits, counted-back, counted-below, counted-once, cylinder-back, digits-of, head-back, sector-back}
 use Rattle.geometry.proofs.Ends.{end-present, end-reached, heads-of-within, heads-reached}
@@ -65,6 +66,14 @@ module _ (g : Geometry) where
   pub bytes-differ : (p q i j : ℕ) → i < B g → j < B g → firstByte g p + i ≡ firstByte g q + j → p ≡ q
   bytes-differ p q i j i< j< same =
       sym (digits-div p i<) ∙ ap (λ (n : ℕ). n / B g) (rw (firstByte-is, firstByte-is) at same) ∙ digits-div q j<
+
+  -- The same with their marks: two places of the drive that have a byte in common are one place.
+  pub sectors-apart : (p q x : ℕ) → p < driveSectors g → q < driveSectors g → SectorByte g p x → SectorByte g q x → p ≡ q
+  sectors-apart p q x p-in q-in (data-byte here) (data-byte there) =
+      bytes-differ p q (x - firstByte g p) (x - firstByte g q) (omega arith) (omega arith) (omega arith)
+  sectors-apart p q x p-in q-in (data-byte here) (mark-byte there) = absurd (omega (arith, bytes-inside p p-in, mark-inside q q-in))
+  sectors-apart p q x p-in q-in (mark-byte here) (data-byte there) = absurd (omega (arith, bytes-inside q q-in, mark-inside p p-in))
+  sectors-apart p q x p-in q-in (mark-byte here) (mark-byte there) = omega (arith, markByte-is g p, markByte-is g q)
 
 -- ---- the volumes
 
@@ -201,6 +210,15 @@ volumes-differ g w n m n-in m-in same =
     let in0 = address-in-volume g Zero n n-in in
     let in1 = rw (← a) at (address-in-volume g One m m-in) in
     w .apart (omega arith) (addressOf g Zero n .head) in0 in1
+
+-- So sectors of volumes that have one place are one: the same number of the same volume.
+pub sectors-of-volumes-differ :
+    (g : Geometry) → VolumesWithin g → (v w : VolumeNumber) (n m : ℕ) → n < volumeSectors g v → m < volumeSectors g w →
+    placeOf g (addressOf g v n) ≡ placeOf g (addressOf g w m) → (v ≡ w) × (n ≡ m)
+sectors-of-volumes-differ g within Zero Zero n m n-in m-in same = (refl, numbers-differ g Zero n m n-in m-in same)
+sectors-of-volumes-differ g within One One n m n-in m-in same = (refl, numbers-differ g One n m n-in m-in same)
+sectors-of-volumes-differ g within Zero One n m n-in m-in same = absurd (volumes-differ g within n m n-in m-in same)
+sectors-of-volumes-differ g within One Zero n m n-in m-in same = absurd (volumes-differ g within m n m-in n-in (sym same))
 
 -- ---- at the limits
 

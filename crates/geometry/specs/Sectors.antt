@@ -2,7 +2,9 @@
 -- place in the image. Shut, as the sizes of Drive are; only what the functions answer may be opened elsewhere.
 use Prim.Native.Nat.{ℕ, _+_, _*_, _/_, _%_, _<_}
 use mathlib.Core.Logic.{ite, Dec·and}
+use mathlib.Core.Path.{_≡_}
 use native.Mathlib.Decide.{decLt, map-dec}
+use Rattle.wire.specs.Memory.{Among}
 use Rattle.geometry.specs.declared.Address.{Address}
 use Rattle.geometry.specs.declared.Found.{Found}
 use Rattle.geometry.specs.declared.Geometry.{Geometry}
@@ -47,6 +49,11 @@ firstByte g place = place * B g
 
 pub markByte : Geometry → ℕ → ℕ
 markByte g place = marksAt g + place
+
+-- A byte of the image is that of the sector at a place: one of its B bytes, or its mark.
+pub data SectorByte (g : Geometry) (place x : ℕ) : Type 0 where
+  data-byte : Among (firstByte g place) (B g) x → SectorByte g place x
+  mark-byte : x ≡ markByte g place → SectorByte g place x
 
 -- An address on the drive: any of its cylinders, heads (also those that no volume has) and sectors.
 pub record OnDrive (g : Geometry) (a : Address) : Type 0 where

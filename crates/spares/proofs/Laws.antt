@@ -201,18 +201,20 @@ module _ (g : Geometry) (n : ℕ) (ts : List ℕ) (good : Good g n ts) where
           let twice = one-place g n ts good (2 * j + 1) (2 * i) (omega arith) (omega arith) same in
           omega arith
 
-  -- Two tracks that land on one, and of which neither serves as a spare, are one track: mapping folds no two of them together. A bad track and its
-  -- spare do meet.
-  pub never-folded :
-      (t u : ℕ) → ((i : ℕ) → i < n → spareOf ts i ≡ t → ⊥) → ((i : ℕ) → i < n → spareOf ts i ≡ u → ⊥) →
-      landsOn g n ts t ≡ landsOn g n ts u → t ≡ u
-  never-folded t u no-t no-u same = by-landing (lands t) (lands u) same
+  -- Two tracks that land on one are one, or a bad track and the spare that serves it.
+  pub data Meet (t u : ℕ) : Type 0 where
+    the-same : t ≡ u → Meet t u
+    served-by : (i : ℕ) → i < n → badOf ts i ≡ t → spareOf ts i ≡ u → Meet t u
+    serving : (i : ℕ) → i < n → badOf ts i ≡ u → spareOf ts i ≡ t → Meet t u
+
+  pub lands-on-one : (t u : ℕ) → landsOn g n ts t ≡ landsOn g n ts u → Meet t u
+  lands-on-one t u same = by-landing (lands t) (lands u) same
     where
-      by-landing : {x y : ℕ} → Lands t x → Lands u y → x ≡ y → t ≡ u
-      by-landing (on-itself a) (on-itself b) one = one
-      by-landing (on-itself a) (on-spare j j-in bad) one = absurd (no-t j j-in (sym one))
-      by-landing (on-spare i i-in bad) (on-itself b) one = absurd (no-u i i-in one)
+      by-landing : {x y : ℕ} → Lands t x → Lands u y → x ≡ y → Meet t u
+      by-landing (on-itself a) (on-itself b) one = the-same one
+      by-landing (on-itself a) (on-spare j j-in bad) one = serving j j-in bad (sym one)
+      by-landing (on-spare i i-in bad) (on-itself b) one = served-by i i-in bad one
       by-landing (on-spare i i-in bad-i) (on-spare j j-in bad-j) one =
           let twice = one-place g n ts good (2 * i + 1) (2 * j + 1) (omega arith) (omega arith) one in
           let pair : i ≡ j = omega arith in
-          sym bad-i ∙ ap (badOf ts) pair ∙ bad-j
+          the-same (sym bad-i ∙ ap (badOf ts) pair ∙ bad-j)

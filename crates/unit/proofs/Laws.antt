@@ -1,6 +1,6 @@
 -- Where requests land, as the crates above may know it: inside the drive, and a track in one run.
 -- Each is the geometry's law of the same name, of the address on the track that serves the one named.
-use Prim.Native.Nat.{ℕ, _+_, _-_, _≤_, _<_}
+use Prim.Native.Nat.{ℕ, _+_, _-_, _≤_, _<_, min}
 use mathlib.Core.Path.{_≡_, refl, sym, ap, _∙_}
 use native.Mathlib.Nat.{sub-zero}
 use native.Mathlib.Omega.{arith}
@@ -12,9 +12,9 @@ use Rattle.geometry.specs.Sectors.{OnDrive, address, addressOf, placeOf}
 use Rattle.geometry.proofs.Laws as geometry
 use Rattle.spares.specs.declared.Served.{Served}
 use Rattle.spares.specs.declared.Served.the-variants.{Itself, By}
-use Rattle.spares.specs.Table.{servedAt}
+use Rattle.spares.specs.Table.{badOf, servedAt}
 use Rattle.spares.specs.Tracks.{trackNumber}
-use Rattle.spares.proofs.Laws.{empty-serves-itself, itself-at, server-at-on-drive}
+use Rattle.spares.proofs.Laws.{itself-at, server-at-on-drive, serves-itself}
 use Rattle.unit.specs.declared.Spot.{Spot}
 use Rattle.unit.specs.Landing.{landed, onto, spotAt, spotOf, trackOf}
 use Rattle.unit.specs.Landing.Behind.{landed-is, spotAt-is, spotOf-is, trackOf-is}
@@ -45,13 +45,18 @@ module _ (u : UnitRecord) where
   abbrev serving : ℕ → ℕ → Served
   serving c h = servedAt shape (pairs u) (table u) c h
 
-  -- Where no pair counts, an address lands where it says.
+  -- An address whose track no pair has as bad lands where it says,
+  pub lands-where-it-says :
+      (a : Address) → ((i : ℕ) → i < min (pairs u) 32 → badOf (table u) i ≡ trackNumber (a .cylinder) (a .head) → ⊥) → landed u a ≡ a
+  lands-where-it-says a none =
+      let t = trackNumber (a .cylinder) (a .head) in
+      landed-is u a
+      ∙ ap (λ (x : Served). onto x a)
+      (itself-at shape (pairs u) (table u) (a .cylinder) (a .head) (serves-itself shape (pairs u) (table u) t none))
+
+  -- and so does every one where no pair counts.
   pub no-pairs-lands-there : pairs u ≡ 0 → (a : Address) → landed u a ≡ a
-  no-pairs-lands-there none a =
-      let itself =
-      itself-at shape (pairs u) (table u) (a .cylinder) (a .head)
-      (rw none (empty-serves-itself shape (table u) (trackNumber (a .cylinder) (a .head)))) in
-      landed-is u a ∙ ap (λ (x : Served). onto x a) itself
+  no-pairs-lands-there none a = lands-where-it-says a (λ i less. absurd (omega (arith, rw none at less)))
 
   pub landed-on-drive : (a : Address) → OnDrive shape a → OnDrive shape (landed u a)
   landed-on-drive a on = rw landed-is (by-served (serving (a .cylinder) (a .head)) refl)
@@ -69,19 +74,21 @@ module _ (u : UnitRecord) where
       by-served Itself = refl
       by-served (By k) = refl
 
-  -- The sectors of a track land on one track, in their order.
+  -- A track lands as a whole: each of its sectors on the same sector of one track,
+  pub lands-as-a-whole :
+      (c h s : ℕ) → landed u (address c h s) ≡ address (landed u (address c h 0) .cylinder) (landed u (address c h 0) .head) s
+  lands-as-a-whole c h s = rw (landed-is u (address c h s), landed-is u (address c h 0)) (by-served (serving c h))
+    where
+      by-served : (x : Served) → onto x (address c h s) ≡ address (onto x (address c h 0) .cylinder) (onto x (address c h 0) .head) s
+      by-served Itself = refl
+      by-served (By t) = refl
+
+  -- so that sectors in a row land in a row.
   pub landed-in-a-row :
       (c h s k : ℕ) →
       landed u (address c h (s + k)) ≡
       address (landed u (address c h s) .cylinder) (landed u (address c h s) .head) (landed u (address c h s) .sector + k)
-  landed-in-a-row c h s k = rw (landed-is u (address c h (s + k)), landed-is u (address c h s)) (by-served (serving c h))
-    where
-      by-served :
-          (x : Served) →
-          onto x (address c h (s + k)) ≡
-          address (onto x (address c h s) .cylinder) (onto x (address c h s) .head) (onto x (address c h s) .sector + k)
-      by-served Itself = refl
-      by-served (By t) = refl
+  landed-in-a-row c h s k = rw (lands-as-a-whole c h (s + k), lands-as-a-whole c h s)
 
   -- ---- a track
 

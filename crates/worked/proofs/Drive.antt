@@ -39,7 +39,7 @@ counts =
 pub present : Present (volume drive Zero)
 present = counts .within .volumes .one-head
 
-heads-3 : driveHeads drive ≡ 3
+pub heads-3 : driveHeads drive ≡ 3
 heads-3 =
     omega (
       arith,

@@ -3,6 +3,7 @@ pub mod Drive
 pub mod Formats
 pub mod Memory
 pub mod OneBlock
+pub mod Spared
 pub mod Starred
 pub mod Tiny
 pub mod TwoChains

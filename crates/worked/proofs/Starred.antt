@@ -72,7 +72,7 @@ list-over-64-is-18 k over =
 
 -- A line of the table holds, and so do those after it.
 infixr 5 _and_
-_and_ : {A B : Type 0} → A → B → A × B
+pub _and_ : {A B : Type 0} → A → B → A × B
 a and b = (a, b)
 
 pub starred-hold : All starred

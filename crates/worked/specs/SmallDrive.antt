@@ -1,14 +1,16 @@
--- The small drive of 01 ("Small drive, by hand"): its starred lines, in one table.
+-- The small drive of 01 ("Small drive, by hand"): its starred lines in one table, and lines with bad tracks and spares (02, K7) in another.
 use Prim.Native.Nat.{ℕ, zero, suc}
 use mathlib.Core.Bool.{true, false}
 use mathlib.Core.List.{List, [], _∷_, _++_}
 use mathlib.Core.Path.{_≡_}
 use lib.ListN.{replicate}
 use Rattle.answers.specs.declared.Refusal.{Refusal}
+use Rattle.geometry.specs.declared.Address.{Address}
 use Rattle.geometry.specs.declared.Geometry.{Geometry}
 use Rattle.geometry.specs.declared.VolumeNumber.{VolumeNumber}
 use Rattle.geometry.specs.Drive.{geometryOf, volumeOf}
-use Rattle.geometry.specs.Sectors.{firstByte}
+use Rattle.geometry.specs.Sectors.{OnDrive, address, firstByte}
+use Rattle.demands.specs.Tables.{ReachedByCommands}
 use Rattle.judge.specs.declared.Verdict.{Verdict}
 use Rattle.judge.specs.Given.{Asked}
 use Rattle.judge.specs.Asks.{carrying, jobOf}
@@ -17,8 +19,9 @@ use Rattle.request.specs.declared.Buffer.{Buffer}
 use Rattle.request.specs.declared.Move.{Move}
 use Rattle.request.specs.declared.Start.{Start}
 use Rattle.request.specs.declared.Task.{Task}
-use Rattle.unit.specs.Landing.{spotOf}
-use Rattle.unit.specs.Standing.{UnitRecord, fresh}
+use Rattle.spares.specs.Tracks.{trackNumber}
+use Rattle.unit.specs.Landing.{OnSpare, Reaches, spotOf}
+use Rattle.unit.specs.Standing.{UnitRecord, fresh, mapped}
 
 -- "C = 10, S = 4, B = 64, volume 0 heads 0 and 1, volume 1 head 2"
 abbrev pub drive : Geometry
@@ -26,6 +29,11 @@ drive = geometryOf 10 4 64 (volumeOf 0 2) (volumeOf 2 1)
 
 abbrev pub unit : UnitRecord
 unit = fresh drive
+
+-- The same unit once two 85s have named cylinder 1, head 0 as bad with cylinder 9, head 2 as its spare, and cylinder 3, head 1 with cylinder 0,
+-- head 2 (02, K5).
+abbrev pub withSpares : UnitRecord
+withSpares = mapped (mapped unit (trackNumber 1 0) (trackNumber 9 2)) (trackNumber 3 1) (trackNumber 0 2)
 
 -- n elements of a list, of 64 bytes each and all of them at address 512.
 unfoldable pub elements : ℕ → List ℕ
@@ -59,7 +67,18 @@ abbrev pub Judged : Move → ℕ → ℕ → Says → Type 0
 Judged m n image (refused r) = verdict (asking m image) ≡ Verdict.Refused r
 Judged m n image passes = verdict (asking m image) ≡ Verdict.Do (carrying (jobOf m n))
 
--- A line of the table.
+-- A spare named directly meets the bad track that it serves: two addresses of the unit with spares, and a byte of the image that both reach. All
+-- that K7 asks of a table and two addresses holds of these, except that the second is on a spare.
+pub record Meeting (a b : Address) (x : ℕ) : Type 0 where
+  pub reached : ReachedByCommands withSpares
+  pub first-on : OnDrive drive a
+  pub second-on : OnDrive drive b
+  pub differ : a ≡ b → ⊥
+  pub first-no-spare : OnSpare withSpares a → ⊥
+  pub second-spare : OnSpare withSpares b
+  pub both : Reaches withSpares a x × Reaches withSpares b x
+
+-- A line of a table.
 pub data Line : Type 0 where
   -- a volume, a number in it, its place, and the first byte there
   stands : VolumeNumber → ℕ → ℕ → ℕ → Line
@@ -67,11 +86,17 @@ pub data Line : Type 0 where
   reads : ℕ → ℕ → ℕ → Says → Line
   -- a read of a sector for each element, through a list of so many elements
   scatters : ℕ → Says → Line
+  -- on the unit with spares: a volume, a number in it, its place, and the first byte there
+  lands : VolumeNumber → ℕ → ℕ → ℕ → Line
+  -- there too: two addresses, and a byte that both reach
+  meet : Address → Address → ℕ → Line
 
 abbrev pub Holds : Line → Type 0
 Holds (stands v n place byte) = (spotOf unit v n .place ≡ place) × (firstByte drive place ≡ byte)
 Holds (reads n count image says) = Judged (move n count (Buffer.Piece 512)) n image says
 Holds (scatters k says) = Judged (move 0 k (Buffer.List 0 k)) 0 7800 says
+Holds (lands v n place byte) = (spotOf withSpares v n .place ≡ place) × (firstByte drive place ≡ byte)
+Holds (meet a b x) = Meeting a b x
 
 -- The starred lines.
 abbrev pub starred : List Line
@@ -89,6 +114,23 @@ starred =
     reads 0 1 7800 passes ∷
     scatters 64 passes ∷
     scatters 65 (refused Refusal.ListBad) ∷
+    []
+
+-- Lines with spares, worked out by hand as those are: volume 0's 8 to 11 and 28 to 31 are on bad tracks, volume 1's 36 to 39 and 0 to 3 on the
+-- spares of these.
+abbrev pub spared : List Line
+spared =
+    lands VolumeNumber.Zero 7 7 448 ∷
+    lands VolumeNumber.Zero 8 116 7424 ∷
+    lands VolumeNumber.Zero 10 118 7552 ∷
+    lands VolumeNumber.Zero 12 16 1024 ∷
+    lands VolumeNumber.Zero 31 11 704 ∷
+    lands VolumeNumber.One 3 11 704 ∷
+    lands VolumeNumber.One 35 107 6848 ∷
+    lands VolumeNumber.One 38 118 7552 ∷
+    meet (address 1 0 2) (address 9 2 2) 7552 ∷
+    meet (address 1 0 2) (address 9 2 2) 7798 ∷
+    meet (address 3 1 3) (address 0 2 3) 767 ∷
     []
 
 -- Every line of a table holds.
