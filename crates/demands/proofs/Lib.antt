@@ -4,6 +4,7 @@ pub mod Endings
 pub mod Fits
 pub mod Keeps
 pub mod Lists
+pub mod Places
 pub mod Reports
 pub mod RunAnswers
 pub mod RunMarks

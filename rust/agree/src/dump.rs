@@ -41,7 +41,7 @@ pub fn dump(case: &Case) -> String {
     text
 }
 
-fn geometry_words(g: &Geometry) -> String {
+pub fn geometry_words(g: &Geometry) -> String {
     format!(
         "C {} S {} B {} volumes {}+{} and {}+{}",
         g.cylinders,

@@ -3,7 +3,8 @@
 //! The library is proved to do what its definitions say; the model was written from the paper
 //! alone. Where they leave different bytes of the same world, one of them has misread the paper.
 //! Pairs of chains are for demand 3: the model says which may be run in either order, and the library
-//! runs them in both.
+//! runs them in both. Places are for the rule that no two sectors stand in one: the library alone writes
+//! every sector and reads it back.
 
 mod case;
 mod compare;
@@ -15,6 +16,7 @@ mod exact;
 #[cfg(feature = "library")]
 mod giants;
 mod pairs;
+mod places;
 mod sessions;
 mod sides;
 mod worlds;
@@ -40,6 +42,8 @@ agree --table-sessions N PROGRAM WORD..                  the same on sessions wi
 agree --pairs N [--seed S] [--itself]                    N pairs of chains that demand 3 lets run in either order
 agree --pair I [--seed S] [--itself]                     one of these pairs, and show it
 agree --table-pairs N, agree --table-pair I              the same of pairs with bad tracks and spares
+agree --places N [--seed S] [--itself]                   N drives: does every sector that is on no spare come back as itself?
+agree --place I [--seed S] [--itself]                    one of these drives, and show it
 --itself puts the model in the library's place.";
 
 /// Coverage is asked from so many worlds on.
@@ -53,6 +57,8 @@ struct Asked {
     sessions: Option<(u64, Vec<String>)>,
     pairs: Option<u64>,
     pair: Option<u64>,
+    places: Option<u64>,
+    place: Option<u64>,
 }
 
 fn asked() -> Option<Asked> {
@@ -72,6 +78,8 @@ fn asked() -> Option<Asked> {
         sessions: None,
         pairs: None,
         pair: None,
+        places: None,
+        place: None,
     };
     let mut words = std::env::args().skip(1);
     while let Some(word) = words.next() {
@@ -87,6 +95,8 @@ fn asked() -> Option<Asked> {
             "--exact" => asked.exact = true,
             "--pairs" => asked.pairs = Some(number()?),
             "--pair" => asked.pair = Some(number()?),
+            "--places" => asked.places = Some(number()?),
+            "--place" => asked.place = Some(number()?),
             "--tables" | "--table" | "--table-pairs" | "--table-pair" => {
                 asked.crowd.theme = Theme::Tables;
                 let number = Some(number()?);
@@ -138,6 +148,10 @@ fn main() -> ExitCode {
         show_pair(&asked.crowd, index)
     } else if let Some(count) = asked.pairs {
         pairs(&asked.crowd, count)
+    } else if let Some(index) = asked.place {
+        show_drive(&asked.crowd, index)
+    } else if let Some(count) = asked.places {
+        places(&asked.crowd, count)
     } else {
         worlds(&asked.crowd)
     };
@@ -300,6 +314,45 @@ fn show_pair(crowd: &Crowd, index: u64) -> bool {
     lines.is_empty() || !meets
 }
 
+fn places(crowd: &Crowd, count: u64) -> bool {
+    let start = Instant::now();
+    match places::run(crowd, count) {
+        Ok(tally) => {
+            println!(
+                "agree: {} drives with {} pairs, {} sectors written and read back, {} tracks of no volume formatted between, no two in one place; {} sectors read by their spares' own names, {} of {} marks stopped one read, {:.1} s",
+                count,
+                tally.pairs,
+                tally.sectors,
+                tally.formats,
+                tally.met,
+                tally.marks,
+                count,
+                start.elapsed().as_secs_f64()
+            );
+            true
+        }
+        Err((index, wrong)) => {
+            println!(
+                "agree: {}; again with --seed {} --place {}",
+                wrong, crowd.seed, index
+            );
+            false
+        }
+    }
+}
+
+/// One drive, shown whether or not something is wrong on it.
+fn show_drive(crowd: &Crowd, index: u64) -> bool {
+    print!("{}", places::dump(crowd.seed, index));
+    let swept = places::one_drive(crowd, index);
+    let says = match &swept {
+        Ok(_) => "no two sectors in one place",
+        Err(wrong) => wrong,
+    };
+    println!("agree: seed {} drive {}: {}", crowd.seed, index, says);
+    swept.is_ok()
+}
+
 fn exact(opponent: Opponent) -> bool {
     let start = Instant::now();
     let sheet = exact::run(opponent);
@@ -341,7 +394,8 @@ fn faults(crowd: &Crowd) -> bool {
     std::panic::set_hook(Box::new(|_| {}));
     let rules = faults_in(crowd, "worlds", &Fault::IN_RULES, Crowd::catches);
     let footprints = faults_in(crowd, "pairs", &Fault::IN_FOOTPRINTS, pairs::sees);
-    rules && footprints
+    let places = faults_in(crowd, "drives", &Fault::IN_PLACES, places::catches);
+    rules && footprints && places
 }
 
 /// Each of some faults, with the number of worlds or pairs that it took.

@@ -77,6 +77,9 @@ pub enum Fault {
     TrackOffTheDriveAccepted,
     LastByteOfATrackIgnored,
     DoubleAccepted,
+    OneSpareForAll,
+    CylinderAfterTheSpare,
+    LastSectorFolded,
     BlockNotRead,
     UibNotRead,
     RefusedUibNotRead,
@@ -103,7 +106,7 @@ pub enum Fault {
 
 impl Fault {
     /// In the rules: a run or an inspection comes out wrong.
-    pub const IN_RULES: [Fault; 70] = [
+    pub const IN_RULES: [Fault; 73] = [
         Fault::EventsOneByteLess,
         Fault::AllowanceOneMore,
         Fault::FiveBeforeSix,
@@ -174,6 +177,19 @@ impl Fault {
         Fault::TrackOffTheDriveAccepted,
         Fault::LastByteOfATrackIgnored,
         Fault::DoubleAccepted,
+        Fault::OneSpareForAll,
+        Fault::CylinderAfterTheSpare,
+        Fault::LastSectorFolded,
+    ];
+
+    /// Those of them by which two sectors come to stand in one place, or no write goes through.
+    pub const IN_PLACES: [Fault; 6] = [
+        Fault::SpareHeadInVolume,
+        Fault::BadTracksNotSearched,
+        Fault::SparesNotSearched,
+        Fault::OneSpareForAll,
+        Fault::CylinderAfterTheSpare,
+        Fault::LastSectorFolded,
     ];
 
     /// In footprints, which have too little or too much; every run is right.
@@ -275,6 +291,9 @@ impl Fault {
             Fault::TrackOffTheDriveAccepted => "record with a track off the drive taken",
             Fault::LastByteOfATrackIgnored => "last byte of a track in a record not looked at",
             Fault::DoubleAccepted => "record with one track twice taken",
+            Fault::OneSpareForAll => "all bad tracks on the first spare",
+            Fault::CylinderAfterTheSpare => "bad track on the cylinder after its spare's",
+            Fault::LastSectorFolded => "last sector of a bad track on the spare's first",
             Fault::BlockNotRead => "footprint without the 28 bytes of a block",
             Fault::UibNotRead => "footprint without a UIB",
             Fault::RefusedUibNotRead => "footprint without a UIB refused by 13",

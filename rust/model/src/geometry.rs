@@ -313,7 +313,14 @@ impl Record {
     /// "Every later command that lands on a bad track works on its spare". A spare may be named too,
     /// and is then itself.
     pub fn landed(&self, track: Track) -> Track {
-        self.table.spare_of(track).unwrap_or(track)
+        let Some(mut spare) = self.table.spare_of(track) else {
+            return track;
+        };
+        if seeded(Fault::CylinderAfterTheSpare) {
+            // one further on, and after the last the first
+            spare.cylinder = (spare.cylinder + 1) % self.geometry.cylinders;
+        }
+        spare
     }
 
     /// Where logical sector n of a volume is found; None when the volume has no such sector.
@@ -338,6 +345,13 @@ impl Record {
 
     /// Place, mark and heads go by the track that is worked on.
     fn found(&self, named: Track, track: Track, sector: u64) -> Option<Found> {
+        let last = sector + 1 == self.geometry.sectors_a_track as u64;
+        let sector = if seeded(Fault::LastSectorFolded) && track != named && last {
+            // a spare that is a sector short
+            0
+        } else {
+            sector
+        };
         let at = |track: Track| Address {
             cylinder: track.cylinder as u64,
             head: track.head as u64,

@@ -120,6 +120,10 @@ impl Table {
             let back = self.searched().iter().find(|pair| pair.spare == track);
             return back.map(|pair| pair.bad);
         }
+        if found.is_some() && seeded(Fault::OneSpareForAll) {
+            // the spare of the pair at which the search begins
+            return self.pairs().first().map(|pair| pair.spare);
+        }
         found.map(|pair| pair.spare)
     }
 

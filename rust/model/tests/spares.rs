@@ -380,3 +380,39 @@ fn landing_on_a_spare_ends_there() {
         }
     }
 }
+
+/// Every address of a drive that is on no spare has a place of its own, and with it its bytes and its
+/// mark; a spare that is named has that of the bad track.
+#[test]
+fn no_two_sectors_in_one_place() {
+    let two = with_pairs(0, &[((1, 0), (9, 2)), ((3, 1), (0, 2))]).records[0];
+    for record in [two, full(31).records[0], full(32).records[0]] {
+        let mut taken = vec![false; record.geometry.drive_sectors() as usize];
+        let (mut own, mut met) = (0, 0);
+        for cylinder in 0..record.geometry.cylinders {
+            for head in 0..3 {
+                for sector in 0..4 {
+                    let named = Track::new(cylinder, head);
+                    let found = record.find_on_track(named, sector).expect("on the drive");
+                    assert_eq!(found.marked, found.place);
+                    if record.table.has_spare(named) {
+                        met += 1;
+                        continue;
+                    }
+                    assert!(!std::mem::replace(&mut taken[found.place as usize], true));
+                    own += 1;
+                }
+            }
+        }
+        let pairs = record.table.pairs();
+        assert_eq!(met, 4 * pairs.len());
+        assert_eq!(own, taken.len() - met);
+        for pair in pairs {
+            for sector in 0..4 {
+                let place = |track| record.find_on_track(track, sector).expect("on it").place;
+                assert_eq!(place(pair.spare), place(pair.bad));
+                assert!(taken[place(pair.spare) as usize]);
+            }
+        }
+    }
+}

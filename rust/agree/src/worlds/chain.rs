@@ -571,18 +571,8 @@ impl Maker {
         }
     }
 
-    /// The UIB of a geometry; what is not kept or judged may be anything.
     pub fn uib(&mut self, g: &Geometry) -> [u8; UIB] {
-        let mut uib = [0; UIB];
-        self.draw.fill(&mut uib);
-        for (k, volume) in g.volumes.iter().enumerate() {
-            uib[2 * k] = volume.start_head;
-            uib[2 * k + 1] = volume.heads;
-        }
-        uib[4] = g.sectors_a_track as u8;
-        uib[6..8].copy_from_slice(&g.bytes_a_sector.to_be_bytes());
-        uib[12..14].copy_from_slice(&g.cylinders.to_be_bytes());
-        uib
+        uib_of(&mut self.draw, g)
     }
 
     pub fn spoiled_uib(&mut self, g: &Geometry) -> [u8; UIB] {
@@ -626,4 +616,18 @@ impl Maker {
         *block = Block::read(&bytes, 0).expect("28 bytes at 0");
         block.buffer_address = place as u32;
     }
+}
+
+/// The UIB of a geometry; what is not kept or judged may be anything.
+pub fn uib_of(draw: &mut Draw, g: &Geometry) -> [u8; UIB] {
+    let mut uib = [0; UIB];
+    draw.fill(&mut uib);
+    for (k, volume) in g.volumes.iter().enumerate() {
+        uib[2 * k] = volume.start_head;
+        uib[2 * k + 1] = volume.heads;
+    }
+    uib[4] = g.sectors_a_track as u8;
+    uib[6..8].copy_from_slice(&g.bytes_a_sector.to_be_bytes());
+    uib[12..14].copy_from_slice(&g.cylinders.to_be_bytes());
+    uib
 }

@@ -15,7 +15,7 @@ pub use drives::Way;
 use memory::Memory;
 use model::Block;
 pub use pair::pair;
-pub use tables::TableWay;
+pub use tables::{name as name_pair, named_drive, NamedDrive, TableWay};
 
 /// What worlds are about. Those of one theme are drawn apart from those of another.
 #[derive(Clone, Copy, Debug, PartialEq, Eq)]

@@ -1,7 +1,7 @@
 //! Tables of bad tracks and their spares: in records, good ones and spoiled ones, and in chains, the
 //! blocks that add to them and those that land on them.
 
-use super::chain::{Aim, Maker, Unit};
+use super::chain::{uib_of, Aim, Maker, Unit, UIB};
 use super::drives::{self, ready, volumes, wide_geometry};
 use crate::case::{record_bytes, RecordBytes, ORDER_AND_HOLDER, PAIRS_AT, RECORD_LEN, TABLE_AT};
 use crate::draw::Draw;
@@ -243,6 +243,44 @@ fn free_pair(draw: &mut Draw, g: &Geometry, table: &Table) -> Option<Pair> {
     };
     let spare = spare.or_else(|| free_track(draw, g, &without, |_, _| true))?;
     Some(Pair { bad, spare })
+}
+
+/// A drive that no initialize has reached, and the pairs that 85s are to name on it one after the other:
+/// free ones, and some of which one track is in the table already.
+pub struct NamedDrive {
+    pub geometry: Geometry,
+    pub uib: [u8; UIB],
+    pub pairs: Vec<Pair>,
+}
+
+pub fn named_drive(draw: &mut Draw) -> NamedDrive {
+    let geometry = geometry(draw);
+    let uib = uib_of(draw, &geometry);
+    let mut table = Table::NONE;
+    let mut pairs = Vec::new();
+    for _ in 0..draw.pick(&[1, 2, 3, 5, 9, 20, 40]) {
+        let Some(mut pair) = free_pair(draw, &geometry, &table) else {
+            break;
+        };
+        let taken = !table.pairs().is_empty() && draw.percent(15);
+        if taken {
+            let one = draw.pick(table.pairs());
+            let track = draw.pick(&[one.bad, one.spare]);
+            if draw.percent(50) {
+                pair.bad = track;
+            } else {
+                pair.spare = track;
+            }
+        } else if !table.full() {
+            table.add(pair);
+        }
+        pairs.push(pair);
+    }
+    NamedDrive {
+        geometry,
+        uib,
+        pairs,
+    }
 }
 
 /// The volume that a track belongs to, if it belongs to one.
