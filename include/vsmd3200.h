@@ -61,6 +61,9 @@ extern "C" {
  * its block is the bad track's cylinder, the upper byte of word 3 its head, word 4 and the upper byte of word 5 name the spare. An
  * initialize that succeeds clears the table.
  *
+ * Mapping moves a track as a whole and never folds two: two different sectors of the drive, neither on a track that serves as a spare, have
+ * no byte of the image in common, and no mark, whatever pairs there are. A spare that is named itself is where its bad track's sectors are.
+ *
  * The bytes after the last pair that counts are neither read nor written. A record that a block changed is stored anew up to there: an 85
  * stores its pair after the others, and a table that was cleared has its old bytes still, under the number 0.
  *

@@ -1,5 +1,5 @@
--- What blocks do with a unit's table: an 85 adds its pair and does nothing else, a unit that counts as initialized stays so (02, K5), and a table
--- that the commands reach is that of such a unit (02, K7). What is left of a record is told by the verdict.
+-- What blocks do with a unit's table: an 85 adds its pair and does nothing else, an 87 clears it, a unit that counts as initialized stays so (02, K5);
+-- and which tables the commands reach (02, K7). What is left of a record is told by the verdict.
 use Prim.Native.Nat.{ℕ}
 use mathlib.Core.List.{List, [], _++_}
 use mathlib.Core.Logic.{_⊎_, by-cases, inl, inr}
@@ -9,8 +9,10 @@ use lib.IntN.{pos}
 use Rattle.answers.specs.declared.BlockAnswer.the-variants.{Ended, Failed}
 use Rattle.answers.specs.declared.Refusal.{Refusal}
 use Rattle.answers.specs.declared.Refusal.the-variants.{UibMisplaced}
+use Rattle.geometry.specs.declared.Geometry.{Geometry}
 use Rattle.geometry.specs.Drive.{B}
-use Rattle.unit.specs.Standing.{CountsAsInitialized, UnitRecord, geometry, pairs, table}
+use Rattle.geometry.specs.Limits.{Within}
+use Rattle.unit.specs.Standing.{CountsAsInitialized, UnitRecord, fresh, geometry, pairs, table}
 use Rattle.unit.proofs.Kept.{fresh-counts, mapped-counts, moved-counts}
 use Rattle.wire.proofs.Promises.{never}
 use Rattle.judge.specs.declared.Moving.the-variants.{Nothing}
@@ -93,7 +95,7 @@ module _ (P : UnitRecord → Type 0) (kept : (u : UnitRecord) (moved : ℕ) (l :
   run-hands-records first allowance w n now =
       run-hands (λ x. P (driveOf x n .unit)) first allowance w (λ v. ⊥) (λ v out so. block-hands n v so) (some-none (fetchedBy first allowance w)) now
 
--- A unit that counts as initialized still does after every block and every run: a table that 87 and 85 made is always good.
+-- A unit that counts as initialized still does after every block and every run.
 pub block-keeps-counting :
     (v : Visit) (n : UnitNumber) → CountsAsInitialized (driveOf (v .world) n .unit) → CountsAsInitialized (driveOf (worldLeft v) n .unit)
 block-keeps-counting v n = block-hands CountsAsInitialized still-counts n v
@@ -144,9 +146,13 @@ run-keeps-table first allowance w n none =
 
 -- ---- the tables that the commands reach
 
--- An 87 that ended 80 was let through, so that its UIB was placed, and has left a new record.
+-- "A successful 87 clears the table" (02, K5): an 87 that ends 80 had its UIB in host memory and inside the limits, and leaves a new record of the
+-- geometry that stands there.
 module _ (v : Visit) (is : blockOf v .command ≡ 0x87) (ended : effectOf v .answer ≡ Ended) where
-  task-is : askedOf v .task ≡ Initialize (shapeAt (v .world .host) (blockOf v .address))
+  abbrev shape : Shape
+  shape = shapeAt (v .world .host) (blockOf v .address)
+
+  task-is : askedOf v .task ≡ Initialize shape
   unfolding taskOf
   task-is = rw is
 
@@ -156,51 +162,69 @@ module _ (v : Visit) (is : blockOf v .command ≡ 0x87) (ended : effectOf v .ans
       ap (λ (e : Effect). e .answer) (effect-is v) ∙ ap (λ (x : Verdict). judged (v .world .host) (namedDrive v) (v .at) x .answer) so in
       never (cc (ended, failed))
 
-  pub accepted-87-renews : Renews (askedOf v)
-  accepted-87-renews = by-verdict (verdictOf v) refl
+  renews : (g : Geometry) × ((shape ≡ Given g) × (leavingOf (verdictOf v) ≡ Fresh g))
+  renews = by-verdict (verdictOf v) refl
     where
-      by-shape : (p : Plan) → verdictOf v ≡ Do p → (s : Shape) → askedOf v .task ≡ Initialize s → Renews (askedOf v)
-      by-shape p so Misplaced task =
+      by-shape :
+          (p : Plan) → verdictOf v ≡ Do p → (s : Shape) → shape ≡ s → (g : Geometry) × ((shape ≡ Given g) × (leavingOf (verdictOf v) ≡ Fresh g))
+      by-shape p so Misplaced same =
           absurd
           (not-refused UibMisplaced
-          (ap (λ (t : Task). verdict (on (namedDrive v .unit) (askedOf v .image) t (v .world .host))) task
+          (ap (λ (t : Task). verdict (on (namedDrive v .unit) (askedOf v .image) t (v .world .host))) (task-is ∙ ap Task.Initialize same)
           ∙ own (namedDrive v .unit) (askedOf v .image) (v .world .host) (Initialize Misplaced) not-unlisted
           ∙ shape-misplaced (namedDrive v .unit) (askedOf v .image) (v .world .host)))
-      by-shape p so (Given g) task =
-          (g, ap leavingOf so ∙ ap (λ (p : Plan). p .leaving) (own-plan (askedOf v) p so ∙ ap (planOf (namedDrive v .unit)) task))
+      by-shape p so (Given g) same =
+          let plan = own-plan (askedOf v) p so ∙ ap (planOf (namedDrive v .unit)) (task-is ∙ ap Task.Initialize same) in
+          (g, (same, ap leavingOf so ∙ ap (λ (p : Plan). p .leaving) plan))
 
-      by-verdict : (x : Verdict) → verdictOf v ≡ x → Renews (askedOf v)
+      by-verdict : (x : Verdict) → verdictOf v ≡ x → (g : Geometry) × ((shape ≡ Given g) × (leavingOf (verdictOf v) ≡ Fresh g))
       by-verdict (Refused r) so = absurd (not-refused r so)
-      by-verdict (Do p) so = by-shape p so (shapeAt (v .world .host) (blockOf v .address)) task-is
+      by-verdict (Do p) so = by-shape p so shape refl
 
-  -- It leaves a unit whose table was cleared, and which counts as initialized.
+  pub accepted-87-clears : (g : Geometry) × ((shape ≡ Given g) × (Within g × (driveOf (worldLeft v) (names v) .unit ≡ fresh g)))
+  accepted-87-clears =
+      let leaves = renews .1 .1 in (
+        renews .0,
+        (
+          renews .1 .0,
+          (
+            subst (LeavingFits (namedDrive v .unit)) leaves (leaving-fits (askedOf v)),
+            named-record v ∙ unit-left v ∙ ap (leftBy (namedDrive v .unit) (effectOf v .sectors)) leaves,
+          ),
+        ),
+      )
+
+  -- That is a table that the commands reach.
   pub accepted-87-reaches : ReachedByCommands (driveOf (worldLeft v) (names v) .unit)
   accepted-87-reaches =
-      let renews = accepted-87-renews in
-      subst ReachedByCommands (sym (named-record v ∙ unit-left v ∙ ap (leftBy (namedDrive v .unit) (effectOf v .sectors)) (renews .1)))
-      (by-87 (renews .0) (subst (LeavingFits (namedDrive v .unit)) (renews .1) (leaving-fits (askedOf v))))
+      let cleared = accepted-87-clears in
+      subst ReachedByCommands (sym (cleared .1 .1 .1)) (by-87 (cleared .0) (cleared .1 .1 .0))
 
--- From then on every block and every run leaves a table that the commands reach.
-still-reached : (u : UnitRecord) (moved : ℕ) (l : Leaving) → ReachedByCommands u → LeavingFits u l → ReachedByCommands (leftBy u moved l)
-still-reached u moved AsItWas now fits = now
-still-reached u moved (HeadsAt c) now fits = heads-moved u c now (fits .1)
-still-reached u moved (HeadsAtLastTried s) now fits =
-    heads-moved u _ now (still-counts u moved (HeadsAtLastTried s) (fits .0) fits .cylinder)
-still-reached u moved (Fresh g) now fits = by-87 g fits
-still-reached u moved (Mapped bad spare) now fits = by-85 u bad spare now (fits .1)
-
-pub block-keeps-reached :
-    (v : Visit) (n : UnitNumber) → ReachedByCommands (driveOf (v .world) n .unit) → ReachedByCommands (driveOf (worldLeft v) n .unit)
-block-keeps-reached v n = block-hands ReachedByCommands still-reached n v
-
-pub run-keeps-reached :
-    (first allowance : ℕ) (w : World) (n : UnitNumber) → ReachedByCommands (driveOf w n .unit) →
-    ReachedByCommands (driveOf (ran first allowance w .world) n .unit)
-run-keeps-reached = run-hands-records ReachedByCommands still-reached
-
--- Each is the table of a record that counts as initialized: no track twice, and all of them on the drive.
+-- Each is that of a record which counts as initialized: no track twice, and all of them on the drive.
 pub reached-counts : (u : UnitRecord) → ReachedByCommands u → CountsAsInitialized u
 reached-counts _ (by-87 g within) = fresh-counts g within
 reached-counts _ (by-85 u bad spare before fits) =
     mapped-counts u (reached-counts u before) bad spare (fits .bad-on) (fits .spare-on) (fits .free) (fits .room)
 reached-counts _ (heads-moved u c before on) = moved-counts u (reached-counts u before) c on
+
+-- A unit that counts as initialized after a block or a run has a table that the commands reach, where it had one before or did not count: so has
+-- every unit that began as one of which nothing is said.
+abbrev ReachedWhereCounting : UnitRecord → Type 0
+ReachedWhereCounting u = CountsAsInitialized u → ReachedByCommands u
+
+still-reached :
+    (u : UnitRecord) (moved : ℕ) (l : Leaving) → ReachedWhereCounting u → LeavingFits u l → ReachedWhereCounting (leftBy u moved l)
+still-reached u moved AsItWas now fits counts = now counts
+still-reached u moved (HeadsAt c) now fits counts = heads-moved u c (now (fits .0)) (fits .1)
+still-reached u moved (HeadsAtLastTried s) now fits counts = heads-moved u _ (now (fits .0)) (counts .cylinder)
+still-reached u moved (Fresh g) now fits counts = by-87 g fits
+still-reached u moved (Mapped bad spare) now fits counts = by-85 u bad spare (now (fits .0)) (fits .1)
+
+pub block-reaches :
+    (v : Visit) (n : UnitNumber) → ReachedWhereCounting (driveOf (v .world) n .unit) → ReachedWhereCounting (driveOf (worldLeft v) n .unit)
+block-reaches v n = block-hands ReachedWhereCounting still-reached n v
+
+pub run-reaches :
+    (first allowance : ℕ) (w : World) (n : UnitNumber) → ReachedWhereCounting (driveOf w n .unit) →
+    ReachedWhereCounting (driveOf (ran first allowance w .world) n .unit)
+run-reaches = run-hands-records ReachedWhereCounting still-reached

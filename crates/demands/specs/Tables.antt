@@ -1,4 +1,5 @@
--- What is said of a unit's table of bad tracks: what an 85 does (02, K5), which tables the commands reach, and which sectors a block names (02, K7).
+-- What is said of a unit's table of bad tracks: what an 85 does (02, K5), which tables the commands reach, and which sectors a block names and which
+-- bytes it touches (02, K7).
 use Prim.Native.Nat.{ℕ, _+_, _<_}
 use lib.IntN.{pos}
 use mathlib.Core.List.{_++_}
@@ -6,21 +7,21 @@ use mathlib.Core.Path.{_≡_}
 use Rattle.answers.specs.declared.BlockAnswer.the-variants.{Ended}
 use Rattle.geometry.specs.declared.Address.{Address}
 use Rattle.geometry.specs.declared.Geometry.{Geometry}
+use Rattle.geometry.specs.declared.Number.{Number}
 use Rattle.geometry.specs.Drive.{C, S}
 use Rattle.geometry.specs.Limits.{Within}
-use Rattle.geometry.specs.Sectors.{address, addressOf}
+use Rattle.geometry.specs.Sectors.{SectorByte, address, addressOf}
 use Rattle.request.specs.declared.Move.{Move}
 use Rattle.request.specs.declared.Pair.{Pair}
 use Rattle.request.specs.declared.Task.{Task}
 use Rattle.request.specs.declared.Track.{Track}
 use Rattle.judge.specs.declared.Leaving.the-variants.{Mapped}
-use Rattle.judge.specs.Asks.{found}
 use Rattle.judge.specs.Fits.{PairFits}
 use Rattle.judge.specs.Given.{Asked, badNumber, beginsAt, spareNumber}
 use Rattle.judge.specs.Verdict.{verdict}
 use Rattle.unit.specs.Standing.{UnitRecord, fresh, geometry, mapped, movedTo}
 use Rattle.block.specs.Block.{begun, finish}
-use Rattle.demands.specs.Footprint.{leavingOf, namedDrive}
+use Rattle.demands.specs.Footprint.{leavingOf, namedDrive, transferBy}
 use Rattle.demands.specs.Visits.{Visit, blockOf, effectOf}
 
 -- A block adds a pair and does nothing else: "85 moves neither data nor heads". It stores its word 1, twice, and its entry with travel 0, and
@@ -36,17 +37,24 @@ abbrev pub Maps : Asked → Type 0
 Maps a = (bad : ℕ) × ((spare : ℕ) × (leavingOf (verdict a) ≡ Mapped bad spare))
 
 -- A record with a "table reached by the commands" (02, K7): an 87 that succeeds clears the table, an 85 adds a pair that its checks let through, and
--- what moves the heads leaves the table. That every block and every run keeps to these is proved.
+-- what moves the heads leaves the table. Every block and every run is proved to stay among these. A record that a caller hands in with a good
+-- table need not be one; unit's no-two-in-one-place speaks of it too.
 pub data ReachedByCommands : UnitRecord → Type 0 where
   by-87 : (g : Geometry) → Within g → ReachedByCommands (fresh g)
   by-85 : (u : UnitRecord) (bad spare : ℕ) → ReachedByCommands u → PairFits u bad spare → ReachedByCommands (mapped u bad spare)
   heads-moved : (u : UnitRecord) (c : ℕ) → ReachedByCommands u → c < C (geometry u) → ReachedByCommands (movedTo u c)
 
 -- The sectors that a block names, by their addresses: of a read or a write the numbers of its volume from where it begins on, as many as it
--- counts; of a format those of its track.
+-- counts; of a format those of its track. Commands that move no data name none here, though 8A has an address and 85 two tracks.
 pub data NamesSector (a : Asked) : Address → Type 0 where
   by-number :
-      (m : Move) → a .task ≡ Task.Move m → (j : ℕ) → j < m .count →
-      NamesSector a (addressOf (geometry (a .unit)) (m .target .volume) (found (beginsAt (a .unit) (m .target)) + j))
+      (m : Move) → a .task ≡ Task.Move m → (n : ℕ) → beginsAt (a .unit) (m .target) ≡ Number.Is n → (j : ℕ) → j < m .count →
+      NamesSector a (addressOf (geometry (a .unit)) (m .target .volume) (n + j))
   on-its-track :
       (k : Track) → a .task ≡ Task.Format k → (j : ℕ) → j < S (geometry (a .unit)) → NamesSector a (address (k .cylinder) (k .head) j)
+
+-- A byte of the image that a block may touch: of a sector of its transfer, or that sector's mark, whether a read stops before it or not.
+pub record Touches (a : Asked) (x : ℕ) : Type 0 where
+  pub sector : ℕ
+  pub less : sector < transferBy a .count
+  pub byte : SectorByte (geometry (a .unit)) (transferBy a .place sector) x

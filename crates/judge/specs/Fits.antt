@@ -60,7 +60,7 @@ MovingFits u image host Nothing = Unit {0}
 MovingFits u image host (Sectors j) = JobGood u image host j
 MovingFits u image host (Track spot at) = TrackGood u image host spot at
 
--- Two tracks that can become one more pair of a table: both are on the drive and neither is taken, and there is room.
+-- Two tracks that can become one more pair of a table: both are on the drive, they differ, neither is in the table already, and there is room.
 pub record PairFits (u : UnitRecord) (bad spare : ℕ) : Type 0 where
   pub bad-on : TrackOn (geometry u) bad
   pub spare-on : TrackOn (geometry u) spare

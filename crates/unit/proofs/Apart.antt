@@ -1,5 +1,6 @@
--- On a unit that counts as initialized nothing lands on a bad track, and two sectors stand in one place only where one is named by its own address
--- and the other by that of the bad track which it serves (02, K7). Different addresses have different places, and in a good table no track stands twice.
+-- On a unit that counts as initialized nothing lands on a bad track, and two different addresses reach one sector only where one is on a spare and the
+-- other on the bad track that it serves, at the same sector (02, K7). Different addresses have different places, and in a good table no track stands
+-- twice.
 use Prim.Native.Nat.{ℕ, _+_, _*_, _<_}
 use mathlib.Core.Logic.{_↔_, _⊎_, if-pos, inl, inr}
 use mathlib.Core.Path.{_≡_, refl, sym, ap, subst, _∙_}
@@ -22,7 +23,7 @@ use Rattle.spares.specs.Table.{badOf, landsOn, numberServing, served, servedAt,
 use Rattle.spares.specs.Tracks.{TrackOn, standsFor, trackNumber}
 use Rattle.spares.proofs.Laws.{Meet, lands-on-one, never-on-a-bad-track, number-again, one-place, served-by-its-spare, stands-for-it}
 use Rattle.spares.proofs.Laws.Meet.{the-same, served-by, serving}
-use Rattle.unit.specs.Landing.{Bad, NoTwoInOnePlace, OnItsSpare, OnSpare, OnTrack, Paired, Reaches, TrackByte, landed, onto, spotOf, trackNamed, trackOf}
+use Rattle.unit.specs.Landing.{Bad, BadAndItsSpare, Meets, NoTwoInOnePlace, OnSpare, OnTrack, Paired, Reaches, TrackByte, landed, onto, spotOf, trackNamed, trackOf}
 use Rattle.unit.specs.Landing.Behind.{landed-is, spotAt-is, spotOf-is, trackOf-is}
 use Rattle.unit.specs.Standing.{CountsAsInitialized, UnitRecord, pairs, table}
 use Rattle.unit.specs.Standing as standing
@@ -119,7 +120,7 @@ module _ (u : UnitRecord) (counts : CountsAsInitialized u) where
       omega arith)
 
   -- So an address on a bad track lands with the one on its spare at the same sector.
-  on-one : (a b : Address) → OnDrive g a → OnDrive g b → OnItsSpare u a b → landed u a ≡ landed u b
+  on-one : (a b : Address) → OnDrive g a → OnDrive g b → BadAndItsSpare u a b → landed u a ≡ landed u b
   on-one a b on-a on-b it =
       bad-lands-on-its-spare a on-a (trackNamed b) (it .paired) ∙ ap (λ (s : ℕ). address (b .cylinder) (b .head) s) (it .sector)
       ∙ sym (spare-lands-on-itself b on-b (trackNamed a, it .paired))
@@ -176,11 +177,7 @@ module _ (u : UnitRecord) (counts : CountsAsInitialized u) where
         by-meeting (served-by i less bad spare) = inr (inl (pair-of a b on-a on-b i less bad spare))
         by-meeting (serving i less bad spare) = inr (inr (pair-of b a on-b on-a i less bad spare))
 
-    -- One is the other, or one is on the spare that serves the other's track, at the same sector.
-    abbrev Meets : Type 0
-    Meets = (a ≡ b) ⊎ (OnItsSpare u a b ⊎ OnItsSpare u b a)
-
-    meets-in-one-place : placeOf g (landed u a) ≡ placeOf g (landed u b) → Meets
+    meets-in-one-place : placeOf g (landed u a) ≡ placeOf g (landed u b) → Meets u a b
     meets-in-one-place same = by-track (never-folds-two (ap trackNamed there))
       where
         there : landed u a ≡ landed u b
@@ -189,18 +186,18 @@ module _ (u : UnitRecord) (counts : CountsAsInitialized u) where
         sectors : a .sector ≡ b .sector
         sectors = sym (landed-sector u a) ∙ ap (λ (x : Address). x .sector) there ∙ landed-sector u b
 
-        by-track : (trackNamed a ≡ trackNamed b) ⊎ (Paired u (trackNamed a) (trackNamed b) ⊎ Paired u (trackNamed b) (trackNamed a)) → Meets
+        by-track : (trackNamed a ≡ trackNamed b) ⊎ (Paired u (trackNamed a) (trackNamed b) ⊎ Paired u (trackNamed b) (trackNamed a)) → Meets u a b
         by-track (inl one) = inl (λ i. address (one i .cylinder) (one i .head) (sectors i))
         by-track (inr (inl pair)) = inr (inl (record { paired = pair; sector = sectors }))
         by-track (inr (inr pair)) = inr (inr (record { paired = pair; sector = sym sectors }))
 
-    lands-with-it : Meets → landed u a ≡ landed u b
+    lands-with-it : Meets u a b → landed u a ≡ landed u b
     lands-with-it (inl one) = ap (landed u) one
     lands-with-it (inr (inl it)) = on-one a b on-a on-b it
     lands-with-it (inr (inr it)) = sym (on-one b a on-b on-a it)
 
     -- Two addresses reach a byte in common exactly where they meet so.
-    pub in-one-place-exactly : ((x : ℕ) × (Reaches u a x × Reaches u b x)) ↔ Meets
+    pub in-one-place-exactly : ((x : ℕ) × (Reaches u a x × Reaches u b x)) ↔ Meets u a b
     in-one-place-exactly = (
       λ (x, (here, there)).
           meets-in-one-place
@@ -215,7 +212,7 @@ module _ (u : UnitRecord) (counts : CountsAsInitialized u) where
   pub no-two-in-one-place : NoTwoInOnePlace u
   no-two-in-one-place a b on-a on-b differ none-a none-b x here there = by-meeting (in-one-place-exactly a b on-a on-b .0 (x, (here, there)))
     where
-      by-meeting : Meets a b on-a on-b → ⊥
+      by-meeting : Meets u a b → ⊥
       by-meeting (inl one) = differ one
       by-meeting (inr (inl it)) = none-b (trackNamed a, it .paired)
       by-meeting (inr (inr it)) = none-a (trackNamed b, it .paired)

@@ -2,7 +2,7 @@
 -- image an address reaches. None of it asks whether the unit counts as initialized. Everything above goes by these and by the laws of
 -- proofs/; what is behind is shut.
 use Prim.Native.Nat.{ℕ, _-_, _<_}
-use mathlib.Core.Logic.{ite}
+use mathlib.Core.Logic.{_⊎_, ite}
 use mathlib.Core.Path.{_≡_}
 use native.Mathlib.Decide.{decLt}
 use Rattle.geometry.specs.declared.Address.{Address}
@@ -65,7 +65,7 @@ numberOn g v c h s = numbered g v c h s
 abbrev pub Reaches : UnitRecord → Address → ℕ → Type 0
 Reaches u a x = SectorByte (geometry u) (placeOf (geometry u) (landed u a)) x
 
--- A place of the image is one of a track's, and a byte is that of a sector there.
+-- A place is one of a track's S places, and a byte is the track's where it is one of a sector there, or that sector's mark.
 pub record OnTrack (g : Geometry) (k : Track) (place : ℕ) : Type 0 where
   pub sector : ℕ
   pub less : sector < S g
@@ -84,10 +84,11 @@ pub record Paired (u : UnitRecord) (bad spare : Track) : Type 0 where
   pub its-bad : standsFor (badOf (table u) pair) ≡ bad
   pub its-spare : standsFor (spareOf (table u) pair) ≡ spare
 
+-- A track that such a pair has as bad,
 abbrev pub Bad : UnitRecord → Track → Type 0
 Bad u k = (spare : Track) × Paired u k spare
 
--- "a track serving as spare" (02, K7)
+-- and one that it has as its spare: "a track serving as spare" (02, K7).
 abbrev pub ServesAsSpare : UnitRecord → Track → Type 0
 ServesAsSpare u k = (bad : Track) × Paired u bad k
 
@@ -99,9 +100,13 @@ abbrev pub OnSpare : UnitRecord → Address → Type 0
 OnSpare u a = ServesAsSpare u (trackNamed a)
 
 -- The first of two addresses is on a bad track, and the second on the spare that serves it, at the same sector.
-pub record OnItsSpare (u : UnitRecord) (a b : Address) : Type 0 where
+pub record BadAndItsSpare (u : UnitRecord) (a b : Address) : Type 0 where
   pub paired : Paired u (trackNamed a) (trackNamed b)
   pub sector : a .sector ≡ b .sector
+
+-- Two addresses meet: they are one, or one is on a bad track and the other on its spare.
+abbrev pub Meets : UnitRecord → Address → Address → Type 0
+Meets u a b = (a ≡ b) ⊎ (BadAndItsSpare u a b ⊎ BadAndItsSpare u b a)
 
 -- "two different physical addresses of the drive, neither on a track serving as spare, never reach the same image bytes" (02, K7): there is no byte
 -- that both reach.

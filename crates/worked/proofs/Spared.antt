@@ -21,7 +21,7 @@ use Rattle.spares.specs.Table.{InTable, badOf, spareOf}
 use Rattle.spares.specs.Tracks.{TrackOn, standsFor, trackNumber}
 use Rattle.spares.proofs.Adding.{before-the-pair, its-bad, its-spare}
 use Rattle.spares.proofs.Laws.{on-drive-by-parts, stands-for-it}
-use Rattle.unit.specs.Landing.{OnItsSpare, Paired, landed, trackNamed}
+use Rattle.unit.specs.Landing.{BadAndItsSpare, Paired, landed, trackNamed}
 use Rattle.unit.specs.Standing.{CountsAsInitialized, UnitRecord, mapped, noTracks, pairs, table}
 use Rattle.unit.proofs.Apart.{bad-lands-on-its-spare, number-lands, spare-lands-on-itself}
 use Rattle.unit.proofs.Laws.{lands-where-it-says}
@@ -189,7 +189,7 @@ on-its-spare v n a k leads on pair =
 -- An address on a bad track and the one on its spare at the same sector, which is what lands there itself.
 they-meet :
     (a b : Address) (x : ℕ) → (a .cylinder < 10) × (a .head < 3) × (a .sector < 4) → (b .cylinder < 10) × (b .head < 3) × (b .sector < 4) →
-    (a ≡ b → ⊥) → OnItsSpare withSpares a b → SectorByte drive (placeAt b) x → Holds (meet a b x)
+    (a ≡ b → ⊥) → BadAndItsSpare withSpares a b → SectorByte drive (placeAt b) x → Holds (meet a b x)
 they-meet a b x on-a on-b differ it here =
     record {
       reached = reached;

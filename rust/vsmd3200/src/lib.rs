@@ -36,6 +36,10 @@
 //! assert_eq!(record.pair(0), Some(Pair { bad, spare }));
 //! ```
 //!
+//! Mapping moves a track as a whole and never folds two: two different sectors of the drive, neither
+//! on a track that serves as a spare, share neither a byte of the image nor a mark. A spare that is
+//! named itself is where the sectors of its bad track are.
+//!
 //! Nothing is kept between calls, nothing is allocated, and two calls may be made at the same
 //! time: the borrows see to it that they work on different buffers.
 
