@@ -1,8 +1,9 @@
 /* The command parser of a board that takes the place of an Interphase V/SMD 3200.
  *
- * Two calls: vsmd_run runs a chain of parameter blocks ("blocks") that a host has laid out in its memory, and vsmd_inspect says
- * where a sector stands in an image. All that crosses is bytes and numbers. The library is proved in Rattle; it allocates nothing,
- * keeps nothing between calls, takes no lock, and calls nothing but memcpy and memset. Link libvsmd.a, which is for x86-64.
+ * Three calls: vsmd_run runs a chain of parameter blocks ("blocks") that a host has laid out in its memory, vsmd_run_as does so for
+ * one of two controllers that share their drives, and vsmd_inspect says where a sector stands in an image. All that crosses is bytes
+ * and numbers. The library is proved in Rattle; it allocates nothing, keeps nothing between calls, takes no lock, and calls nothing
+ * but memcpy and memset. Link libvsmd.a, which is for x86-64.
  *
  * What the library takes care of, and what you have to
  * ----------------------------------------------------
@@ -16,7 +17,8 @@
  *   - no pointer is null, that of a buffer of length 0 included: hand over any address for it, as that of a neighbouring variable;
  *   - the pointers to uint32_t and size_t are aligned for these types (a pointer to bytes need not be aligned);
  *   - while a call is under way nobody else uses its buffers: no second call, no interrupt handler, no DMA. Calls that share no
- *     buffer may run at the same time.
+ *     buffer may run at the same time. Two controllers share the images and the records of their drives, so no two of their calls may
+ *     be under way at once that are handed one of them: that a drive is held keeps no call from looking at its record.
  */
 #ifndef VSMD3200_H
 #define VSMD3200_H
@@ -30,8 +32,9 @@ extern "C" {
 
 /* ---- the unit record -----------------------------------------------------------------------------------------------------------
  *
- * What the board knows of a unit: whether it is initialized, its geometry, the cylinder that its heads stand on, and its bad tracks with
- * their spares. It is yours to keep between calls, in RAM or in flash. 276 bytes, numbers big-endian:
+ * What the board knows of a unit: whether it is initialized, its geometry, the cylinder that its heads stand on, its bad tracks with
+ * their spares, and which controller holds the drive. It is yours to keep between calls, in RAM or in flash. 276 bytes, numbers
+ * big-endian:
  *
  *    0       version of the layout, 02
  *    1       01 initialized, any other not
@@ -43,17 +46,17 @@ extern "C" {
  *   12, 13   volume 1: start head, heads (0: there is no volume 1)
  *   14, 15   the cylinder that the heads stand on, below C
  *   16       order, 00
- *   17       holder, 00
+ *   17       holder of the drive: 00 nobody, 01 the first controller, 02 the second
  *   18, 19   how many pairs count, 0 to 32
  *   20..275  room for 32 pairs of 8 bytes, each a bad track and then its spare; a track is its cylinder (2 bytes), its head (1) and 00
  *
  * With H the greater end (start head plus heads) of the volumes present, a track is on the drive where its cylinder is below C, its head
  * below H, counted over the whole drive whatever volume has it, and its last byte 00.
  *
- * A unit is initialized where its record opens with 02 01 01 14, bytes 16 and 17 are 00, and the rest keeps the limits: those above, start
- * head plus heads at most 64 for each volume present, no head in two volumes, at most 32 pairs, each of their tracks on the drive, and
- * none of them twice in the table, as a bad one or as a spare. Any other 276 bytes are a unit that is not initialized: zeros, erased
- * flash, a record of another version. Handing such bytes over is no error.
+ * A unit is initialized where its record opens with 02 01 01 14, byte 16 is 00, byte 17 at most 02, and the rest keeps the limits: those
+ * above, start head plus heads at most 64 for each volume present, no head in two volumes, at most 32 pairs, each of their tracks on the
+ * drive, and none of them twice in the table, as a bad one or as a spare. Any other 276 bytes are a unit that is not initialized: zeros,
+ * erased flash, a record of another version. Handing such bytes over is no error.
  *
  * A block that lands on a bad track works on its spare instead: reads, writes, scatters and gathers sector by sector, seeks, and
  * formats. The spare's sectors and marks are used as they stand, and the heads then stand on the spare's cylinder. A spare may lie in any
@@ -63,6 +66,17 @@ extern "C" {
  *
  * Mapping moves a track as a whole and never folds two: two different sectors of the drive, neither on a track that serves as a spare, have
  * no byte of the image in common, and no mark, whatever pairs there are. A spare that is named itself is where its bad track's sectors are.
+ *
+ * Two machines may share the drives, each through a controller of its own: unit n of both is drive n. What the two share of a drive is its
+ * image and its record, with geometry, cylinder, table and holder; host memory and event buffer are each controller's own. Option RV of a
+ * block, 08 hex of its byte 1, reserves: a block that ends with status 80 takes the drive, or keeps it, where RV is set, and gives it up
+ * where it is not. A handshake does neither, and a block that fails leaves the holder as it was. While one controller holds a drive, a
+ * block of the other for it is refused with VSMD_DRIVE_HELD, whichever listed command it has, an initialize too, and whether the unit is initialized
+ * or not; only a handshake is let through. A controller that is alone may set RV or not: its own drives never refuse it.
+ *
+ * Byte 17 is believed where version and length, bytes 0, 2 and 3, are those of this layout, whatever byte 1 says. A record of another
+ * layout, or with a number over 02 there, is held by nobody; the unit is not initialized then, and an initialize by either controller
+ * mends it. A machine that is gone gives nothing up: vsmd_record_release does so for it.
  *
  * The bytes after the last pair that counts are neither read nor written. A record that a block changed is stored anew up to there: an 85
  * stores its pair after the others, and a table that was cleared has its old bytes still, under the number 0.
@@ -96,6 +110,11 @@ extern "C" {
 #define VSMD_TRACK_AT_CYLINDER 0u
 #define VSMD_TRACK_AT_HEAD 2u
 #define VSMD_TRACK_AT_LAST 3u
+
+/* Who holds a drive, by byte 17 of its record. */
+#define VSMD_HOLDER_NONE 0u
+#define VSMD_HOLDER_FIRST 1u
+#define VSMD_HOLDER_SECOND 2u
 
 /* A record of version 1 of the layouts had the first 16 bytes alone, and opened with 01 01 00 10. To this library it is a unit that is not
  * initialized; vsmd_record_upgrade makes a record of this version of it. */
@@ -155,7 +174,7 @@ extern "C" {
 #define VSMD_LINK_BAD 5u        /* a link leads to a block that is as bad as in 3 */
 #define VSMD_ALLOWANCE_SPENT 6u /* the allowance is spent, and the last block has a link */
 
-/* Why a block failed. With 10 to 19, 22 and 23 it changed nothing but its own status word and its event entry. */
+/* Why a block failed. With 10 to 19 and 22 to 24 it changed nothing but its own status word and its event entry. */
 #define VSMD_COMMAND_UNKNOWN 10u     /* the command is not one of the ten */
 #define VSMD_NOT_INITIALIZED 11u     /* the unit is not initialized */
 #define VSMD_UIB_MISPLACED 12u       /* the UIB is at an odd address or not wholly in host memory */
@@ -169,12 +188,18 @@ extern "C" {
 #define VSMD_UNREADABLE 20u          /* a sector is marked unreadable; the sectors before it were moved */
 #define VSMD_TRACKS_TAKEN 22u        /* the bad track and the spare are one, or one of them is in the table already */
 #define VSMD_TABLE_FULL 23u          /* the table has 32 pairs */
+#define VSMD_DRIVE_HELD 24u          /* the other controller holds the drive; tested after 10 and before all others */
 
-/* What a call returns that was refused: a buffer is too short for its layout, and nothing at all was changed. No answer above has
- * the low byte of one of these. */
+/* What a call returns that was refused: a buffer is too short for its layout, or there is no such controller, and nothing at all was
+ * changed. No answer above has the low byte of one of these. */
 #define VSMD_RECORD0_SHORT 0x1F1u
 #define VSMD_RECORD1_SHORT 0x1F2u
 #define VSMD_OUTCOME_SHORT 0x1F3u
+#define VSMD_CONTROLLER_UNKNOWN 0x1F4u
+
+/* The controllers, by their numbers. */
+#define VSMD_CONTROLLER_FIRST 0u
+#define VSMD_CONTROLLER_SECOND 1u
 
 /* The smallest allowance is 1. */
 #define VSMD_ALLOWANCE_MOST 64u
@@ -187,7 +212,7 @@ uint32_t vsmd_layout_version(void);
 size_t vsmd_record_len(void);
 size_t vsmd_outcome_len(void);
 
-/* Runs the chain that begins with the block at an address of host memory.
+/* Runs the chain that begins with the block at an address of host memory, for the first controller.
  *
  *   host             host memory; its first byte has address 0. In: the blocks, and what they name. Out: the status word of each
  *                    block run, the identity in words 2 to 7 of a handshake, the last sector formatted in the lower byte of word 3
@@ -195,8 +220,8 @@ size_t vsmd_outcome_len(void);
  *   image0, image1   the images of units 0 and 1. Out: the data that writes, gathers and formats moved. Their lengths may be 0.
  *   events           the event buffer. Out: an entry for each block run.
  *   record0, record1 the records of units 0 and 1. Out: stored anew up to the last pair that counts where a block changed the record
- *                    (an initialize, heads that stand elsewhere, a pair more), and otherwise byte for byte as they came in. Bytes
- *                    after the last pair that counts, and after the first 276, are not touched.
+ *                    (an initialize, heads that stand elsewhere, a pair more, another holder), and otherwise byte for byte as they
+ *                    came in. Bytes after the last pair that counts, and after the first 276, are not touched.
  *   outcome          In: anything. Out: the outcome in its first 16 bytes; those after them are not touched.
  *   first            the address of the first block.
  *   allowance        how many blocks may be fetched, 1 to 64; a chain that links in a circle ends by it.
@@ -208,7 +233,20 @@ uint32_t vsmd_run(uint8_t *host, size_t host_len, uint8_t *image0, size_t image0
                   uint8_t *events, size_t events_len, uint8_t *record0, size_t record0_len, uint8_t *record1, size_t record1_len,
                   uint8_t *outcome, size_t outcome_len, uint32_t first, uint32_t allowance);
 
-/* Says where the sector at a place of a unit stands. It reads no image: the lengths of the images are all it asks of them.
+/* The same for a controller of two that share the drives. Hand over the host memory and the event buffer of the machine that asks, and
+ * the same images and records whichever of the two it is.
+ *
+ *   controller       VSMD_CONTROLLER_FIRST, which makes this call what vsmd_run is, or VSMD_CONTROLLER_SECOND.
+ *
+ * Returns what vsmd_run does, or VSMD_CONTROLLER_UNKNOWN for any other number, which is tested after the three lengths: then too no byte of
+ * any buffer was changed. */
+uint32_t vsmd_run_as(uint8_t *host, size_t host_len, uint8_t *image0, size_t image0_len, uint8_t *image1, size_t image1_len,
+                     uint8_t *events, size_t events_len, uint8_t *record0, size_t record0_len, uint8_t *record1,
+                     size_t record1_len, uint8_t *outcome, size_t outcome_len, uint32_t first, uint32_t allowance,
+                     uint32_t controller);
+
+/* Says where the sector at a place of a unit stands. It reads no image: the lengths of the images are all it asks of them. It is not
+ * asked for a controller, and whoever holds the drive does not matter.
  *
  *   record0, record1        the records of units 0 and 1.
  *   image0_len, image1_len  how many bytes the images have.
@@ -252,7 +290,7 @@ static inline void vsmd_record_clear(uint8_t *record)
         record[k] = 0;
 }
 
-/* Makes the record of an initialized unit without pairs; whether its numbers keep the limits is judged when it is used. */
+/* Makes the record of an initialized unit without pairs, held by nobody; whether its numbers keep the limits is judged when it is used. */
 static inline void vsmd_record_make(uint8_t *record, uint16_t cylinders, uint16_t sectors_a_track, uint16_t bytes_a_sector,
                                     uint8_t start_head0, uint8_t heads0, uint8_t start_head1, uint8_t heads1, uint16_t cylinder)
 {
@@ -270,10 +308,32 @@ static inline void vsmd_record_make(uint8_t *record, uint16_t cylinders, uint16_
     vsmd_put16(record + VSMD_RECORD_AT_CYLINDER, cylinder);
 }
 
-/* Whether a record opens as that of an initialized unit does, with order and holder 00. */
+/* Whether a record opens as that of an initialized unit does, with order 00 and a holder that is one. */
 static inline int vsmd_record_says_initialized(const uint8_t *record)
 {
-    return vsmd_get32(record) == 0x02010114u && record[VSMD_RECORD_AT_ORDER] == 0 && record[VSMD_RECORD_AT_HOLDER] == 0;
+    return vsmd_get32(record) == 0x02010114u && record[VSMD_RECORD_AT_ORDER] == 0 &&
+           record[VSMD_RECORD_AT_HOLDER] <= VSMD_HOLDER_SECOND;
+}
+
+/* Who holds a drive by its record: VSMD_HOLDER_NONE, VSMD_HOLDER_FIRST or VSMD_HOLDER_SECOND. A record of another layout is held by
+ * nobody, and so is one with any other number there. */
+static inline uint8_t vsmd_record_holder(const uint8_t *record)
+{
+    int own = record[VSMD_RECORD_AT_VERSION] == VSMD_LAYOUT_VERSION && vsmd_get16(record + VSMD_RECORD_AT_LENGTH) == VSMD_RECORD_LEN;
+    uint8_t holder = record[VSMD_RECORD_AT_HOLDER];
+    return own && holder <= VSMD_HOLDER_SECOND ? holder : (uint8_t)VSMD_HOLDER_NONE;
+}
+
+/* Gives a drive up, whoever holds it: for a machine that is gone and will give up nothing itself. Whether it is gone only you can know; one
+ * that is not will find, at its next block, that the drive is free or the other's. Returns 1 where somebody held the drive; 0 where nobody
+ * did, and then the record is as it was. So a record of another layout is left alone, and a number over 02 stays: it is no holder, the
+ * unit goes on counting as not initialized, and an initialize mends it. */
+static inline int vsmd_record_release(uint8_t *record)
+{
+    if (vsmd_record_holder(record) == VSMD_HOLDER_NONE)
+        return 0;
+    record[VSMD_RECORD_AT_HOLDER] = VSMD_HOLDER_NONE;
+    return 1;
 }
 
 /* How many pairs of a record have room and count. */
@@ -327,8 +387,8 @@ static inline int vsmd_record_add_pair(uint8_t *record, uint16_t bad_cylinder, u
     return 1;
 }
 
-/* Makes a record of the 16 bytes of one of version 1: the same unit without pairs. Returns 1; 0 where these bytes are not those of an
- * initialized unit, and then the record is that of a unit that is not initialized. The two do not overlap. */
+/* Makes a record of the 16 bytes of one of version 1: the same unit without pairs, held by nobody. Returns 1; 0 where these bytes are not
+ * those of an initialized unit, and then the record is that of a unit that is not initialized. The two do not overlap. */
 static inline int vsmd_record_upgrade(uint8_t *record, const uint8_t *old)
 {
     size_t k;

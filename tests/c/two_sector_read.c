@@ -1,6 +1,6 @@
 /* The paper's session example through the C header: an initialize linked to a read of two sectors, laid out byte by byte. Then the
- * refusals of short buffers, the inspection, a bad track with its spare, and the upgrade of a record. One line where all is well; else
- * what differs, and exit 1. */
+ * refusals of short buffers, the inspection, a bad track with its spare, two controllers on the drive, and the upgrade of a record. One
+ * line where all is well; else what differs, and exit 1. */
 #include "vsmd3200.h"
 
 #include <stdio.h>
@@ -125,6 +125,17 @@ static uint32_t run_with(struct lent *l, size_t record0_len, size_t record1_len,
                     l->record1, record1_len, l->outcome, outcome_len, BLOCK0, VSMD_ALLOWANCE_MOST);
 }
 
+static uint32_t run_as_with(struct lent *l, uint32_t controller, size_t record0_len, size_t record1_len, size_t outcome_len)
+{
+    return vsmd_run_as(l->host, HOST_LEN, l->image0, IMAGE_LEN, l->image1, 0, l->events, EVENTS_LEN, l->record0, record0_len,
+                       l->record1, record1_len, l->outcome, outcome_len, BLOCK0, VSMD_ALLOWANCE_MOST, controller);
+}
+
+static uint32_t run_as(struct lent *l, uint32_t controller)
+{
+    return run_as_with(l, controller, RECORD, RECORD, 16);
+}
+
 static void layouts(void)
 {
     expect_number("the layouts' version", vsmd_layout_version(), VSMD_LAYOUT_VERSION);
@@ -147,13 +158,34 @@ static void refusals(void)
     expect_lent(&l, &before);
 }
 
-/* Initialize linked to the read. The buffers of the layouts are lent longer than they need be. */
+/* A controller that there is not: its own code, after the three lengths, and every byte as it was. */
+static void refusals_of_controllers(void)
+{
+    struct lent l, before;
+    lay_out(&before);
+    l = before;
+    expect_number("the answer as 2 with all three short", run_as_with(&l, 2, RECORD - 1, RECORD - 1, 15), VSMD_RECORD0_SHORT);
+    expect_number("the answer as 2 with record 1 short", run_as_with(&l, 2, RECORD, RECORD - 1, 15), VSMD_RECORD1_SHORT);
+    expect_number("the answer as 2 with the outcome short", run_as_with(&l, 2, RECORD, RECORD, 15), VSMD_OUTCOME_SHORT);
+    expect_number("the answer as 1 with the outcome short", run_as_with(&l, 1, RECORD, RECORD, 15), VSMD_OUTCOME_SHORT);
+    expect_number("the answer as 2", run_as(&l, 2), VSMD_CONTROLLER_UNKNOWN);
+    expect_number("the answer as 256", run_as(&l, 0x100), VSMD_CONTROLLER_UNKNOWN);
+    expect_number("the answer as 2 to the 31st", run_as(&l, 0x80000000u), VSMD_CONTROLLER_UNKNOWN);
+    expect_number("the answer as the last number there is", run_as(&l, 0xFFFFFFFFu), VSMD_CONTROLLER_UNKNOWN);
+    expect_lent(&l, &before);
+}
+
+/* Initialize linked to the read. The buffers of the layouts are lent longer than they need be. With no RV in it the example leaves the same
+ * whoever runs it. */
 static void the_example(struct lent *l)
 {
-    struct lent wanted;
+    struct lent wanted, as_first, as_second;
     lay_out(l);
     wanted = *l;
+    as_first = as_second = *l;
     expect_number("the answer", run_with(l, RECORD + 3, RECORD, 16 + 3), VSMD_DONE);
+    expect_number("the answer as the first", run_as_with(&as_first, VSMD_CONTROLLER_FIRST, RECORD + 3, RECORD, 16 + 3), VSMD_DONE);
+    expect_number("the answer as the second", run_as_with(&as_second, VSMD_CONTROLLER_SECOND, RECORD + 3, RECORD, 16 + 3), VSMD_DONE);
     /* status 80 and error 00; image bytes 448 to 511 and 768 to 831; nothing else of host memory */
     wanted.host[BLOCK0 + 2] = 0x80;
     wanted.host[BLOCK0 + 3] = 0x00;
@@ -165,6 +197,8 @@ static void the_example(struct lent *l)
     memcpy(wanted.record0, record_after, sizeof record_after);
     memcpy(wanted.outcome, outcome_after, sizeof outcome_after);
     expect_lent(l, &wanted);
+    expect_lent(&as_first, &wanted);
+    expect_lent(&as_second, &wanted);
 }
 
 static void helpers(const struct lent *l)
@@ -307,8 +341,6 @@ static void pairs_told(const struct lent *l)
     vsmd_record_make(other, 10, 4, 64, 0, 2, 2, 1, 9);
     expect_number("whether a pair can be added", (unsigned long)vsmd_record_add_pair(other, 1, 0, 9, 2), 1);
     expect_bytes("the record made with the pair", other, l->record0, VSMD_RECORD_AT_TABLE + VSMD_PAIR_LEN);
-    other[VSMD_RECORD_AT_HOLDER] = 1;
-    expect_number("whether a record that is held says initialized", (unsigned long)vsmd_record_says_initialized(other), 0);
 }
 
 /* An initialize stores the number 0 and leaves the bytes of the table. */
@@ -324,6 +356,137 @@ static void the_table_is_cleared(struct lent *l)
     wanted.record0[VSMD_RECORD_AT_CYLINDER + 1] = 0;
     wanted.record0[VSMD_RECORD_AT_PAIRS + 1] = 0;
     expect_lent(l, &wanted);
+}
+
+/* A restore with RV or without, whose way is that from cylinder 0 to itself. */
+static void lay_restore(struct lent *l, uint8_t options)
+{
+    memset(l->host + BLOCK0, 0, 28);
+    l->host[BLOCK0] = 0x89;
+    l->host[BLOCK0 + 1] = options;
+}
+
+/* One controller takes the drive by RV and keeps it; the other is refused until it is given up. Byte 17 is all that a record changes by. */
+static void the_drive_is_held(struct lent *l, uint32_t own, uint32_t other)
+{
+    struct lent wanted;
+    lay_restore(l, 0x08);
+    wanted = *l;
+    expect_number("the answer of who takes the drive", run_as(l, own), VSMD_DONE);
+    ended(&wanted, 0x80, 0x00, 0, 0, 0);
+    wanted.record0[VSMD_RECORD_AT_HOLDER] = (uint8_t)(own + 1);
+    expect_lent(l, &wanted);
+    expect_number("the answer of who keeps it", run_as(l, own), VSMD_DONE);
+    expect_lent(l, &wanted);
+    expect_number("the answer of the other", run_as(l, other), VSMD_BLOCK_FAILED);
+    ended(&wanted, 0x82, 0x2E, VSMD_DRIVE_HELD, 0, 0);
+    expect_lent(l, &wanted);
+    /* an initialize of the other is refused too; of its UIB, which lies outside memory, nothing is said */
+    l->host[BLOCK0] = wanted.host[BLOCK0] = 0x87;
+    memset(l->host + BLOCK0 + 10, 0xFF, 4);
+    memset(wanted.host + BLOCK0 + 10, 0xFF, 4);
+    expect_number("the answer of the other's initialize", run_as(l, other), VSMD_BLOCK_FAILED);
+    expect_lent(l, &wanted);
+    lay_restore(l, 0x00);
+    lay_restore(&wanted, 0x00);
+    expect_number("the answer of who gives it up", run_as(l, own), VSMD_DONE);
+    ended(&wanted, 0x80, 0x00, 0, 0, 0);
+    wanted.record0[VSMD_RECORD_AT_HOLDER] = VSMD_HOLDER_NONE;
+    expect_lent(l, &wanted);
+    expect_number("the answer of the other then", run_as(l, other), VSMD_DONE);
+    expect_lent(l, &wanted);
+}
+
+/* vsmd_run is the first controller's: it is refused where the second holds the drive, and let through where the first does. */
+static void the_first_has_two_names(struct lent *l)
+{
+    lay_restore(l, 0x08);
+    expect_number("the answer of the second", run_as(l, VSMD_CONTROLLER_SECOND), VSMD_DONE);
+    expect_number("the answer where the second holds the drive", run_with(l, RECORD, RECORD, 16), VSMD_BLOCK_FAILED);
+    expect_number("why it failed", l->outcome[VSMD_OUTCOME_AT_FAILED], VSMD_DRIVE_HELD);
+    expect_number("who holds it", vsmd_record_holder(l->record0), VSMD_HOLDER_SECOND);
+    expect_number("whether it was released", (unsigned long)vsmd_record_release(l->record0), 1);
+    expect_number("the answer where it was released", run_with(l, RECORD, RECORD, 16), VSMD_DONE);
+    expect_number("who holds it then", vsmd_record_holder(l->record0), VSMD_HOLDER_FIRST);
+    expect_number("the answer as the first", run_as(l, VSMD_CONTROLLER_FIRST), VSMD_DONE);
+    expect_number("whether it was released again", (unsigned long)vsmd_record_release(l->record0), 1);
+}
+
+/* What the header says of each byte that a holder can be, and what a release leaves: 01 and 02 alone are somebody's. */
+static void holders_told(const struct lent *l)
+{
+    uint8_t record[VSMD_RECORD_LEN], before[VSMD_RECORD_LEN];
+    unsigned holder, flag;
+    for (holder = 0; holder < 256; holder++) {
+        for (flag = 0; flag < 2; flag++) {
+            unsigned held = holder == 1 || holder == 2;
+            memcpy(record, l->record0, sizeof record);
+            record[VSMD_RECORD_AT_INITIALIZED] = (uint8_t)flag;
+            record[VSMD_RECORD_AT_HOLDER] = (uint8_t)holder;
+            memcpy(before, record, sizeof record);
+            expect_number("whether it says initialized", (unsigned long)vsmd_record_says_initialized(record), flag && holder <= 2);
+            expect_number("who holds it", vsmd_record_holder(record), held ? holder : VSMD_HOLDER_NONE);
+            expect_number("whether it was released", (unsigned long)vsmd_record_release(record), held);
+            if (held)
+                before[VSMD_RECORD_AT_HOLDER] = VSMD_HOLDER_NONE;
+            expect_bytes("the record after a release", record, before, sizeof record);
+        }
+    }
+}
+
+/* The record of another layout is nobody's: neither the header nor the library believes its byte 17. */
+static void holders_of_other_layouts(struct lent *l)
+{
+    static const uint8_t other[3] = {0x01, 0x00, 0x15};
+    static const size_t at[3] = {VSMD_RECORD_AT_VERSION, VSMD_RECORD_AT_LENGTH, VSMD_RECORD_AT_LENGTH + 1};
+    struct lent wanted;
+    size_t k;
+    lay_restore(l, 0x08);
+    for (k = 0; k < 3; k++) {
+        wanted = *l;
+        wanted.record0[VSMD_RECORD_AT_HOLDER] = VSMD_HOLDER_SECOND;
+        wanted.record0[at[k]] = other[k];
+        *l = wanted;
+        expect_number("who holds a record of another layout", vsmd_record_holder(l->record0), VSMD_HOLDER_NONE);
+        expect_number("whether it was released", (unsigned long)vsmd_record_release(l->record0), 0);
+        expect_number("the answer on it", run_with(l, RECORD, RECORD, 16), VSMD_BLOCK_FAILED);
+        ended(&wanted, 0x82, 0x40, VSMD_NOT_INITIALIZED, 0, 0);
+        expect_lent(l, &wanted);
+        l->record0[at[k]] = record_after[at[k]];
+        l->record0[VSMD_RECORD_AT_HOLDER] = VSMD_HOLDER_NONE;
+    }
+}
+
+/* A number that is no holder's: not initialized, for both, until an initialize mends it. */
+static void a_holder_that_is_none(struct lent *l, uint32_t controller)
+{
+    struct lent wanted;
+    lay_restore(l, 0x08);
+    l->record0[VSMD_RECORD_AT_HOLDER] = 0x03;
+    wanted = *l;
+    expect_number("the answer with holder 3", run_as(l, controller), VSMD_BLOCK_FAILED);
+    ended(&wanted, 0x82, 0x40, VSMD_NOT_INITIALIZED, 0, 0);
+    expect_lent(l, &wanted);
+    memcpy(l->host + BLOCK0, initialize, sizeof initialize);
+    l->host[BLOCK0 + 1] = 0x08;
+    wanted = *l;
+    expect_number("the answer of an initialize with RV", run_as(l, controller), VSMD_DONE);
+    ended(&wanted, 0x80, 0x00, 0, 0, 0);
+    wanted.record0[VSMD_RECORD_AT_HOLDER] = (uint8_t)(controller + 1);
+    expect_lent(l, &wanted);
+    vsmd_record_release(l->record0);
+}
+
+/* All of it, on the drive as an initialize left it. */
+static void two_controllers(struct lent *l)
+{
+    the_drive_is_held(l, VSMD_CONTROLLER_FIRST, VSMD_CONTROLLER_SECOND);
+    the_drive_is_held(l, VSMD_CONTROLLER_SECOND, VSMD_CONTROLLER_FIRST);
+    the_first_has_two_names(l);
+    holders_told(l);
+    holders_of_other_layouts(l);
+    a_holder_that_is_none(l, VSMD_CONTROLLER_FIRST);
+    a_holder_that_is_none(l, VSMD_CONTROLLER_SECOND);
 }
 
 /* 32 pairs on 22 cylinders leave two tracks, for which there is no room in the table. */
@@ -364,6 +527,7 @@ int main(void)
     struct lent l;
     layouts();
     refusals();
+    refusals_of_controllers();
     the_example(&l);
     helpers(&l);
     inspections(&l);
@@ -372,10 +536,12 @@ int main(void)
     the_spare_serves(&l);
     pairs_told(&l);
     the_table_is_cleared(&l);
+    two_controllers(&l);
     a_full_table(&l);
     upgrades();
     if (wrong)
         return 1;
-    printf("two_sector_read: the session example, the refusals, the inspection and a spare track through C are as the papers have them\n");
+    printf("two_sector_read: the session example, the refusals, the inspection, a spare track and a drive of two controllers through C are "
+           "as the papers have them\n");
     return 0;
 }

@@ -1,4 +1,4 @@
--- What a call comes to, by which of its buffers are long enough.
+-- What a call comes to, by which of its buffers are long enough and whether there is such a controller.
 -- Each is a case of the definition.
 use Prim.Native.Nat.{ℕ, _*_, _≤_, _<_, min}
 use mathlib.Core.List.{List}
@@ -15,15 +15,16 @@ use Rattle.board.specs.Inspection.{partOf}
 use Rattle.board.specs.Steps.{CameTo}
 use Rattle.block.specs.Steps.{written}
 use Rattle.board.specs.Lent.{worldOf}
-use Rattle.abi.specs.Calls.{Lent, answered, called, calledOf, imageNumber, inspectedOf, inspection, lentOf, made, outcomeShort, record0Short, record1Short, recordLeft, worldIn}
+use Rattle.abi.specs.Calls.{Lent, answered, calledAs, calledOf, controllerOf, controllerUnknown, imageNumber, inspectedOf, inspection, lentOf, made, outcomeShort, record0Short, record1Short, recordLeft, worldIn}
 use Rattle.abi.specs.Layouts.{outcomeBytes, recordIn, wordsFrom}
 use Rattle.board.specs.declared.Units.{Units}
+use Rattle.unit.specs.declared.Controller.{Controller}
 use Rattle.unit.specs.Standing.{UnitRecord, byValue, noTracks, pairs, unitOf}
 
 -- A run that was made, from what the code ran and stored, and from what it read.
 pub answered-is :
-    (l : Lent) (e : Ending) {r : Outcome} {number : ℕ} {host image0 image1 events tracks0 tracks1 record0 record1 outcome : List ℕ} →
-    CameTo e (worldOf host image0 image1 events tracks0 tracks1 (r .units)) r →
+    (l : Lent) (e : Ending) {c : Controller} {r : Outcome} {number : ℕ} {host image0 image1 events tracks0 tracks1 record0 record1 outcome : List ℕ} →
+    CameTo e (worldOf c host image0 image1 events tracks0 tracks1 (r .units)) r →
     record0 ≡ recordLeft (l .record0) (unitOf (r .units .zero) tracks0) →
     record1 ≡ recordLeft (l .record1) (unitOf (r .units .one) tracks1) →
     number ≡ runNumber (r .answer) →
@@ -52,47 +53,56 @@ pub tracks-read :
 tracks-read bytes u is counts read = rw (read, counts, is)
 
 pub made-is :
-    (first allowance : ℕ) (l : Lent) (units : Units) {r : Outcome} {number : ℕ}
+    (c : Controller) (first allowance : ℕ) (l : Lent) (units : Units) {r : Outcome} {number : ℕ}
     {tracks0 tracks1 host image0 image1 events tracks0′ tracks1′ record0 record1 outcome : List ℕ} →
     unitOf (units .zero) tracks0 ≡ recordIn (l .record0) →
     unitOf (units .one) tracks1 ≡ recordIn (l .record1) →
-    CameTo (ran first allowance (worldOf (l .host) (l .image0) (l .image1) (l .events) tracks0 tracks1 units))
-    (worldOf host image0 image1 events tracks0′ tracks1′ (r .units)) r →
+    CameTo (ran first allowance (worldOf c (l .host) (l .image0) (l .image1) (l .events) tracks0 tracks1 units))
+    (worldOf c host image0 image1 events tracks0′ tracks1′ (r .units)) r →
     record0 ≡ recordLeft (l .record0) (unitOf (r .units .zero) tracks0′) →
     record1 ≡ recordLeft (l .record1) (unitOf (r .units .one) tracks1′) →
     number ≡ runNumber (r .answer) →
     outcome ≡ written (l .outcome) 0 (outcomeBytes number (r .failed) (r .blocks) (r .sectors)) →
-    calledOf number (lentOf host image0 image1 events record0 record1 outcome) ≡ made first allowance l
-made-is first allowance l units is-zero is-one came left0 left1 is-number left =
-    answered-is l (ran first allowance (worldIn l)) (rw (is-zero, is-one) at came) left0 left1 is-number left
+    calledOf number (lentOf host image0 image1 events record0 record1 outcome) ≡ made c first allowance l
+made-is c first allowance l units is-zero is-one came left0 left1 is-number left =
+    answered-is l (ran first allowance (worldIn c l)) (rw (is-zero, is-one) at came) left0 left1 is-number left
 
-module _ (first allowance : ℕ) (l : Lent) where
-  pub called-refused-0 : length (l .record0) < 276 → called first allowance l ≡ calledOf record0Short l
-  unfolding called
+module _ (controller first allowance : ℕ) (l : Lent) where
+  pub called-refused-0 : length (l .record0) < 276 → calledAs controller first allowance l ≡ calledOf record0Short l
+  unfolding calledAs
   called-refused-0 short = if-pos (decLt (length (l .record0)) 276) short _ _
 
   pub called-refused-1 :
-      276 ≤ length (l .record0) → length (l .record1) < 276 → called first allowance l ≡ calledOf record1Short l
-  unfolding called
+      276 ≤ length (l .record0) → length (l .record1) < 276 → calledAs controller first allowance l ≡ calledOf record1Short l
+  unfolding calledAs
   called-refused-1 long0 short =
       if-neg (decLt (length (l .record0)) 276) (λ h. omega arith) _ _ ∙ if-pos (decLt (length (l .record1)) 276) short _ _
 
   pub called-refused-2 :
       276 ≤ length (l .record0) → 276 ≤ length (l .record1) → length (l .outcome) < 16 →
-      called first allowance l ≡ calledOf outcomeShort l
-  unfolding called
+      calledAs controller first allowance l ≡ calledOf outcomeShort l
+  unfolding calledAs
   called-refused-2 long0 long1 short =
       if-neg (decLt (length (l .record0)) 276) (λ h. omega arith) _ _ ∙
       if-neg (decLt (length (l .record1)) 276) (λ h. omega arith) _ _ ∙ if-pos (decLt (length (l .outcome)) 16) short _ _
 
-  pub called-made :
-      276 ≤ length (l .record0) → 276 ≤ length (l .record1) → 16 ≤ length (l .outcome) →
-      called first allowance l ≡ made first allowance l
-  unfolding called
-  called-made long0 long1 long =
+  pub called-refused-3 :
+      276 ≤ length (l .record0) → 276 ≤ length (l .record1) → 16 ≤ length (l .outcome) → 1 < controller →
+      calledAs controller first allowance l ≡ calledOf controllerUnknown l
+  unfolding calledAs
+  called-refused-3 long0 long1 long none =
       if-neg (decLt (length (l .record0)) 276) (λ h. omega arith) _ _ ∙
       if-neg (decLt (length (l .record1)) 276) (λ h. omega arith) _ _ ∙
-      if-neg (decLt (length (l .outcome)) 16) (λ h. omega arith) _ _
+      if-neg (decLt (length (l .outcome)) 16) (λ h. omega arith) _ _ ∙ if-pos (decLt 1 controller) none _ _
+
+  pub called-made :
+      276 ≤ length (l .record0) → 276 ≤ length (l .record1) → 16 ≤ length (l .outcome) → controller ≤ 1 →
+      calledAs controller first allowance l ≡ made (controllerOf controller) first allowance l
+  unfolding calledAs
+  called-made long0 long1 long one-of-two =
+      if-neg (decLt (length (l .record0)) 276) (λ h. omega arith) _ _ ∙
+      if-neg (decLt (length (l .record1)) 276) (λ h. omega arith) _ _ ∙
+      if-neg (decLt (length (l .outcome)) 16) (λ h. omega arith) _ _ ∙ if-neg (decLt 1 controller) (λ h. omega arith) _ _
 
 module _ (record0 record1 : List ℕ) (long0 long1 unit place image at bytes : ℕ) where
   pub inspection-refused-0 :

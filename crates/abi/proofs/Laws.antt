@@ -14,11 +14,15 @@ use Rattle.geometry.specs.Drive.{B, C, S}
 use Rattle.geometry.proofs.Same.{geometry-is}
 use Rattle.spares.specs.Table.{BlankPast, counted}
 use Rattle.unit.proofs.Decided.{record-is}
-use Rattle.unit.specs.Standing.{UnitRecord, bare, byValue, cylinder, geometry, initialized, noTracks, pairs, table, unitOf}
+use Rattle.unit.proofs.Holders.{holder-back}
+use Rattle.unit.specs.declared.Holder.{Holder}
+use Rattle.unit.specs.declared.Holder.the-variants.{Nobody, TheFirst, TheSecond}
+use Rattle.unit.specs.Holding.{holderNumber}
+use Rattle.unit.specs.Standing.{UnitRecord, bare, byValue, cylinder, geometry, holder, initialized, noTracks, pairs, table, unitOf}
 use Rattle.board.specs.Chain.{Ending}
 use Rattle.block.specs.Steps.{written}
 use Rattle.abi.specs.Calls.{recordLeft, standsIn?}
-use Rattle.abi.specs.Layouts.{endingBytes, geometryBytes, openingBytes, outcomeLength, pairsIn, recordBytes, recordIn, recordLength, saysInitialized, trackBytes, tracksIn, twoBytes, wordsFrom}
+use Rattle.abi.specs.Layouts.{endingBytes, geometryBytes, holderIn, openingBytes, outcomeLength, pairsIn, recordBytes, recordIn, recordLength, saysInitialized, trackBytes, tracksIn, twoBytes, wordsFrom}
 use Rattle.abi.proofs.Left.{left-anew, left-as-it-came, same-tracks}
 use Rattle.abi.proofs.Tracks.{at-the-head, length-tracks, length-words, past-written, tracks-back, words-past}
 
@@ -48,12 +52,22 @@ pub record Narrow (u : UnitRecord) : Type 0 where
 two-back : (n : ℕ) → n < 65536 → (0 * 256 + n / 256 % 256) * 256 + n % 256 ≡ n
 two-back n fits = omega arith
 
-opening-back :
-    (initialized : Bool) (g : Geometry) (y : ℕ) (rest : List ℕ) →
-    saysInitialized (openingBytes initialized ++ geometryBytes g ++ twoBytes y ++ (0x00 ∷ 0x00 ∷ []) ++ rest) ≡ initialized
-unfolding word
-opening-back true g y rest = refl
-opening-back false g y rest = refl
+-- Flag and holder are read back, each whatever the other is.
+module _ (g : Geometry) (y : ℕ) (rest : List ℕ) where
+  abbrev headed : Bool → Holder → List ℕ
+  headed initialized h = openingBytes initialized ++ geometryBytes g ++ twoBytes y ++ (0x00 ∷ holderNumber h ∷ []) ++ rest
+
+  opening-back : (initialized : Bool) (h : Holder) → saysInitialized (headed initialized h) ≡ initialized
+  unfolding word
+  opening-back true Nobody = refl
+  opening-back true TheFirst = refl
+  opening-back true TheSecond = refl
+  opening-back false h = refl
+
+  holder-read-back : (initialized : Bool) (h : Holder) → holderIn (headed initialized h) ≡ h
+  unfolding word
+  holder-read-back true h = holder-back h
+  holder-read-back false h = holder-back h
 
 pub zeros : (n i : ℕ) → _≡_ {A = ℕ} (getD (replicate n 0) i 0) 0
 zeros zero i = refl
@@ -97,12 +111,14 @@ module _ (u : UnitRecord) (n : Narrow u) (blank : BlankPast (pairs u) (table u))
       let g = geometry u in
       let ts = counted (pairs u) (table u) in
       let tracks = trackBytes ts in
-      let opening = openingBytes (initialized u) ++ geometryBytes g ++ twoBytes (cylinder u) ++ (0x00 ∷ 0x00 ∷ []) ++ twoBytes (pairs u) in
+      let opening = openingBytes (initialized u) ++ geometryBytes g ++ twoBytes (cylinder u) ++ (0x00 ∷ holderNumber (holder u) ∷ []) ++ twoBytes (pairs u) in
+      let after = twoBytes (pairs u) ++ tracks ++ rest in
       let many = pairs-count u (blank .long) in
       reads-as (recordBytes u ++ rest) u
-      (record-is _ (byValue u) (opening-back (initialized u) g (cylinder u) (twoBytes (pairs u) ++ tracks ++ rest))
+      (record-is _ (byValue u) (opening-back g (cylinder u) after (initialized u) (holder u))
       (geometry-is _ g (two-back (C g) (n .few-cylinders)) (two-back (S g) (n .few-sectors)) (two-back (B g) (n .few-bytes)) refl refl)
-      (two-back (cylinder u) (n .low-cylinder)) (two-back (pairs u) (n .few-pairs)))
+      (two-back (cylinder u) (n .low-cylinder)) (two-back (pairs u) (n .few-pairs))
+      (holder-read-back g (cylinder u) after (initialized u) (holder u)))
       (words-past opening (tracks ++ rest) 0 (2 * min (pairs u) 32) ∙
       rw many at
       (tracks-back ts rest (λ i less. rw (getD-take (2 * min (pairs u) 32) (table u) i 0 (omega arith)) (n .low-tracks i))))

@@ -1,4 +1,5 @@
 pub mod Called
+pub mod EachForItself
 pub mod Laws
 pub mod Left
 pub mod Outcomes

@@ -15,53 +15,62 @@ use Rattle.demands.proofs.Keeps.{run-keeps-record}
 use Rattle.demands.proofs.Tables.{run-keeps-blank}
 use Rattle.block.specs.World.{World}
 use Rattle.board.specs.Chain.{ran}
-use Rattle.abi.specs.Calls.{Called, Lent, called, calledOf, made, recordLeft, standsIn?, worldIn}
+use Rattle.abi.specs.Calls.{Called, Lent, calledAs, calledOf, controllerOf, made, recordLeft, standsIn?, worldIn}
 use Rattle.abi.specs.Layouts.{recordBytes, recordIn}
-use Rattle.abi.proofs.Called.{called-made, called-refused-0, called-refused-1, called-refused-2}
+use Rattle.abi.proofs.Called.{called-made, called-refused-0, called-refused-1, called-refused-2, called-refused-3}
 use Rattle.abi.proofs.Laws.{Narrow, left-reads-back, read-blank, record-length}
 use Rattle.abi.proofs.Left.{left-anew, left-as-it-came, stands-as-read}
 use Rattle.abi.proofs.Tracks.{past-written}
 
-module _ (first allowance : ℕ) (l : Lent) where
+module _ (controller first allowance : ℕ) (l : Lent) where
+  abbrev before : World
+  before = worldIn (controllerOf controller) l
+
   -- What is true of a call that changes nothing and of one that is made is true of every call.
-  every-call : (P : Called → Type 0) → ((code : ℕ) → P (calledOf code l)) → P (made first allowance l) → P (called first allowance l)
+  every-call :
+      (P : Called → Type 0) → ((code : ℕ) → P (calledOf code l)) → P (made (controllerOf controller) first allowance l) →
+      P (calledAs controller first allowance l)
   every-call P refused run =
       by-cases (decLe 276 (length (l .record0)))
       (λ fits0.
       by-cases (decLe 276 (length (l .record1)))
       (λ fits1.
-      by-cases (decLe 16 (length (l .outcome))) (λ fits. rw (called-made first allowance l fits0 fits1 fits) run)
-      (λ short. rw (called-refused-2 first allowance l fits0 fits1 (omega arith)) (refused _)))
-      (λ short. rw (called-refused-1 first allowance l fits0 (omega arith)) (refused _)))
-      (λ short. rw (called-refused-0 first allowance l (omega arith)) (refused _))
+      by-cases (decLe 16 (length (l .outcome)))
+      (λ fits.
+      by-cases (decLe controller 1) (λ there. rw (called-made controller first allowance l fits0 fits1 fits there) run)
+      (λ none. rw (called-refused-3 controller first allowance l fits0 fits1 fits (omega arith)) (refused _)))
+      (λ short. rw (called-refused-2 controller first allowance l fits0 fits1 (omega arith)) (refused _)))
+      (λ short. rw (called-refused-1 controller first allowance l fits0 (omega arith)) (refused _)))
+      (λ short. rw (called-refused-0 controller first allowance l (omega arith)) (refused _))
 
   pub record0-comes-back :
-      (RunWritesRecord first allowance (worldIn l) Zero → ⊥) → called first allowance l .lent .record0 ≡ l .record0
+      (RunWritesRecord first allowance before Zero → ⊥) → calledAs controller first allowance l .lent .record0 ≡ l .record0
   record0-comes-back none =
       every-call (λ c. c .lent .record0 ≡ l .record0) (λ code. refl)
-      (left-as-it-came (l .record0) _ (stands-as-read (l .record0) (sym (run-keeps-record first allowance (worldIn l) Zero none))))
+      (left-as-it-came (l .record0) _ (stands-as-read (l .record0) (sym (run-keeps-record first allowance before Zero none))))
 
   pub record1-comes-back :
-      (RunWritesRecord first allowance (worldIn l) One → ⊥) → called first allowance l .lent .record1 ≡ l .record1
+      (RunWritesRecord first allowance before One → ⊥) → calledAs controller first allowance l .lent .record1 ≡ l .record1
   record1-comes-back none =
       every-call (λ c. c .lent .record1 ≡ l .record1) (λ code. refl)
-      (left-as-it-came (l .record1) _ (stands-as-read (l .record1) (sym (run-keeps-record first allowance (worldIn l) One none))))
+      (left-as-it-came (l .record1) _ (stands-as-read (l .record1) (sym (run-keeps-record first allowance before One none))))
 
-  -- After a call that was made a record reads as the one that the run left, its table with it, whatever its bytes were before: two calls in a row are
+  -- After a call that was made a record reads as the one that the run left, its table and its holder with it, whatever its bytes were before: two calls in a row are
   -- two runs in a row.
-  module _ (fits0 : 276 ≤ length (l .record0)) (fits1 : 276 ≤ length (l .record1)) (fits : 16 ≤ length (l .outcome)) where
+  module _
+      (fits0 : 276 ≤ length (l .record0)) (fits1 : 276 ≤ length (l .record1)) (fits : 16 ≤ length (l .outcome)) (there : controller ≤ 1) where
     abbrev left : World
-    left = ran first allowance (worldIn l) .world
+    left = ran first allowance before .world
 
-    pub record0-reads-back : Narrow (left .drive0 .unit) → recordIn (called first allowance l .lent .record0) ≡ left .drive0 .unit
+    pub record0-reads-back : Narrow (left .drive0 .unit) → recordIn (calledAs controller first allowance l .lent .record0) ≡ left .drive0 .unit
     record0-reads-back narrow =
-        ap (λ (c : Called). recordIn (c .lent .record0)) (called-made first allowance l fits0 fits1 fits)
-        ∙ left-reads-back (left .drive0 .unit) narrow (run-keeps-blank first allowance (worldIn l) Zero (read-blank (l .record0))) (l .record0) fits0
+        ap (λ (c : Called). recordIn (c .lent .record0)) (called-made controller first allowance l fits0 fits1 fits there)
+        ∙ left-reads-back (left .drive0 .unit) narrow (run-keeps-blank first allowance before Zero (read-blank (l .record0))) (l .record0) fits0
 
-    pub record1-reads-back : Narrow (left .drive1 .unit) → recordIn (called first allowance l .lent .record1) ≡ left .drive1 .unit
+    pub record1-reads-back : Narrow (left .drive1 .unit) → recordIn (calledAs controller first allowance l .lent .record1) ≡ left .drive1 .unit
     record1-reads-back narrow =
-        ap (λ (c : Called). recordIn (c .lent .record1)) (called-made first allowance l fits0 fits1 fits)
-        ∙ left-reads-back (left .drive1 .unit) narrow (run-keeps-blank first allowance (worldIn l) One (read-blank (l .record1))) (l .record1) fits1
+        ap (λ (c : Called). recordIn (c .lent .record1)) (called-made controller first allowance l fits0 fits1 fits there)
+        ∙ left-reads-back (left .drive1 .unit) narrow (run-keeps-blank first allowance before One (read-blank (l .record1))) (l .record1) fits1
 
 -- Of a record that is stored, the bytes past the pairs that count are as they came.
 pub past-the-pairs-as-they-came :

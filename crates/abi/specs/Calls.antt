@@ -1,6 +1,6 @@
 -- What the exported calls do, in bytes: a run and an inspection as board defines them, on records that cross as bytes. A buffer that is
--- too short for its layout is refused with a code of its own, and nothing is changed.
-use Prim.Native.Nat.{ℕ}
+-- too short for its layout, and a controller that there is not, is refused with a code of its own, and nothing is changed.
+use Prim.Native.Nat.{ℕ, zero, suc}
 use mathlib.Core.List.{List, List-discrete}
 use mathlib.Core.Logic.{ite, Dec·and}
 use mathlib.Core.Path.{_≡_}
@@ -11,6 +11,8 @@ use Rattle.request.specs.declared.UnitNumber.{UnitNumber}
 use Rattle.request.specs.declared.UnitNumber.the-variants.{Zero, One}
 use Rattle.unit.proofs.Decided.{same?}
 use Rattle.spares.specs.Table.{counted}
+use Rattle.unit.specs.declared.Controller.{Controller}
+use Rattle.unit.specs.declared.Controller.the-variants.{First, Second}
 use Rattle.unit.specs.Standing.{UnitRecord, byValue, pairs, table}
 use Rattle.board.specs.declared.inspection.Part.{Part}
 use Rattle.board.specs.Chain.{Ending, ran}
@@ -59,10 +61,14 @@ record1Short = 0x1F2
 abbrev pub outcomeShort : ℕ
 outcomeShort = 0x1F3
 
--- The world that the bytes stand for.
-abbrev pub worldIn : Lent → World
-worldIn l =
+abbrev pub controllerUnknown : ℕ
+controllerUnknown = 0x1F4
+
+-- The world that the bytes stand for, of a run by a controller.
+abbrev pub worldIn : Controller → Lent → World
+worldIn c l =
     record {
+      controller = c;
       host = l .host;
       drive0 = record { unit = recordIn (l .record0); image = l .image0 };
       drive1 = record { unit = recordIn (l .record1); image = l .image1 };
@@ -90,15 +96,26 @@ answered l e =
     (lentOf (w .host) (w .drive0 .image) (w .drive1 .image) (w .events) (recordLeft (l .record0) (w .drive0 .unit))
     (recordLeft (l .record1) (w .drive1 .unit)) (written (l .outcome) 0 (endingBytes e)))
 
-abbrev pub made : ℕ → ℕ → Lent → Called
-made first allowance l = answered l (ran first allowance (worldIn l))
+abbrev pub made : Controller → ℕ → ℕ → Lent → Called
+made c first allowance l = answered l (ran first allowance (worldIn c l))
 
-unfoldable pub called : ℕ → ℕ → Lent → Called
-called first allowance l =
+-- The first controller has the number 0, the second 1.
+abbrev pub controllerOf : ℕ → Controller
+controllerOf zero = First
+controllerOf (suc n) = Second
+
+-- A run of the controller with a number (02, K10). The lengths of the layouts' buffers are asked first, and then the number: there are two controllers.
+unfoldable pub calledAs : (controller first allowance : ℕ) → Lent → Called
+calledAs controller first allowance l =
     ite (decLt (length (l .record0)) recordLength) (calledOf record0Short l)
     (ite (decLt (length (l .record1)) recordLength) (calledOf record1Short l)
     (ite (decLt (length (l .outcome)) outcomeLength) (calledOf outcomeShort l)
-    (made first allowance l)))
+    (ite (decLt 1 controller) (calledOf controllerUnknown l)
+    (made (controllerOf controller) first allowance l))))
+
+-- A run that is told no controller is the first one's.
+abbrev pub called : (first allowance : ℕ) → Lent → Called
+called first allowance l = calledAs 0 first allowance l
 
 -- What an inspection comes to: a code, 0 where it was made, also where it hands back no part, and which image, from which byte on, how
 -- many bytes.

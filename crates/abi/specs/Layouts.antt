@@ -13,13 +13,13 @@
 --   12, 13    volume 1: start head, heads              12..15  sectors moved
 --   14, 15    the cylinder that the heads stand on
 --   16        the order of tracks, 00
---   17        the holder, 00
+--   17        the holder: 00 nobody, 01 the first controller, 02 the second
 --   18, 19    the pairs that count
 --   20..275   32 pairs of tracks, bad and spare: cylinder (2), head, 00
 use Prim.Native.Nat.{ℕ, zero, suc, _+_, _*_, _/_, _%_, min}
 use mathlib.Core.Bool.{Bool, cond, _&&_}
 use mathlib.Core.List.{List, [], _∷_, _++_}
-use lib.Dec.{eqb}
+use lib.Dec.{eqb, leb}
 use lib.ListN.{getD}
 use Rattle.wire.specs.Words.{be16, be32}
 use Rattle.geometry.specs.declared.Geometry.{Geometry}
@@ -27,7 +27,10 @@ use Rattle.geometry.specs.declared.Volume.{Volume}
 use Rattle.geometry.specs.declared.VolumeNumber.the-variants.{Zero, One}
 use Rattle.geometry.specs.Drive.{B, C, N, S, geometryOf, start, volume, volumeOf}
 use Rattle.spares.specs.Table.{counted}
-use Rattle.unit.specs.Standing.{UnitRecord, cylinder, geometry, initialized, noTracks, pairs, recordOf, table}
+use Rattle.unit.specs.declared.Holder.{Holder}
+use Rattle.unit.specs.declared.Holder.the-variants.{Nobody}
+use Rattle.unit.specs.Holding.{holderNumber, holderOf}
+use Rattle.unit.specs.Standing.{UnitRecord, cylinder, geometry, heldBy, holder, initialized, noTracks, pairs, recordOf, table}
 use Rattle.answers.specs.Numbers.{runNumber}
 use Rattle.board.specs.Chain.{Ending}
 use Rattle.block.specs.Events.{bigEndian}
@@ -39,11 +42,16 @@ recordLength = 276
 abbrev pub outcomeLength : ℕ
 outcomeLength = 16
 
--- A record says that its unit is initialized where it opens with 02 01 01 14: this version, the flag, and this length; and where order and
--- holder are 00. With any other bytes it does not, so that cleared memory, erased flash and a record of another version all count as not
--- initialized.
+-- A record says that its unit is initialized where it opens with 02 01 01 14: this version, the flag, and this length; and where the order is 00
+-- and the holder at most 02. With any other bytes it does not, so that cleared memory, erased flash and a record of another version all count as
+-- not initialized.
 abbrev pub saysInitialized : List ℕ → Bool
-saysInitialized bytes = eqb (be32 bytes 0) 0x02010114 && eqb (be16 bytes 16) 0
+saysInitialized bytes = eqb (be32 bytes 0) 0x02010114 && (eqb (getD bytes 16 0) 0 && leb (getD bytes 17 0) 2)
+
+-- Who holds the drive (02, K10). The byte is believed where version and length are those of this layout, whatever the flag says; any other number
+-- is nobody's.
+abbrev pub holderIn : List ℕ → Holder
+holderIn bytes = cond (eqb (getD bytes 0 0) 2 && eqb (be16 bytes 2) 0x0114) (holderOf (getD bytes 17 0)) Nobody
 
 abbrev pub volumeIn : List ℕ → ℕ → Volume
 volumeIn bytes at = volumeOf (getD bytes at 0) (getD bytes (at + 1) 0)
@@ -66,7 +74,8 @@ tracksIn bytes = written noTracks 0 (wordsFrom bytes 20 (2 * min (pairsIn bytes)
 
 -- The record that stands in some bytes.
 abbrev pub recordIn : List ℕ → UnitRecord
-recordIn bytes = recordOf (saysInitialized bytes) (geometryIn bytes) (be16 bytes 14) (pairsIn bytes) (tracksIn bytes)
+recordIn bytes =
+    heldBy (recordOf (saysInitialized bytes) (geometryIn bytes) (be16 bytes 14) (pairsIn bytes) (tracksIn bytes)) (holderIn bytes)
 
 abbrev pub twoBytes : ℕ → List ℕ
 twoBytes n = n / 256 % 256 ∷ n % 256 ∷ []
@@ -88,7 +97,7 @@ trackBytes (t ∷ ts) = bigEndian t ++ trackBytes ts
 -- The bytes of a record, to the last pair that counts. Those past it are not stored: an initialize, after which none counts, leaves them all.
 abbrev pub recordBytes : UnitRecord → List ℕ
 recordBytes u =
-    openingBytes (initialized u) ++ geometryBytes (geometry u) ++ twoBytes (cylinder u) ++ (0x00 ∷ 0x00 ∷ []) ++ twoBytes (pairs u) ++
+    openingBytes (initialized u) ++ geometryBytes (geometry u) ++ twoBytes (cylinder u) ++ (0x00 ∷ holderNumber (holder u) ∷ []) ++ twoBytes (pairs u) ++
     trackBytes (counted (pairs u) (table u))
 
 -- The bytes of an outcome.

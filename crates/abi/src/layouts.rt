@@ -2,6 +2,7 @@
 use geometry::Geometry;
 use geometry::Volume;
 use geometry::VolumeNumber;
+use unit::Holder;
 use unit::Record;
 ghost use mathlib.Core.Bool.{cond};
 ghost use mathlib.Core.List.{[], _∷_};
@@ -9,7 +10,7 @@ ghost use mathlib.Core.Path.{_≡_};
 ghost use Prim.Native.Nat.{_+_, _*_, _≤_, min};
 ghost use lib.ListN.{length};
 ghost use Rattle.abi.specs.Calls.{StandsIn, recordLeft};
-ghost use Rattle.abi.specs.Layouts.{geometryBytes, geometryIn, openingBytes, outcomeBytes, recordBytes, recordIn, saysInitialized, trackBytes, volumeBytes, volumeIn, wordsFrom};
+ghost use Rattle.abi.specs.Layouts.{geometryBytes, geometryIn, holderIn, openingBytes, outcomeBytes, recordBytes, recordIn, saysInitialized, trackBytes, volumeBytes, volumeIn, wordsFrom};
 ghost use Rattle.block.specs.Steps.{written};
 ghost use Rattle.spares.specs.Table.{counted};
 ghost use Rattle.unit.specs.Standing.{byValue, unitOf};
@@ -43,7 +44,24 @@ fn says_initialized(bytes: &[u8]) -> bool
     if wire::be32(bytes, 0) != 0x0201_0114 {
         return false;
     }
-    wire::be16(bytes, 16) == 0
+    if bytes[16] != 0 {
+        return false;
+    }
+    bytes[17] <= 2
+}
+
+// Who holds the drive, by a record of this layout.
+fn holder(bytes: &[u8]) -> Holder
+    requires { ⌜ 276 ≤ length (now bytes) ⌝ }
+    ensures { λ r. ⌜ r ≡ holderIn (now (bytes .entry)) ⌝ }
+{
+    if bytes[0] != 2 {
+        return Holder::Nobody;
+    }
+    if wire::be16(bytes, 2) != 0x0114 {
+        return Holder::Nobody;
+    }
+    Holder::of(bytes[17] as u16)
 }
 
 // The record that stands in some bytes, but for its table.
@@ -56,7 +74,7 @@ pub(crate) fn record(bytes: &[u8]) -> Record
         geometry(bytes),
         wire::be16(bytes, 14),
         wire::be16(bytes, 18),
-    )
+    ).held_by(holder(bytes))
 }
 
 // Reads the tracks of the pairs that count. With none, no byte is read and the table stays as it is.
@@ -163,7 +181,7 @@ fn put_record(bytes: &mut [u8], u: Record, table: &[u32; 64])
     put_opening(bytes, u.initialized());
     put_geometry(bytes, u.geometry());
     wire::put16(bytes, 14, u.cylinder());
-    put_two(bytes, 16, 0x00, 0x00);
+    put_two(bytes, 16, 0x00, u.holder().number());
     wire::put16(bytes, 18, u.pairs());
     put_tracks(bytes, table, u.pairs());
 }

@@ -3,10 +3,11 @@
 // A buffer that is too short for its layout is refused, and nothing is changed. That pointers are good and apart only the caller knows.
 use board::Units;
 use request::UnitNumber;
+use unit::Controller;
 ghost use mathlib.Core.Path.{_≡_};
 ghost use Prim.Native.Nat.{_≤_};
 ghost use lib.ListN.{length};
-ghost use Rattle.abi.specs.Calls.{called, calledOf, imageNumber, inspectedOf, inspection, lentOf, made};
+ghost use Rattle.abi.specs.Calls.{called, calledAs, calledOf, controllerOf, imageNumber, inspectedOf, inspection, lentOf, made};
 ghost use Rattle.abi.specs.Layouts.{outcomeLength, recordLength};
 
 mod layouts;
@@ -21,6 +22,8 @@ pub const RECORD0_SHORT: u32 = 0x1F1;
 pub const RECORD1_SHORT: u32 = 0x1F2;
 
 pub const OUTCOME_SHORT: u32 = 0x1F3;
+
+pub const CONTROLLER_UNKNOWN: u32 = 0x1F4;
 
 // The version of the layouts.
 #[no_mangle]
@@ -55,12 +58,13 @@ fn run(
     record0: &mut [u8],
     record1: &mut [u8],
     outcome: &mut [u8],
+    c: Controller,
     first: u32,
     allowance: u32,
 ) -> u32
     requires { ⌜ (276 ≤ length (now record0)) × ((276 ≤ length (now record1)) × (16 ≤ length (now outcome))) ⌝ }
     ensures { λ r. ⌜ calledOf r (lentOf (now (host .exit)) (now (image0 .exit)) (now (image1 .exit)) (now (events .exit)) (now (record0 .exit)) (now (record1 .exit)) (now (outcome .exit)))
-        ≡ made first allowance (lentOf (now (host .entry)) (now (image0 .entry)) (now (image1 .entry)) (now (events .entry)) (now (record0 .entry)) (now (record1 .entry)) (now (outcome .entry))) ⌝ }
+        ≡ made c first allowance (lentOf (now (host .entry)) (now (image0 .entry)) (now (image1 .entry)) (now (events .entry)) (now (record0 .entry)) (now (record1 .entry)) (now (outcome .entry))) ⌝ }
 {
     let zero = layouts::record(record0);
     let one = layouts::record(record1);
@@ -76,6 +80,7 @@ fn run(
         &mut map0,
         &mut map1,
         Units { zero, one },
+        c,
         first,
         allowance,
     );
@@ -88,7 +93,62 @@ fn run(
     number as u32
 }
 
-// Runs the chain from the first block on. Answers the run's answer, 0 to 6, or one of the three codes where nothing was done.
+// The controller with a number.
+fn controller_of(number: u32) -> Controller
+    ensures { λ r. ⌜ r ≡ controllerOf number ⌝ }
+{
+    if number == 0 {
+        Controller::First
+    } else {
+        Controller::Second
+    }
+}
+
+// Runs the chain from the first block on, as the controller with a number: 0 the first, 1 the second. Answers the run's answer, 0 to 6, or one of the four
+// codes where nothing was done.
+#[no_mangle]
+pub extern "C" fn vsmd_run_as(
+    host: &mut [u8],
+    image0: &mut [u8],
+    image1: &mut [u8],
+    events: &mut [u8],
+    record0: &mut [u8],
+    record1: &mut [u8],
+    outcome: &mut [u8],
+    first: u32,
+    allowance: u32,
+    controller: u32,
+) -> u32
+    ensures { λ r. ⌜ calledOf r (lentOf (now (host .exit)) (now (image0 .exit)) (now (image1 .exit)) (now (events .exit)) (now (record0 .exit)) (now (record1 .exit)) (now (outcome .exit)))
+        ≡ calledAs controller first allowance (lentOf (now (host .entry)) (now (image0 .entry)) (now (image1 .entry)) (now (events .entry)) (now (record0 .entry)) (now (record1 .entry)) (now (outcome .entry))) ⌝ }
+{
+    if record0.len() < RECORD_LEN {
+        return RECORD0_SHORT;
+    }
+    if record1.len() < RECORD_LEN {
+        return RECORD1_SHORT;
+    }
+    if outcome.len() < OUTCOME_LEN {
+        return OUTCOME_SHORT;
+    }
+    if 1 < controller {
+        return CONTROLLER_UNKNOWN;
+    }
+    run(
+        host,
+        image0,
+        image1,
+        events,
+        record0,
+        record1,
+        outcome,
+        controller_of(controller),
+        first,
+        allowance,
+    )
+}
+
+// The same as the first controller. Its signature is older than the second: firmware that knows of one calls it with nine arguments.
 #[no_mangle]
 pub extern "C" fn vsmd_run(
     host: &mut [u8],
@@ -104,16 +164,7 @@ pub extern "C" fn vsmd_run(
     ensures { λ r. ⌜ calledOf r (lentOf (now (host .exit)) (now (image0 .exit)) (now (image1 .exit)) (now (events .exit)) (now (record0 .exit)) (now (record1 .exit)) (now (outcome .exit)))
         ≡ called first allowance (lentOf (now (host .entry)) (now (image0 .entry)) (now (image1 .entry)) (now (events .entry)) (now (record0 .entry)) (now (record1 .entry)) (now (outcome .entry))) ⌝ }
 {
-    if record0.len() < RECORD_LEN {
-        return RECORD0_SHORT;
-    }
-    if record1.len() < RECORD_LEN {
-        return RECORD1_SHORT;
-    }
-    if outcome.len() < OUTCOME_LEN {
-        return OUTCOME_SHORT;
-    }
-    run(
+    vsmd_run_as(
         host,
         image0,
         image1,
@@ -123,6 +174,7 @@ pub extern "C" fn vsmd_run(
         outcome,
         first,
         allowance,
+        0,
     )
 }
 

@@ -6,7 +6,7 @@ use mathlib.Core.Path.{_≡_, refl, sym, ap, _∙_}
 use native.Mathlib.Omega.{arith}
 use lib.Dec.{eqb}
 use Rattle.answers.specs.declared.Refusal.{Refusal}
-use Rattle.answers.specs.declared.Refusal.the-variants.{CommandUnknown, NotInitialized, UibMisplaced, UibOutsideLimits, VolumeAbsent, CountZero, SectorOutside, ImageShort, ListBad, DataMisplaced, Unreadable, TracksTaken, TableFull}
+use Rattle.answers.specs.declared.Refusal.the-variants.{CommandUnknown, NotInitialized, UibMisplaced, UibOutsideLimits, VolumeAbsent, CountZero, SectorOutside, ImageShort, ListBad, DataMisplaced, Unreadable, TracksTaken, TableFull, DriveHeld}
 use Rattle.answers.specs.declared.RunAnswer.{RunAnswer}
 use Rattle.answers.specs.declared.RunAnswer.the-variants.{Done, EventsShort, AllowanceBad, FirstBad, BlockFailed, LinkBad, AllowanceSpent}
 use Rattle.answers.specs.Numbers.{OfABlock, refusalNumber, runNumber}
@@ -25,7 +25,8 @@ refusal n =
     (cond (eqb n 19) DataMisplaced
     (cond (eqb n 20) Unreadable
     (cond (eqb n 22) TracksTaken
-    TableFull)))))))))))
+    (cond (eqb n 23) TableFull
+    DriveHeld))))))))))))
 
 refusal-back : (a : Refusal) → refusal (refusalNumber a) ≡ a
 unfolding refusal
@@ -42,6 +43,7 @@ refusal-back DataMisplaced = refl
 refusal-back Unreadable = refl
 refusal-back TracksTaken = refl
 refusal-back TableFull = refl
+refusal-back DriveHeld = refl
 
 pub refusals-differ : (a b : Refusal) → refusalNumber a ≡ refusalNumber b → a ≡ b
 refusals-differ a b same = sym (refusal-back a) ∙ ap refusal same ∙ refusal-back b
@@ -84,3 +86,4 @@ refusals-in-range DataMisplaced = (omega arith, omega arith, λ is. omega arith)
 refusals-in-range Unreadable = (omega arith, omega arith, λ is. omega arith)
 refusals-in-range TracksTaken = (omega arith, omega arith, λ is. omega arith)
 refusals-in-range TableFull = (omega arith, omega arith, λ is. omega arith)
+refusals-in-range DriveHeld = (omega arith, omega arith, λ is. omega arith)

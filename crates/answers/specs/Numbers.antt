@@ -1,10 +1,10 @@
--- The number of each answer (01, Answer numbers; 02, K5), and the status of a block.
+-- The number of each answer (01, Answer numbers; 02, K5 and K10), and the status of a block.
 use Prim.Native.Nat.{ℕ, _≤_}
 use mathlib.Core.Path.{_≡_}
 use Rattle.answers.specs.declared.BlockAnswer.{BlockAnswer}
 use Rattle.answers.specs.declared.BlockAnswer.the-variants.{Ended, Failed}
 use Rattle.answers.specs.declared.Refusal.{Refusal}
-use Rattle.answers.specs.declared.Refusal.the-variants.{CommandUnknown, NotInitialized, UibMisplaced, UibOutsideLimits, VolumeAbsent, CountZero, SectorOutside, ImageShort, ListBad, DataMisplaced, Unreadable, TracksTaken, TableFull}
+use Rattle.answers.specs.declared.Refusal.the-variants.{CommandUnknown, NotInitialized, UibMisplaced, UibOutsideLimits, VolumeAbsent, CountZero, SectorOutside, ImageShort, ListBad, DataMisplaced, Unreadable, TracksTaken, TableFull, DriveHeld}
 use Rattle.answers.specs.declared.RunAnswer.{RunAnswer}
 use Rattle.answers.specs.declared.RunAnswer.the-variants.{Done, EventsShort, AllowanceBad, FirstBad, BlockFailed, LinkBad, AllowanceSpent}
 
@@ -51,10 +51,12 @@ refusalNumber Unreadable = 20
 refusalNumber TracksTaken = 22
 -- "32 pairs stand" (02, K5)
 refusalNumber TableFull = 23
+-- "drive held" (02, K10)
+refusalNumber DriveHeld = 24
 
 -- The numbers that a failed block can have. 21 was one of them, and is not used again (02, K13).
 abbrev pub OfABlock : ℕ → Type 0
-OfABlock n = (10 ≤ n) × (n ≤ 23) × (n ≡ 21 → ⊥)
+OfABlock n = (10 ≤ n) × (n ≤ 24) × (n ≡ 21 → ⊥)
 
 -- "the failed block's answer number, 10 and up (otherwise 0)" (01, What the board answers for)
 abbrev pub blockNumber : BlockAnswer → ℕ

@@ -30,6 +30,7 @@ pub enum Refusal {
     Unreadable,
     TracksTaken,
     TableFull,
+    DriveHeld,
 }
 
 // How a block ended.
@@ -56,7 +57,7 @@ impl RunAnswer {
 }
 
 impl Refusal {
-    // The papers' number, 10 to 20, 22 and 23.
+    // The papers' number, 10 to 20 and 22 to 24.
     pub fn number(self) -> u8
         ensures { λ r. ⌜ r ≡ refusalNumber self ⌝ }
     {
@@ -74,6 +75,7 @@ impl Refusal {
             Refusal::Unreadable => 20,
             Refusal::TracksTaken => 22,
             Refusal::TableFull => 23,
+            Refusal::DriveHeld => 24,
         }
     }
 }

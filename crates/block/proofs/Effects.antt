@@ -21,7 +21,8 @@ use Rattle.transfer.specs.Stores.{Buffers, Store, after, bytesFrom, eventByte, 
 use Rattle.transfer.proofs.Stays.{event-bytes-stored, host-bytes-stored}
 use Rattle.transfer.proofs.Stores.{after-append}
 use Rattle.block.specs.declared.Done.{Done}
-use Rattle.block.specs.Block.{Effect, asking, effectOn, finish, finished, judged}
+use Rattle.unit.specs.declared.Controller.{Controller}
+use Rattle.block.specs.Block.{Effect, asking, effectOn, finish, finished, holding, judged}
 use Rattle.block.specs.Events.{entry}
 use Rattle.block.specs.Steps.{doneOf, three, written}
 use Rattle.block.specs.World.{Drive}
@@ -62,10 +63,11 @@ module _ (b : Block) (at i : ℕ) (answer : BlockAnswer) (travel : ℤ) where
 
 -- The effect of a block whose verdict is known.
 pub effect-judged :
-    (host : List ℕ) (d : Drive) (at i : ℕ) (b : Block) (v : Verdict) → b ≡ blockAt host at → verdict (asking (taskOf host b) d host) ≡ v →
-    effectOn host d at i ≡ finished b at i (judged host d at v)
+    (c : Controller) (host : List ℕ) (d : Drive) (at i : ℕ) (b : Block) (v : Verdict) → b ≡ blockAt host at →
+    verdict (asking c (taskOf host b) d host) ≡ v →
+    effectOn c host d at i ≡ finished b at i (holding c (b .options .reserve) v (judged host d at v))
 unfolding effectOn
-effect-judged host d at i b v is judgement = rw (← judgement, is)
+effect-judged c host d at i b v is judgement = rw (← judgement, is)
 
 -- Two rows of stores, made one after the other.
 pub then-made :

@@ -2,6 +2,7 @@ pub mod Complement
 pub mod Effects
 pub mod Entries
 pub mod Gathered
+pub mod Held
 pub mod Kept
 pub mod Outcomes
 pub mod Transfers

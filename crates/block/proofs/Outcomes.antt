@@ -41,5 +41,5 @@ did-once b e m v w ts us c d p q = λ i.
 
 run-block-once :
     OneOutcome run-block.Post
-    (λ κ x e. seen-of x (three (now (e .0)) (now (e .1 .0)) (now (e .1 .1 .0))) (now (e .1 .1 .1 .1 .1 .0)))
+    (λ κ x e. seen-of x (three (now (e .0)) (now (e .1 .0)) (now (e .1 .1 .0))) (now (e .1 .1 .1 .1 .1 .1 .0)))
 run-block-once κ a x y e f p q = did-once _ _ _ _ _ _ _ x y p q

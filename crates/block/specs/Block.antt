@@ -1,11 +1,12 @@
 -- What one block does (01, One run), in three movements: it is judged, performed and finished. Its stores in order, and what becomes of its
 -- unit's record.
 use Prim.Native.Nat.{ℕ, _+_, _-_, _*_}
-use mathlib.Core.Bool.{false}
+use mathlib.Core.Bool.{Bool, false}
 use mathlib.Core.List.{List, [], _∷_, _++_}
 use lib.IntN.{ℤ, pos}
 use lib.ListN.{length}
 use Rattle.answers.specs.declared.BlockAnswer.{BlockAnswer}
+use Rattle.answers.specs.declared.BlockAnswer.the-variants.{Ended, Failed}
 use Rattle.answers.specs.declared.Refusal.{Refusal}
 use Rattle.answers.specs.Numbers.{statusOf}
 use Rattle.geometry.specs.declared.VolumeNumber.{VolumeNumber}
@@ -13,8 +14,10 @@ use Rattle.request.specs.declared.Buffer.{Buffer}
 use Rattle.request.specs.declared.Buffer.the-variants.{Piece, List as Elements}
 use Rattle.request.specs.declared.Task.{Task}
 use Rattle.request.specs.declared.UnitNumber.{UnitNumber}
+use Rattle.unit.specs.declared.Controller.{Controller}
+use Rattle.unit.specs.Holding.{reservedBy}
 use Rattle.unit.specs.Landing.{spotOf}
-use Rattle.unit.specs.Standing.{UnitRecord, cylinder, fresh, mapped, movedTo}
+use Rattle.unit.specs.Standing.{UnitRecord, cylinder, fresh, heldBy, mapped, movedTo}
 use Rattle.transfer.specs.Data.{Transfer, dataOn, formatting, moving, progressOn}
 use Rattle.transfer.specs.Pieces.{joined}
 use Rattle.transfer.specs.Progress.{lastTried}
@@ -41,9 +44,9 @@ use Rattle.block.specs.World.{Drive, World, buffersOf, changed, driveOf}
 
 -- ---- judged
 
--- What is judged of a task on a drive.
-abbrev pub asking : Task → Drive → List ℕ → Asked
-asking task d host = record { task = task; unit = d .unit; image = length (d .image); host = host }
+-- What is judged of a task that a controller asks on a drive.
+abbrev pub asking : Controller → Task → Drive → List ℕ → Asked
+asking c task d host = record { task = task; controller = c; unit = d .unit; image = length (d .image); host = host }
 
 -- ---- performed
 
@@ -126,7 +129,7 @@ performed host d at plan =
       travel = travelled (cylinder (d .unit)) (plan .leaving) (cylinder unit);
     }
 
--- "For 10 to 19", and for 22 and 23 (02, K5), "only the block's word 1 and its event entry change"; travel is "zero for .. a block refused
+-- "For 10 to 19", and for 22 to 24 (02, K5 and K10), "only the block's word 1 and its event entry change"; travel is "zero for .. a block refused
 -- before transfer".
 abbrev pub refused : Drive → Refusal → Performance
 refused d r = record { stores = []; unit = d .unit; answer = BlockAnswer.Failed r; sectors = 0; travel = pos 0 }
@@ -134,6 +137,34 @@ refused d r = record { stores = []; unit = d .unit; answer = BlockAnswer.Failed 
 abbrev pub judged : List ℕ → Drive → ℕ → Verdict → Performance
 judged host d at (Refused r) = refused d r
 judged host d at (Do plan) = performed host d at plan
+
+-- Who holds the drive afterwards: "RV on a successful block takes or keeps the drive; a successful block without RV gives it up .. A failed block leaves
+-- the holder as it was" (02, K10).
+abbrev pub heldAfter : Controller → (reserve : Bool) → BlockAnswer → UnitRecord → UnitRecord
+heldAfter c reserve Ended u = heldBy u (reservedBy c reserve)
+heldAfter c reserve (Failed r) u = u
+
+-- "86 does neither": it is the one that is let through and leaves the record as it was.
+abbrev pub holderLeft : Controller → (reserve : Bool) → Leaving → BlockAnswer → UnitRecord → UnitRecord
+holderLeft c reserve AsItWas answer u = u
+holderLeft c reserve (HeadsAt x) answer u = heldAfter c reserve answer u
+holderLeft c reserve (HeadsAtLastTried s) answer u = heldAfter c reserve answer u
+holderLeft c reserve (Fresh g) answer u = heldAfter c reserve answer u
+holderLeft c reserve (Mapped bad spare) answer u = heldAfter c reserve answer u
+
+abbrev pub heldUnit : Controller → (reserve : Bool) → Verdict → BlockAnswer → UnitRecord → UnitRecord
+heldUnit c reserve (Refused r) answer u = u
+heldUnit c reserve (Do plan) answer u = holderLeft c reserve (plan .leaving) answer u
+
+abbrev pub holding : Controller → (reserve : Bool) → Verdict → Performance → Performance
+holding c reserve v p =
+    record {
+      stores = p .stores;
+      unit = heldUnit c reserve v (p .answer) (p .unit);
+      answer = p .answer;
+      sectors = p .sectors;
+      travel = p .travel;
+    }
 
 -- ---- finished
 
@@ -162,18 +193,20 @@ finished b at i p =
 
 -- ---- a block
 
--- What the block at an address does on a unit's drive, run after i others: "The 28 bytes are copied out, then judged."
-unfoldable pub effectOn : List ℕ → Drive → ℕ → ℕ → Effect
-effectOn host d at i =
+-- What the block at an address, of a controller's chain, does on a unit's drive, run after i others: "The 28 bytes are copied out, then judged." The
+-- holder changes with the record.
+unfoldable pub effectOn : Controller → List ℕ → Drive → ℕ → ℕ → Effect
+effectOn c host d at i =
     let b = blockAt host at in
-    finished b at i (judged host d at (verdict (asking (taskOf host b) d host)))
+    let v = verdict (asking c (taskOf host b) d host) in
+    finished b at i (holding c (requestOf host b .reserve) v (judged host d at v))
 
 -- The unit that the block at an address names, and what the block does to the world: it works on that unit's drive.
 abbrev pub unitAt : World → ℕ → UnitNumber
 unitAt w at = requestOf (w .host) (blockAt (w .host) at) .unit
 
 unfoldable pub effectAt : ℕ → ℕ → World → Effect
-effectAt at i w = effectOn (w .host) (driveOf w (unitAt w at)) at i
+effectAt at i w = effectOn (w .controller) (w .host) (driveOf w (unitAt w at)) at i
 
 unfoldable pub worldAfter : ℕ → ℕ → World → World
 worldAfter at i w =

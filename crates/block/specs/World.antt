@@ -1,9 +1,11 @@
--- What a run works on (01, What the board answers for): host memory, two disk images with their unit records, the event buffer.
+-- What a run works on (01, What the board answers for): host memory, two disk images with their unit records, the event buffer; and which controller
+-- runs it (02, K10), whose host memory and event buffer they are.
 use Prim.Native.Nat.{ℕ}
 use mathlib.Core.List.{List}
 use Rattle.request.specs.declared.UnitNumber.{UnitNumber}
 use Rattle.request.specs.declared.UnitNumber.the-variants.{Zero, One}
 use Rattle.transfer.specs.Stores.{Buffers}
+use Rattle.unit.specs.declared.Controller.{Controller}
 use Rattle.unit.specs.Standing.{UnitRecord}
 
 -- A unit's drive: its record and its image.
@@ -12,6 +14,7 @@ pub record Drive : Type 0 where
   pub image : List ℕ
 
 pub record World : Type 0 where
+  pub controller : Controller
   pub host : List ℕ
   pub drive0 : Drive
   pub drive1 : Drive
@@ -28,6 +31,6 @@ buffersOf w n = record { host = w .host; image = driveOf w n .image; events = w 
 
 abbrev pub changed : World → UnitNumber → Buffers → UnitRecord → World
 changed w Zero m u =
-    record { host = m .host; drive0 = record { unit = u; image = m .image }; drive1 = w .drive1; events = m .events }
+    record { controller = w .controller; host = m .host; drive0 = record { unit = u; image = m .image }; drive1 = w .drive1; events = m .events }
 changed w One m u =
-    record { host = m .host; drive0 = w .drive0; drive1 = record { unit = u; image = m .image }; events = m .events }
+    record { controller = w .controller; host = m .host; drive0 = w .drive0; drive1 = record { unit = u; image = m .image }; events = m .events }

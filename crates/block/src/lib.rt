@@ -15,6 +15,7 @@ use judge::Standing;
 use judge::Verdict;
 use request::Buffer;
 use transfer::Moved;
+use unit::Controller;
 use unit::Landing;
 use unit::Record;
 use unit::Span;
@@ -29,7 +30,7 @@ ghost use Rattle.judge.specs.declared.Moving.{Moving};
 ghost use Rattle.judge.specs.declared.Report.{Report};
 ghost use Rattle.judge.specs.Fits.{JobGood, LeavingFits, MovingFits, PlanFits, ReportFits, SpanGood};
 ghost use Rattle.request.specs.declared.Buffer.{Buffer};
-ghost use Rattle.block.specs.Block.{effectOn, finish, leftBy, performed, refused, transferOf, transferWith, travelled, wordsOf};
+ghost use Rattle.block.specs.Block.{effectOn, finish, heldAfter, holderLeft, leftBy, performed, refused, transferOf, transferWith, travelled, wordsOf};
 ghost use Rattle.block.specs.Steps.{Carries, Did, Knows, Made, Performs, Ready, Room, driveWith, performedOf, tableBy, three, written};
 ghost use Rattle.transfer.specs.Progress.{lastTried};
 ghost use Rattle.transfer.specs.Runs.{pieceByte};
@@ -394,6 +395,50 @@ fn perform(
     }
 }
 
+// Who holds the drive once a block has ended so: one that failed leaves that as it was.
+fn held_after(u: Record, c: Controller, reserve: bool, answer: BlockAnswer) -> Record
+    ensures { λ r. ⌜ r ≡ byValue (heldAfter c reserve answer (bare u)) ⌝ }
+{
+    match answer {
+        BlockAnswer::Ended => u.held_by(c.reserves(reserve)),
+        BlockAnswer::Failed(_) => u,
+    }
+}
+
+// The same by what was left: an accepted block that leaves the record as it was is a handshake, and leaves the holder too.
+fn holder_left(
+    u: Record,
+    c: Controller,
+    reserve: bool,
+    leaving: Leaving,
+    answer: BlockAnswer,
+) -> Record
+    ensures { λ r. ⌜ r ≡ byValue (holderLeft c reserve leaving answer (bare u)) ⌝ }
+{
+    match leaving {
+        Leaving::AsItWas => u,
+        Leaving::HeadsAt(_) => held_after(u, c, reserve, answer),
+        Leaving::HeadsAtLastTried(_) => held_after(u, c, reserve, answer),
+        Leaving::Fresh(_) => held_after(u, c, reserve, answer),
+        Leaving::Mapped(_, _) => held_after(u, c, reserve, answer),
+    }
+}
+
+// What was performed, with the holder that it leaves.
+fn hold(p: Performed, c: Controller, reserve: bool, leaving: Leaving) -> Performed
+    ensures { λ r. ⌜ r ≡ record { unit = byValue (holderLeft c reserve leaving (p .answer) (bare (p .unit))); answer = p .answer; sectors = p .sectors; travel = p .travel } ⌝ }
+{
+    let answer = p.answer;
+    let left = p.unit;
+    let unit = holder_left(left, c, reserve, leaving, answer);
+    Performed {
+        unit,
+        answer,
+        sectors: p.sectors,
+        travel: p.travel,
+    }
+}
+
 // A block that is refused before a transfer.
 fn refuse(u: Record, r: Refusal) -> Performed
     ensures { λ p. ⌜ p ≡ performedOf (refused (driveWith (bare u) []) r) ⌝ }
@@ -451,6 +496,7 @@ pub fn run_block(
     host: &mut [u8],
     image: &mut [u8],
     events: &mut [u8],
+    c: Controller,
     u: Record,
     known: Known,
     table: &mut [u32; 64],
@@ -458,14 +504,16 @@ pub fn run_block(
     i: usize,
 ) -> Done
     requires { ⌜ Room (now host) (now events) at i × Knows known (unitOf u (now table)) ⌝ }
-    ensures { λ d. ⌜ Did (blockAt (now (host .entry)) at) (effectOn (now (host .entry)) (driveWith (unitOf u (now (table .entry))) (now (image .entry))) at i) (three (now (host .entry)) (now (image .entry)) (now (events .entry))) (three (now (host .exit)) (now (image .exit)) (now (events .exit))) (now (table .exit)) d ⌝ }
+    ensures { λ d. ⌜ Did (blockAt (now (host .entry)) at) (effectOn c (now (host .entry)) (driveWith (unitOf u (now (table .entry))) (now (image .entry))) at i) (three (now (host .entry)) (now (image .entry)) (now (events .entry))) (three (now (host .exit)) (now (image .exit)) (now (events .exit))) (now (table .exit)) d ⌝ }
 {
     let b = Block::read(host, at);
+    let options = b.options;
     let counts = settled(known, u, table);
     let standing = Standing {
         record: u,
         counts,
         image: image.len(),
+        controller: c,
     };
     match judge::judge(iopb::request(b, host), standing, table, host) {
         Verdict::Refused(r) => finish(host, events, b, at, i, refuse(u, r), counts),
@@ -473,6 +521,7 @@ pub fn run_block(
             let leaving = plan.leaving;
             let then = counts_then(counts, leaving);
             let p = perform(host, image, u, table, at, plan);
+            let p = hold(p, c, options.reserve, leaving);
             finish(host, events, b, at, i, p, then)
         }
     }

@@ -34,13 +34,13 @@ use Rattle.block.specs.World.{World, buffersOf, changed, driveOf}
 use Rattle.board.specs.Lent.{unitsOf}
 
 module _ (w : World) (at i : ℕ) (n : UnitNumber) (named : unitAt w at ≡ n) where
-  effect-named : effectAt at i w ≡ effectOn (w .host) (driveOf w n) at i
+  effect-named : effectAt at i w ≡ effectOn (w .controller) (w .host) (driveOf w n) at i
   unfolding effectAt
-  effect-named = ap (λ (x : UnitNumber). effectOn (w .host) (driveOf w x) at i) named
+  effect-named = ap (λ (x : UnitNumber). effectOn (w .controller) (w .host) (driveOf w x) at i) named
 
   step-made :
       (m : Buffers) (ts : List ℕ) (d : Done) (units : Units) →
-      Did (blockAt (w .host) at) (effectOn (w .host) (driveOf w n) at i) (buffersOf w n) m ts d →
+      Did (blockAt (w .host) at) (effectOn (w .controller) (w .host) (driveOf w n) at i) (buffersOf w n) m ts d →
       SteppedTo w at i (changed w n m (unitOf (d .unit) ts)) (steppedOf (toldOf d) units)
   unfolding worldAfter
   step-made m ts d units did =
@@ -57,7 +57,7 @@ module _ (w : World) (at i : ℕ) (n : UnitNumber) (named : unitAt w at ≡ n) w
 pub step-by :
     (w : World) (at i : ℕ) (x n : UnitNumber) → x ≡ ask.unitOf (blockAt (w .host) at) → x ≡ n →
     (m : Buffers) (ts : List ℕ) (d : Done) (units : Units) →
-    Did (blockAt (w .host) at) (effectOn (w .host) (driveOf w n) at i) (buffersOf w n) m ts d →
+    Did (blockAt (w .host) at) (effectOn (w .controller) (w .host) (driveOf w n) at i) (buffersOf w n) m ts d →
     SteppedTo w at i (changed w n m (unitOf (d .unit) ts)) (steppedOf (toldOf d) units)
 step-by w at i x n asks is m ts d units did = step-made w at i n (sym asks ∙ is) m ts d units did
 

@@ -9,14 +9,16 @@ use lib.Dec.{eqb}
 use Rattle.geometry.specs.declared.Volume.{Volume}
 use Rattle.geometry.specs.declared.VolumeNumber.the-variants.{Zero, One}
 use Rattle.geometry.specs.Drive.{B, C, N, S, start, volume}
-use Rattle.unit.specs.Standing.{UnitRecord, byValue, cylinder, geometry, initialized, pairs}
+use Rattle.unit.specs.Holding.{holderNumber}
+use Rattle.unit.specs.Standing.{UnitRecord, byValue, cylinder, geometry, holder, initialized, pairs}
+use Rattle.unit.proofs.Holders.{holder-back}
 use Rattle.board.specs.Records.{recordIn}
 
 -- The numbers of a record.
 abbrev pub numbersOf : UnitRecord → List ℕ
 numbersOf u =
     let g = geometry u in
-    cond (initialized u) 1 0 ∷ C g ∷ S g ∷ B g ∷ start (volume g Zero) ∷ N (volume g Zero) ∷ start (volume g One) ∷ N (volume g One) ∷ cylinder u ∷ pairs u ∷ []
+    cond (initialized u) 1 0 ∷ C g ∷ S g ∷ B g ∷ start (volume g Zero) ∷ N (volume g Zero) ∷ start (volume g One) ∷ N (volume g One) ∷ cylinder u ∷ pairs u ∷ holderNumber (holder u) ∷ []
 
 flag-back : (b : Bool) → eqb (cond b 1 0) 1 ≡ b
 flag-back true = refl
@@ -31,4 +33,4 @@ pub record-back :
     (u : UnitRecord) → Bytes (volume (geometry u) Zero) → Bytes (volume (geometry u) One) → byValue (recordIn (numbersOf u)) ≡ byValue u
 unfolding recordIn
 record-back u zero one =
-    rw (mod-eq-of-lt (zero .start), mod-eq-of-lt (zero .heads), mod-eq-of-lt (one .start), mod-eq-of-lt (one .heads), flag-back (initialized u))
+    rw (mod-eq-of-lt (zero .start), mod-eq-of-lt (zero .heads), mod-eq-of-lt (one .start), mod-eq-of-lt (one .heads), flag-back (initialized u), holder-back (holder u))

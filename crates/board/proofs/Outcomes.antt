@@ -15,6 +15,7 @@ use Rattle.board.specs.Chain.{Ending}
 use Rattle.block.specs.Block.{Effect, effectAt, worldAfter}
 use Rattle.board.specs.Steps.{CameTo, RanOne, SteppedTo}
 use Rattle.block.specs.World.{World}
+use Rattle.unit.specs.declared.Controller.the-variants.{First}
 use Rattle.board.specs.Lent.{worldOf}
 use Rattle.unit.specs.Standing.{byValue, table}
 use Rattle.board.proofs.chain.run.Reads as run
@@ -57,7 +58,8 @@ came-once d v w r s p q = λ i. seen-of ((p .result ∙ sym (q .result)) i) ((p 
 
 run-once :
     OneOutcome run.Post
-    (λ κ x e. seen-of x (worldOf (now (e .0)) (now (e .1 .0)) (now (e .1 .1 .0)) (now (e .1 .1 .1 .0)) (now (e .1 .1 .1 .1 .0)) (now (e .1 .1 .1 .1 .1 .0)) (x .units)))
+    (λ κ x e. seen-of x (worldOf First (now (e .0)) (now (e .1 .0)) (now (e .1 .1 .0)) (now (e .1 .1 .1 .0)) (now (e .1 .1 .1 .1 .0)) (now (e .1 .1 .1 .1 .1 .0)) (x .units)))
+unfolding seen-of
 run-once κ a x y e f p q = came-once _ _ _ x y p q
 
 -- The same of a block alone.
@@ -87,7 +89,7 @@ told w b after-it e =
 
 module _ (w : World) (at i : ℕ) where
   ran-one-is : (host image0 image1 events tracks0 tracks1 : List ℕ) (s : Stepped) →
-      SteppedTo w at i (worldOf host image0 image1 events tracks0 tracks1 (s .units)) s →
+      SteppedTo w at i (worldOf (w .controller) host image0 image1 events tracks0 tracks1 (s .units)) s →
       seen-one (Ran s) host image0 image1 events tracks0 tracks1 ≡
       seen-one (Ran (told w (blockAt (w .host) at) (worldAfter at i w) (effectAt at i w))) (worldAfter at i w .host)
       (worldAfter at i w .drive0 .image) (worldAfter at i w .drive1 .image) (worldAfter at i w .events)

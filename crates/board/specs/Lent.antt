@@ -1,13 +1,15 @@
--- What a caller of a run lends, as a world.
+-- What a caller of a run lends and says, as a world.
 use Prim.Native.Nat.{ℕ}
 use mathlib.Core.List.{List}
+use Rattle.unit.specs.declared.Controller.{Controller}
 use Rattle.unit.specs.Standing.{byValue, unitOf}
 use Rattle.block.specs.World.{World}
 use Rattle.board.specs.declared.Units.{Units}
 
-abbrev pub worldOf : (host image0 image1 events tracks0 tracks1 : List ℕ) → Units → World
-worldOf host image0 image1 events tracks0 tracks1 units =
+abbrev pub worldOf : Controller → (host image0 image1 events tracks0 tracks1 : List ℕ) → Units → World
+worldOf c host image0 image1 events tracks0 tracks1 units =
     record {
+      controller = c;
       host = host;
       drive0 = record { unit = unitOf (units .zero) tracks0; image = image0 };
       drive1 = record { unit = unitOf (units .one) tracks1; image = image1 };

@@ -102,7 +102,7 @@ pub record Fetchable (w : World) (at i : ℕ) : Type 0 where
 
 abbrev pub RanOne : World → ℕ → ℕ → (host image0 image1 events tracks0 tracks1 : List ℕ) → Single → Type 0
 RanOne w at i host image0 image1 events tracks0 tracks1 (Ran s) =
-    Fetchable w at i × SteppedTo w at i (worldOf host image0 image1 events tracks0 tracks1 (s .units)) s
+    Fetchable w at i × SteppedTo w at i (worldOf (w .controller) host image0 image1 events tracks0 tracks1 (s .units)) s
 RanOne w at i host image0 image1 events tracks0 tracks1 NoRoom =
     (Fetchable w at i → ⊥) ×
-    (worldOf host image0 image1 events tracks0 tracks1 (unitsOf w) ≡ w)
+    (worldOf (w .controller) host image0 image1 events tracks0 tracks1 (unitsOf w) ≡ w)

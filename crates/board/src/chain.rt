@@ -10,6 +10,7 @@ use block::Done;
 use block::Known;
 use block::run_block;
 use request::UnitNumber;
+use unit::Controller;
 ghost use mathlib.Core.Path.{_≡_};
 ghost use Prim.Native.Nat.{_+_, _*_, _≤_};
 ghost use lib.ListN.{length};
@@ -98,16 +99,17 @@ fn work_on(
     host: &mut [u8],
     image: &mut [u8],
     events: &mut [u8],
-    held: &mut [u16; 10],
+    c: Controller,
+    held: &mut [u16; 11],
     known: Known,
     map: &mut [u32; 64],
     at: usize,
     i: usize,
 ) -> Told
     requires { ⌜ Room (now host) (now events) at i × Knows known (unitIn (now held) (now map)) ⌝ }
-    ensures { λ t. ⌜ Did (blockAt (now (host .entry)) at) (effectOn (now (host .entry)) (driveWith (unitIn (now (held .entry)) (now (map .entry))) (now (image .entry))) at i) (three (now (host .entry)) (now (image .entry)) (now (events .entry))) (three (now (host .exit)) (now (image .exit)) (now (events .exit))) (now (map .exit)) (doneWith t (unitIn (now (held .exit)) (now (map .exit)))) ⌝ }
+    ensures { λ t. ⌜ Did (blockAt (now (host .entry)) at) (effectOn c (now (host .entry)) (driveWith (unitIn (now (held .entry)) (now (map .entry))) (now (image .entry))) at i) (three (now (host .entry)) (now (image .entry)) (now (events .entry))) (three (now (host .exit)) (now (image .exit)) (now (events .exit))) (now (map .exit)) (doneWith t (unitIn (now (held .exit)) (now (map .exit)))) ⌝ }
 {
-    let done = run_block(host, image, events, record_of(held), known, map, at, i);
+    let done = run_block(host, image, events, c, record_of(held), known, map, at, i);
     *held = numbers_of(done.unit);
     told_by(done)
 }
@@ -120,20 +122,21 @@ pub(crate) fn step(
     events: &mut [u8],
     map0: &mut [u32; 64],
     map1: &mut [u32; 64],
-    record0: &mut [u16; 10],
-    record1: &mut [u16; 10],
+    record0: &mut [u16; 11],
+    record1: &mut [u16; 11],
+    c: Controller,
     learnt: Learnt,
     at: usize,
     i: usize,
 ) -> Went
     requires { ⌜ Room (now host) (now events) at i × KnowsBoth learnt (unitIn (now record0) (now map0)) (unitIn (now record1) (now map1)) ⌝ }
-    ensures { λ s. ⌜ SteppedOn (worldOf (now (host .entry)) (now (image0 .entry)) (now (image1 .entry)) (now (events .entry)) (now (map0 .entry)) (now (map1 .entry)) (unitsIn (now (record0 .entry)) (now (record1 .entry)))) at i (worldOf (now (host .exit)) (now (image0 .exit)) (now (image1 .exit)) (now (events .exit)) (now (map0 .exit)) (now (map1 .exit)) (unitsIn (now (record0 .exit)) (now (record1 .exit)))) s ⌝ }
+    ensures { λ s. ⌜ SteppedOn (worldOf c (now (host .entry)) (now (image0 .entry)) (now (image1 .entry)) (now (events .entry)) (now (map0 .entry)) (now (map1 .entry)) (unitsIn (now (record0 .entry)) (now (record1 .entry)))) at i (worldOf c (now (host .exit)) (now (image0 .exit)) (now (image1 .exit)) (now (events .exit)) (now (map0 .exit)) (now (map1 .exit)) (unitsIn (now (record0 .exit)) (now (record1 .exit)))) s ⌝ }
 {
     let zero = learnt.zero;
     let one = learnt.one;
     match iopb::unit_at(host, at) {
         UnitNumber::Zero => {
-            let told = work_on(host, image0, events, record0, zero, map0, at, i);
+            let told = work_on(host, image0, events, c, record0, zero, map0, at, i);
             let zero = Known::Counts(told.counts);
             Went {
                 told,
@@ -141,7 +144,7 @@ pub(crate) fn step(
             }
         }
         UnitNumber::One => {
-            let told = work_on(host, image1, events, record1, one, map1, at, i);
+            let told = work_on(host, image1, events, c, record1, one, map1, at, i);
             let one = Known::Counts(told.counts);
             Went {
                 told,
@@ -194,15 +197,16 @@ fn fetch(
     events: &mut [u8],
     map0: &mut [u32; 64],
     map1: &mut [u32; 64],
-    record0: &mut [u16; 10],
-    record1: &mut [u16; 10],
+    record0: &mut [u16; 11],
+    record1: &mut [u16; 11],
+    c: Controller,
     learnt: Learnt,
     at: u32,
     left: u32,
     count: Count,
 ) -> End
     requires { ⌜ Spare (now events) left (tallyOf count) × KnowsBoth learnt (unitIn (now record0) (now map0)) (unitIn (now record1) (now map1)) ⌝ }
-    ensures { λ r. ⌜ EndedIn (fetched left (tallyOf count) at (worldOf (now (host .entry)) (now (image0 .entry)) (now (image1 .entry)) (now (events .entry)) (now (map0 .entry)) (now (map1 .entry)) (unitsIn (now (record0 .entry)) (now (record1 .entry))))) (worldOf (now (host .exit)) (now (image0 .exit)) (now (image1 .exit)) (now (events .exit)) (now (map0 .exit)) (now (map1 .exit)) (unitsIn (now (record0 .exit)) (now (record1 .exit)))) r ⌝ }
+    ensures { λ r. ⌜ EndedIn (fetched left (tallyOf count) at (worldOf c (now (host .entry)) (now (image0 .entry)) (now (image1 .entry)) (now (events .entry)) (now (map0 .entry)) (now (map1 .entry)) (unitsIn (now (record0 .entry)) (now (record1 .entry))))) (worldOf c (now (host .exit)) (now (image0 .exit)) (now (image1 .exit)) (now (events .exit)) (now (map0 .exit)) (now (map1 .exit)) (unitsIn (now (record0 .exit)) (now (record1 .exit)))) r ⌝ }
 {
     if left == 0 {
         return ended(RunAnswer::AllowanceSpent, 0, count);
@@ -219,6 +223,7 @@ fn fetch(
         map1,
         record0,
         record1,
+        c,
         learnt,
         at,
         left - 1,
@@ -234,15 +239,16 @@ fn execute(
     events: &mut [u8],
     map0: &mut [u32; 64],
     map1: &mut [u32; 64],
-    record0: &mut [u16; 10],
-    record1: &mut [u16; 10],
+    record0: &mut [u16; 11],
+    record1: &mut [u16; 11],
+    c: Controller,
     learnt: Learnt,
     at: u32,
     left: u32,
     count: Count,
 ) -> End
     requires { ⌜ InMemory (now host) at 28 × Spare (now events) (left + 1) (tallyOf count) × KnowsBoth learnt (unitIn (now record0) (now map0)) (unitIn (now record1) (now map1)) ⌝ }
-    ensures { λ r. ⌜ EndedIn (executed (fetched left) (tallyOf count) at (worldOf (now (host .entry)) (now (image0 .entry)) (now (image1 .entry)) (now (events .entry)) (now (map0 .entry)) (now (map1 .entry)) (unitsIn (now (record0 .entry)) (now (record1 .entry))))) (worldOf (now (host .exit)) (now (image0 .exit)) (now (image1 .exit)) (now (events .exit)) (now (map0 .exit)) (now (map1 .exit)) (unitsIn (now (record0 .exit)) (now (record1 .exit)))) r ⌝ }
+    ensures { λ r. ⌜ EndedIn (executed (fetched left) (tallyOf count) at (worldOf c (now (host .entry)) (now (image0 .entry)) (now (image1 .entry)) (now (events .entry)) (now (map0 .entry)) (now (map1 .entry)) (unitsIn (now (record0 .entry)) (now (record1 .entry))))) (worldOf c (now (host .exit)) (now (image0 .exit)) (now (image1 .exit)) (now (events .exit)) (now (map0 .exit)) (now (map1 .exit)) (unitsIn (now (record0 .exit)) (now (record1 .exit)))) r ⌝ }
 {
     let step = step(
         host,
@@ -253,6 +259,7 @@ fn execute(
         map1,
         record0,
         record1,
+        c,
         learnt,
         at as usize,
         count.blocks as usize,
@@ -273,6 +280,7 @@ fn execute(
                     map1,
                     record0,
                     record1,
+                    c,
                     step.learnt,
                     s.link,
                     left,
@@ -351,10 +359,11 @@ pub fn run(
     map0: &mut [u32; 64],
     map1: &mut [u32; 64],
     units: Units,
+    c: Controller,
     first: u32,
     allowance: u32,
 ) -> Outcome
-    ensures { λ r. ⌜ CameTo (ran first allowance (worldOf (now (host .entry)) (now (image0 .entry)) (now (image1 .entry)) (now (events .entry)) (now (map0 .entry)) (now (map1 .entry)) units)) (worldOf (now (host .exit)) (now (image0 .exit)) (now (image1 .exit)) (now (events .exit)) (now (map0 .exit)) (now (map1 .exit)) (r .units)) r ⌝ }
+    ensures { λ r. ⌜ CameTo (ran first allowance (worldOf c (now (host .entry)) (now (image0 .entry)) (now (image1 .entry)) (now (events .entry)) (now (map0 .entry)) (now (map1 .entry)) units)) (worldOf c (now (host .exit)) (now (image0 .exit)) (now (image1 .exit)) (now (events .exit)) (now (map0 .exit)) (now (map1 .exit)) (r .units)) r ⌝ }
 {
     if !holds_entries(events) {
         return refused(RunAnswer::EventsShort, units);
@@ -376,6 +385,7 @@ pub fn run(
         map1,
         &mut record0,
         &mut record1,
+        c,
         unasked(),
         first,
         allowance,
@@ -413,10 +423,11 @@ pub fn run_one(
     map0: &mut [u32; 64],
     map1: &mut [u32; 64],
     units: Units,
+    c: Controller,
     at: u32,
     i: u32,
 ) -> Single
-    ensures { λ r. ⌜ RanOne (worldOf (now (host .entry)) (now (image0 .entry)) (now (image1 .entry)) (now (events .entry)) (now (map0 .entry)) (now (map1 .entry)) units) at i (now (host .exit)) (now (image0 .exit)) (now (image1 .exit)) (now (events .exit)) (now (map0 .exit)) (now (map1 .exit)) r ⌝ }
+    ensures { λ r. ⌜ RanOne (worldOf c (now (host .entry)) (now (image0 .entry)) (now (image1 .entry)) (now (events .entry)) (now (map0 .entry)) (now (map1 .entry)) units) at i (now (host .exit)) (now (image0 .exit)) (now (image1 .exit)) (now (events .exit)) (now (map0 .exit)) (now (map1 .exit)) r ⌝ }
 {
     if !holds_block(host, at) {
         return Single::NoRoom;
@@ -435,6 +446,7 @@ pub fn run_one(
         map1,
         &mut record0,
         &mut record1,
+        c,
         unasked(),
         at as usize,
         i as usize,

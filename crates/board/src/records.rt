@@ -1,9 +1,10 @@
-// A unit's record as ten numbers, and back. Along a chain the two records are lent as numbers: by value, each block would keep copies of both
+// A unit's record as eleven numbers, and back. Along a chain the two records are lent as numbers: by value, each block would keep copies of both
 // on the stack while the rest of the chain runs.
 use crate::Units;
 use geometry::Geometry;
 use geometry::Volume;
 use geometry::VolumeNumber;
+use unit::Holder;
 use unit::Record;
 ghost use mathlib.Core.Bool.{cond};
 ghost use mathlib.Core.Path.{_≡_};
@@ -32,7 +33,7 @@ fn low_byte(n: u16) -> u8
 }
 
 // The numbers of a record.
-pub(crate) fn numbers_of(r: Record) -> [u16; 10]
+pub(crate) fn numbers_of(r: Record) -> [u16; 11]
     ensures { λ n. ⌜ byValue (recordIn n) ≡ r ⌝ }
 {
     let g = r.geometry();
@@ -49,21 +50,22 @@ pub(crate) fn numbers_of(r: Record) -> [u16; 10]
         wide(one.heads()),
         r.cylinder(),
         r.pairs(),
+        wide(r.holder().number()),
     ]
 }
 
 // The record of some numbers.
-pub(crate) fn record_of(n: &[u16; 10]) -> Record
+pub(crate) fn record_of(n: &[u16; 11]) -> Record
     ensures { λ r. ⌜ r ≡ byValue (recordIn (now (n .entry))) ⌝ }
 {
     let zero = Volume::new(low_byte(n[4]), low_byte(n[5]));
     let one = Volume::new(low_byte(n[6]), low_byte(n[7]));
     let g = Geometry::new(n[1], n[2], n[3], zero, one);
-    Record::new(n[0] == 1, g, n[8], n[9])
+    Record::new(n[0] == 1, g, n[8], n[9]).held_by(Holder::of(n[10]))
 }
 
 // Both records of a chain.
-pub(crate) fn units_of(record0: &[u16; 10], record1: &[u16; 10]) -> Units
+pub(crate) fn units_of(record0: &[u16; 11], record1: &[u16; 11]) -> Units
     ensures { λ r. ⌜ r ≡ unitsIn (now (record0 .entry)) (now (record1 .entry)) ⌝ }
 {
     let zero = record_of(record0);

@@ -6,6 +6,7 @@ use mathlib.Core.Logic.{_↔_}
 use mathlib.Core.Path.{_≡_, refl, sym, ap, subst, _∙_}
 use native.Mathlib.Omega.{arith}
 use native.Mathlib.Nat.{zero-mul}
+use lib.Dec.{T}
 use lib.ListN.{getD, length}
 use Rattle.wire.specs.Memory.{Among}
 use Rattle.answers.specs.declared.BlockAnswer.{BlockAnswer}
@@ -15,8 +16,10 @@ use Rattle.judge.specs.declared.Verdict.{Verdict}
 use Rattle.judge.specs.declared.Verdict.the-variants.{Refused, Do}
 use Rattle.judge.specs.Asks.{checks}
 use Rattle.judge.specs.Checks.{Check, None}
-use Rattle.judge.specs.Table.{BeforeTransfer}
-use Rattle.judge.proofs.Exactly.{check-before-transfer, given-in-its-case, refused-before-transfer}
+use Rattle.judge.specs.Table.{BeforeTransfer, commandsOf, oneOf}
+use Rattle.judge.proofs.Exactly.{check-before-transfer, given-in-its-case, held-exactly, refused-before-transfer}
+use Rattle.judge.proofs.Table.{held-for}
+use Rattle.unit.specs.Holding.{heldByOther}
 use Rattle.request.specs.declared.UnitNumber.{UnitNumber}
 use Rattle.transfer.specs.Stores.{Stored, imageByte}
 use Rattle.transfer.proofs.Marks.{no-mark-stored}
@@ -25,11 +28,11 @@ use Rattle.block.specs.Block.{Effect, judged, transferOf, wordsOf}
 use Rattle.block.specs.World.{driveOf}
 use Rattle.demands.specs.Footprint.{Stopped, WritesHost, WritesImage, askedOf, changes, comes, leavingOf, movingOf, namedDrive, names, reportOf, transferBy, verdictOf}
 use Rattle.demands.specs.Footprint.HostWritten.{moved, report, status-word}
-use Rattle.demands.specs.Visits.{Visit, effectOf, worldLeft}
+use Rattle.demands.specs.Visits.{Visit, blockOf, effectOf, worldLeft}
 use Rattle.demands.proofs.Fits.{drives-geometry, on-drive}
 use Rattle.demands.proofs.Keeps.{block-keeps-events, block-keeps-host, block-keeps-image, block-keeps-record}
 use Rattle.demands.proofs.Written.{data-disk, effect-is, event-written-exactly, host-written-exactly, image-written-exactly, sectors-come}
-use Rattle.unit.specs.Standing.{geometry}
+use Rattle.unit.specs.Standing.{geometry, holder}
 
 module _ (v : Visit) where
   -- ---- a block refused before transfer
@@ -121,7 +124,7 @@ module _ (v : Visit) where
       by-way (stopped stop) =
           absurd (subst BeforeTransfer (stopped-with (namedDrive v .image) (transferBy (askedOf v)) r stop) early)
 
-  -- So each of 10 to 19, and of 22 and 23, is "given in its stated case and no other" (00, demand 1): a check's answer is the block's exactly where its
+  -- So each of 10 to 19, and of 22 to 24, is "given in its stated case and no other" (00, demand 1): a check's answer is the block's exactly where its
   -- case is given and that of no check before it, "Block answers, in order".
   pub answered-in-its-case :
       (before : List Check) (k : Check) (rest : List Check) → checks (askedOf v) ≡ before ++ k ∷ rest →
@@ -130,6 +133,18 @@ module _ (v : Visit) where
       let block = refused-exactly (k .answer) (check-before-transfer (askedOf v) before k rest is) in
       let judgement = given-in-its-case (askedOf v) before k rest is in
       (λ e. judgement .0 (block .0 e), λ g. block .1 (judgement .1 g))
+
+  -- 24: "A chain's block for a drive held by the other controller", for the nine commands of its row, which are all but 86 (02, K10).
+  pub answer-24-exactly :
+      (effectOf v .answer ≡ BlockAnswer.Failed Refusal.DriveHeld) ↔
+      (T (oneOf (blockOf v .command) (commandsOf Refusal.DriveHeld)) × T (heldByOther (v .world .controller) (holder (namedDrive v .unit))))
+  answer-24-exactly =
+      let block = refused-exactly Refusal.DriveHeld tt in
+      let judgement = held-exactly (askedOf v) in
+      let commands = held-for (v .world .host) (blockOf v) in (
+        λ e. let so = judgement .0 (block .0 e) in (commands .1 (so .0), so .1),
+        λ so. block .1 (judgement .1 (commands .0 (so .0), so .1)),
+      )
 
   -- 20: "unreadable sector, DE clear; earlier sectors moved", exactly where the block makes a transfer that heeds the marks and
   -- that comes to one that is not 0, all before it being 0.

@@ -14,11 +14,13 @@ use Rattle.request.specs.declared.UnitNumber.the-variants.{Zero, One}
 use Rattle.transfer.specs.Stores.{Buffers, Cell, Stored, after, eventByte, held, hostByte, imageByte}
 use Rattle.transfer.proofs.Stays.{lengths-stay, unstored-stays}
 use Rattle.wire.specs.Memory.{inMemory?}
-use Rattle.block.specs.Block.{Effect, judged, leftBy, worldAfter}
+use Rattle.block.specs.Block.{Effect, heldUnit, holderLeft, judged, leftBy, worldAfter}
+use Rattle.block.proofs.Held.{holder-keeps}
 use Rattle.board.specs.Chain.{Ending, Tally, fetched, follows, nothing, ran}
 use Rattle.demands.specs.Footprint.{Renews, RunNames, RunWrites, RunWritesEvents, RunWritesImage, RunWritesRecord, Some, WritesEvents, WritesHost, WritesImage, WritesRecord, askedOf, changes, leavingOf, namedDrive, names, verdictOf}
 use Rattle.demands.proofs.Written.{effect-is, event-written-exactly, host-written-exactly, image-written-exactly}
-use Rattle.unit.specs.Standing.{CountsAsInitialized}
+use Rattle.unit.specs.declared.Holder.{Holder}
+use Rattle.unit.specs.Standing.{CountsAsInitialized, UnitRecord, heldBy}
 use Rattle.judge.specs.declared.Leaving.{Leaving}
 use Rattle.judge.specs.declared.Leaving.the-variants.{AsItWas, HeadsAt, HeadsAtLastTried, Fresh, Mapped}
 use Rattle.judge.specs.declared.Verdict.{Verdict}
@@ -202,17 +204,6 @@ module _ (v : Visit) where
       by-unit One is Zero = refl
       by-unit One is One = same ∙ ap (λ (m : UnitNumber). driveOf (v .world) m .unit) is
 
-  -- What it leaves is told by its verdict.
-  pub unit-left : effectOf v .unit ≡ leftBy (namedDrive v .unit) (effectOf v .sectors) (leavingOf (verdictOf v))
-  unit-left = ap (λ (e : Effect). e .unit) (effect-is v) ∙ by-verdict (verdictOf v) ∙ ap (λ (e : Effect). leftBy (namedDrive v .unit) (e .sectors) (leavingOf (verdictOf v))) (sym (effect-is v))
-    where
-      by-verdict :
-          (verd : Verdict) →
-          judged (v .world .host) (namedDrive v) (v .at) verd .unit ≡
-          leftBy (namedDrive v .unit) (judged (v .world .host) (namedDrive v) (v .at) verd .sectors) (leavingOf verd)
-      by-verdict (Refused r) = refl
-      by-verdict (Do plan) = refl
-
   -- The named unit has the record that the block leaves.
   pub named-record : driveOf (worldLeft v) (names v) .unit ≡ effectOf v .unit
   unfolding worldAfter
@@ -224,6 +215,30 @@ module _ (v : Visit) where
       by-unit Zero = refl
       by-unit One = refl
 
+  -- What it leaves is told by its verdict, and then who holds the drive.
+  abbrev pub leftThen : BlockAnswer → (moved : ℕ) → Leaving → UnitRecord
+  leftThen answer moved l = holderLeft (v .world .controller) (blockOf v .options .reserve) l answer (leftBy (namedDrive v .unit) moved l)
+
+  pub unit-left : effectOf v .unit ≡ leftThen (effectOf v .answer) (effectOf v .sectors) (leavingOf (verdictOf v))
+  unit-left =
+      ap (λ (e : Effect). e .unit) (effect-is v) ∙ by-verdict (verdictOf v)
+      ∙ ap (λ (e : Effect). leftThen (e .answer) (e .sectors) (leavingOf (verdictOf v))) (sym (effect-is v))
+    where
+      by-verdict :
+          (verd : Verdict) →
+          let p = judged (v .world .host) (namedDrive v) (v .at) verd in
+          heldUnit (v .world .controller) (blockOf v .options .reserve) verd (p .answer) (p .unit) ≡ leftThen (p .answer) (p .sectors) (leavingOf verd)
+      by-verdict (Refused r) = refl
+      by-verdict (Do plan) = refl
+
+  -- What a change of holder keeps, is kept of what is left.
+  pub left-keeps :
+      (P : UnitRecord → Type 0) → ((u : UnitRecord) (h : Holder) → P u → P (heldBy u h)) →
+      P (leftBy (namedDrive v .unit) (effectOf v .sectors) (leavingOf (verdictOf v))) → P (driveOf (worldLeft v) (names v) .unit)
+  left-keeps P kept now =
+      subst P (sym (named-record ∙ unit-left))
+      (holder-keeps (v .world .controller) (blockOf v .options .reserve) P kept (leavingOf (verdictOf v)) (effectOf v .answer) _ now)
+
   pub block-keeps-record :
       (n : UnitNumber) → ((names v ≡ n) × WritesRecord v → ⊥) → driveOf (worldLeft v) n .unit ≡ driveOf (v .world) n .unit
   block-keeps-record n none = by-leaving (leavingOf (verdictOf v)) refl
@@ -232,7 +247,7 @@ module _ (v : Visit) where
       other does = ap (λ (d : Drive). d .unit) (block-keeps-drive v n (λ named. none (named, does)))
 
       by-leaving : (l : Leaving) → leavingOf (verdictOf v) ≡ l → driveOf (worldLeft v) n .unit ≡ driveOf (v .world) n .unit
-      by-leaving AsItWas is = record-left n (unit-left ∙ ap (λ (l : Leaving). leftBy (namedDrive v .unit) (effectOf v .sectors) l) is)
+      by-leaving AsItWas is = record-left n (unit-left ∙ ap (leftThen (effectOf v .answer) (effectOf v .sectors)) is)
       by-leaving (HeadsAt c) is = other (rw is tt)
       by-leaving (HeadsAtLastTried s) is = other (rw is tt)
       by-leaving (Fresh g) is = other (rw is tt)

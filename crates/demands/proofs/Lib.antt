@@ -2,6 +2,8 @@ pub mod BlockLaws
 pub mod BlockTravel
 pub mod Endings
 pub mod Fits
+pub mod HeldDrives
+pub mod Holders
 pub mod Keeps
 pub mod Lists
 pub mod Places

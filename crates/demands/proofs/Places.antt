@@ -3,7 +3,7 @@
 -- address that it names lands, and the rest is unit's law.
 use Prim.Native.Nat.{ℕ, _+_, _/_, _≤_, _<_}
 use mathlib.Core.Bool.{Bool, false}
-use mathlib.Core.Logic.{by-cases}
+use mathlib.Core.Logic.{by-cases, ⊎-elim}
 use mathlib.Core.Path.{_≡_, refl, sym, ap, subst, _∙_}
 use native.Mathlib.Decide.{decLe}
 use native.Mathlib.Nat.{div-lt-iff-lt-mul, mod-lt, zero-add}
@@ -11,7 +11,7 @@ use native.Mathlib.Omega.{arith}
 use lib.Dec.{T}
 use lib.ListN.{getD}
 use Rattle.answers.specs.declared.Refusal.{Refusal}
-use Rattle.answers.specs.declared.Refusal.the-variants.{SectorOutside, VolumeAbsent}
+use Rattle.answers.specs.declared.Refusal.the-variants.{DriveHeld, SectorOutside, VolumeAbsent}
 use Rattle.geometry.specs.declared.Address.{Address}
 use Rattle.geometry.specs.declared.Geometry.{Geometry}
 use Rattle.geometry.specs.declared.Number.{Number}
@@ -36,7 +36,8 @@ use Rattle.judge.specs.Given.{Asked, beginsAt, on}
 use Rattle.judge.specs.Verdict.{byItsOwn, verdict}
 use Rattle.judge.proofs.First.{never as not-unlisted}
 use Rattle.judge.proofs.LetThrough.{own-plan, plan-fits}
-use Rattle.judge.proofs.Tasks.{format-16, move-14, move-on, own, start-nowhere}
+use Rattle.judge.proofs.EachTask.{asksHolder}
+use Rattle.judge.proofs.Tasks.{format-16, move-14, move-on, own-unless-held, start-nowhere}
 use Rattle.request.specs.declared.Move.{Move}
 use Rattle.request.specs.declared.Task.{Task}
 use Rattle.request.specs.declared.Track.{Track}
@@ -73,25 +74,31 @@ module _ (a : Asked) where
 
   module _ (p : Plan) (accepted : verdict a ≡ Do p) (counts : CountsAsInitialized u) where
     -- Its task is not one that would be refused.
-    not-refused : (t : Task) (r : Refusal) → a .task ≡ t → (T (unlisted t) → ⊥) → byItsOwn (on u (a .image) t (a .host)) ≡ Refused r → ⊥
-    not-refused t r is listed refused =
-        let so : verdict a ≡ Refused r =
-        ap (λ (t : Task). verdict (on u (a .image) t (a .host))) is ∙ own u (a .image) (a .host) t listed ∙ refused in
-        never (cc (accepted, so))
+    not-so : (r : Refusal) → verdict a ≡ Refused r → ⊥
+    not-so r so = never (cc (accepted, so))
+
+    not-refused :
+        (t : Task) (r : Refusal) → a .task ≡ t → (T (unlisted t) → ⊥) → T (asksHolder t) → byItsOwn (on (a .controller) u (a .image) t (a .host)) ≡ Refused r → ⊥
+    not-refused t r is listed asks refused =
+        ⊎-elim (λ held. not-so DriveHeld (as-task ∙ held)) (λ own. not-so r (as-task ∙ own ∙ refused))
+        (own-unless-held (a .controller) u (a .image) (a .host) t listed asks)
+      where
+        as-task : verdict a ≡ verdict (on (a .controller) u (a .image) t (a .host))
+        as-task = ap (λ (t : Task). verdict (on (a .controller) u (a .image) t (a .host))) is
 
     -- A format is one of a track of the drive,
     format-on-drive : (k : Track) → a .task ≡ Task.Format k → OnDrive g (address (k .cylinder) (k .head) 0)
     format-on-drive k is =
         by-cases (onDrive? g (address (k .cylinder) (k .head) 0)) (λ on. on)
-        (λ off. absurd (not-refused (Task.Format k) SectorOutside is not-unlisted (format-16 u (a .image) (a .host) k counts off)))
+        (λ off. absurd (not-refused (Task.Format k) SectorOutside is not-unlisted tt (format-16 (a .controller) u (a .image) (a .host) k counts off)))
 
     -- and a read or a write begins at a number.
     begins-at : (m : Move) → a .task ≡ Task.Move m → 0 < m .count → (n : ℕ) × (beginsAt u (m .target) ≡ Is n)
     unfolding Present
     begins-at m is some = by-number-found (beginsAt u (m .target)) refl
       where
-        refuted : (r : Refusal) → byItsOwn (on u (a .image) (Task.Move m) (a .host)) ≡ Refused r → ⊥
-        refuted r = not-refused (Task.Move m) r is not-unlisted
+        refuted : (r : Refusal) → byItsOwn (on (a .controller) u (a .image) (Task.Move m) (a .host)) ≡ Refused r → ⊥
+        refuted r = not-refused (Task.Move m) r is not-unlisted tt
 
         by-number-found : (x : Number) → beginsAt u (m .target) ≡ x → (n : ℕ) × (beginsAt u (m .target) ≡ Is n)
         by-number-found (Is n) at = (n, at)
@@ -100,8 +107,8 @@ module _ (a : Asked) where
             (λ present.
             absurd
             (refuted SectorOutside
-            (move-on u (a .image) (a .host) m counts present (λ none. omega arith) ∙ start-nowhere u (a .image) (a .host) m at)))
-            (λ absent. absurd (refuted VolumeAbsent (move-14 u (a .image) (a .host) m counts absent)))
+            (move-on (a .controller) u (a .image) (a .host) m counts present (λ none. omega arith) ∙ start-nowhere (a .controller) u (a .image) (a .host) m at)))
+            (λ absent. absurd (refuted VolumeAbsent (move-14 (a .controller) u (a .image) (a .host) m counts absent)))
 
   -- ---- where its sectors stand
 

@@ -17,7 +17,7 @@ use Rattle.demands.specs.Footprint.{Renews, Some, askedOf, leavingOf, na
 use Rattle.demands.specs.Visits.{Visit, effectOf, fetchedBy, worldLeft}
 use Rattle.block.specs.World.{Drive, World, driveOf}
 use Rattle.demands.proofs.BlockLaws.{no-mark}
-use Rattle.demands.proofs.Keeps.{block-keeps-drive, block-keeps-image, named-record, run-hands, run-keeps, same-unit?, unit-left}
+use Rattle.demands.proofs.Keeps.{block-keeps-drive, block-keeps-image, left-keeps, run-hands, run-keeps, same-unit?}
 use Rattle.unit.specs.Standing.{UnitRecord, geometry}
 
 -- A block keeps an image byte of a unit that it does not name, and one from the marks on of the unit that it names.
@@ -57,7 +57,8 @@ block-keeps-geometry v n none = by-cases (same-unit? (names v) n) (λ named. her
     here : names v ≡ n → geometry (driveOf (worldLeft v) n .unit) ≡ geometry (driveOf (v .world) n .unit)
     here named =
         subst (λ (m : UnitNumber). geometry (driveOf (worldLeft v) m .unit) ≡ geometry (driveOf (v .world) m .unit)) named
-        (ap (λ (u : UnitRecord). geometry u) (named-record v ∙ unit-left v) ∙ kept (leavingOf (verdictOf v)) refl (λ renews. none (named, renews)))
+        (left-keeps v (λ (u : UnitRecord). geometry u ≡ geometry (namedDrive v .unit)) (λ u h now. now)
+        (kept (leavingOf (verdictOf v)) refl (λ renews. none (named, renews))))
 
 -- So every byte of its image from the marks on, as its record says where they begin, is as it was.
 pub no-mark-without-an-87 :

@@ -8,7 +8,7 @@ use Rattle.block.specs.World.{World}
 use Rattle.board.specs.Chain.{ran}
 use Rattle.demands.proofs.RunAnswers.{failed-number}
 
--- It is 0 or one of 10 to 20, 22 and 23, whatever the world, the first address and the allowance.
+-- It is 0 or one of 10 to 20 and 22 to 24, whatever the world, the first address and the allowance.
 pub failed-in-range :
     (first allowance : ℕ) (w : World) → (ran first allowance w .failed ≡ 0) ⊎ OfABlock (ran first allowance w .failed)
 failed-in-range first allowance w =

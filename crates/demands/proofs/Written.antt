@@ -23,7 +23,7 @@ use Rattle.transfer.specs.Progress.{progress}
 use Rattle.transfer.specs.Stores.{Buffers, Cell, Store, Stored, after, bytesFrom, eventByte, hostByte, imageByte, upTo}
 use Rattle.transfer.proofs.Stays.{append-stored, bytes-stored, image-stays, stored-of-append, stored-of-bytes, stored-of-upTo, unstored-stays, upTo-stored}
 use Rattle.transfer.proofs.Stores.{after-append}
-use Rattle.block.specs.Block.{Effect, Performance, Words, begun, effectAt, effectOn, finish, finished, judged, reported, transferOf, wordsOf}
+use Rattle.block.specs.Block.{Effect, Performance, Words, begun, effectAt, effectOn, finish, finished, holding, judged, reported, transferOf, wordsOf}
 use Rattle.block.specs.Events.{entry}
 use Rattle.block.specs.World.{Drive}
 use Rattle.demands.specs.Footprint.{WritesEvents, WritesHost, WritesImage, askedOf, comes, movingOf, namedDrive, reportOf, transferBy, verdictOf, wordsBy}
@@ -253,7 +253,7 @@ module _ (host : List ℕ) (d : Drive) (at : ℕ) where
 
 module _ (v : Visit) where
   abbrev pub performance : Performance
-  performance = judged (v .world .host) (namedDrive v) (v .at) (verdictOf v)
+  performance = holding (v .world .controller) (blockOf v .options .reserve) (verdictOf v) (judged (v .world .host) (namedDrive v) (v .at) (verdictOf v))
 
   abbrev pub closing : List Store
   closing = finish (blockOf v) (v .at) (v .index) (performance .answer) (performance .travel)

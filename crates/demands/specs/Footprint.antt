@@ -77,7 +77,8 @@ pub data HostWritten (at : ℕ) (a : Asked) (d : Drive) (x : ℕ) : Type 0 where
 abbrev pub ImageWritten : Asked → Drive → ℕ → Type 0
 ImageWritten a d x = DiskData a d false x
 
--- The unit's record is replaced, its heads move, or it gets a pair more: every accepted block does one of these, but for 86.
+-- The unit's record is replaced, its heads move, or it gets a pair more: every accepted block does one of these, but for 86. The
+-- holder changes only with one of these (02, K10).
 abbrev pub changes : Leaving → Type 0
 changes AsItWas = ⊥
 changes (HeadsAt c) = Unit {0}
@@ -108,7 +109,7 @@ abbrev pub namedDrive : Visit → Drive
 namedDrive v = driveOf (v .world) (names v)
 
 abbrev pub askedOf : Visit → Asked
-askedOf v = asking (taskOf (v .world .host) (blockOf v)) (namedDrive v) (v .world .host)
+askedOf v = asking (v .world .controller) (taskOf (v .world .host) (blockOf v)) (namedDrive v) (v .world .host)
 
 abbrev pub verdictOf : Visit → Verdict
 verdictOf v = verdict (askedOf v)

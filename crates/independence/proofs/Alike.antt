@@ -30,7 +30,7 @@ use Rattle.judge.proofs.LetThrough.{list-let-through}
 use Rattle.judge.proofs.Locality.{block-local}
 use Rattle.transfer.specs.Data.{Transfer, dataOn, progressOn}
 use Rattle.transfer.proofs.Joined.{joined-same}
-use Rattle.block.specs.Block.{Performance, asking, begun, bufferOf, dataByte, finished, judged, leftBy, reported, transferOf, transferWith, travelled}
+use Rattle.block.specs.Block.{Performance, asking, begun, bufferOf, dataByte, finished, holding, judged, leftBy, reported, transferOf, transferWith, travelled}
 use Rattle.unit.specs.Standing.{cylinder}
 use Rattle.block.specs.World.{Drive, World, driveOf}
 use Rattle.demands.specs.Footprint.{askedOf, movingOf, namedDrive, names, transferBy, verdictOf}
@@ -85,7 +85,7 @@ read-too at uib a b d uibs lists same x (moved m) =
     })
 
 module _
-    (v : Visit) (k : World) (long : length (v .world .host) ≡ length (k .host))
+    (v : Visit) (k : World) (run-by : v .world .controller ≡ k .controller) (long : length (v .world .host) ≡ length (k .host))
     (alike : (x : ℕ) → ReadsHost v x → getD (v .world .host) x 0 ≡ getD (k .host) x 0)
     (drive : namedDrive v ≡ driveOf k (names v))
   where
@@ -107,15 +107,16 @@ module _
 
     -- What is judged of the same block and drive in the other memory.
     abbrev judged-there : Block → Drive → Asked
-    judged-there b d = asking (taskOf (k .host) b) d (k .host)
+    judged-there b d = asking (v .world .controller) (taskOf (k .host) b) d (k .host)
 
     verdict-there : verdictOf v ≡ verdict (judged-there (blockOf v) (namedDrive v))
     verdict-there =
-        block-local (namedDrive v .unit) (length (namedDrive v .image)) h (k .host) long (blockOf v) (λ x read. alike x (its-uib read))
+        block-local (v .world .controller) (namedDrive v .unit) (length (namedDrive v .image)) h (k .host) long (blockOf v) (λ x read. alike x (its-uib read))
         (λ x read. alike x (its-list read))
 
     verdict-alike : verdictOf v ≡ verdictOf there
-    verdict-alike = verdict-there ∙ (λ i. verdict (judged-there (block-alike i) (drive-alike i)))
+    verdict-alike =
+        verdict-there ∙ (λ i. verdict (asking (run-by i) (taskOf (k .host) (block-alike i)) (drive-alike i) (k .host)))
 
     -- Where the data of the block lies.
     data-alike :
@@ -159,8 +160,12 @@ module _
     pub effect-alike : effectOf v ≡ effectOf there
     effect-alike =
         effect-is v
-        ∙ ap (λ (p : Performance). finished (blockOf v) (v .at) (v .index) p) (judged-alike (verdictOf v) refl)
-        ∙ (λ i. finished (block-alike i) (v .at) (v .index) (judged (k .host) (drive-alike i) (v .at) (verdict-alike i)))
+        ∙ ap
+        (λ (p : Performance). finished (blockOf v) (v .at) (v .index) (holding (v .world .controller) (blockOf v .options .reserve) (verdictOf v) p))
+        (judged-alike (verdictOf v) refl)
+        ∙ (λ i.
+        finished (block-alike i) (v .at) (v .index)
+        (holding (run-by i) (block-alike i .options .reserve) (verdict-alike i) (judged (k .host) (drive-alike i) (v .at) (verdict-alike i))))
         ∙ sym (effect-is there)
 
     -- It reads the same bytes there.
@@ -174,11 +179,12 @@ module _
         let b = blockOf v in
         let d = namedDrive v in
         let moved-along : HostRead (v .at) (b .address) (judged-there b d) d x ≡ ReadsHost there x =
-        λ i. HostRead (v .at) (block-alike i .address) (judged-there (block-alike i) (drive-alike i)) (drive-alike i) x in
+        λ i.
+        HostRead (v .at) (block-alike i .address) (asking (run-by i) (taskOf (k .host) (block-alike i)) (drive-alike i) (k .host)) (drive-alike i) x in
         Iff·trans (
-          read-too (v .at) (b .address) (askedOf v) (judged-there b d) d (uib-read-alike h (k .host) long d b)
-              (list-read-alike h (k .host) long d b) transfer-there x,
-          read-too (v .at) (b .address) (judged-there b d) (askedOf v) d (uib-read-alike (k .host) h (sym long) d b)
-              (list-read-alike (k .host) h (sym long) d b) (sym transfer-there) x,
+          read-too (v .at) (b .address) (askedOf v) (judged-there b d) d (uib-read-alike (v .world .controller) h (k .host) long d b)
+              (list-read-alike (v .world .controller) h (k .host) long d b) transfer-there x,
+          read-too (v .at) (b .address) (judged-there b d) (askedOf v) d (uib-read-alike (v .world .controller) (k .host) h (sym long) d b)
+              (list-read-alike (v .world .controller) (k .host) h (sym long) d b) (sym transfer-there) x,
         )
         (transport moved-along, transport⁻¹ moved-along)

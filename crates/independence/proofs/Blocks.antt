@@ -2,7 +2,7 @@
 -- Alike and Sources say so, and demands says that it writes what its stores have as targets.
 use Prim.Native.Nat.{ℕ}
 use mathlib.Core.Bool.{Bool}
-use mathlib.Core.Path.{_≡_, refl}
+use mathlib.Core.Path.{_≡_, refl, ap}
 use lib.ListN.{getD}
 use Rattle.answers.specs.declared.BlockAnswer.{BlockAnswer}
 use Rattle.block.specs.World.{World}
@@ -49,13 +49,15 @@ module _ (at i : ℕ) where
       let v = visit w in
       let bytes : (x : ℕ) → ReadsHost v x → getD (w .host) x 0 ≡ getD (u .host) x 0 = λ x read. agree .cells (byte x) read in
       let drive = agree .cells (disk (names v)) refl in
-      let e = effect-alike v u (agree .shape) bytes drive in
-      let b = block-alike v u (agree .shape) bytes drive in
+      let by = ap (λ p. p .0) (agree .shape) in
+      let long = ap (λ p. p .1) (agree .shape) in
+      let e = effect-alike v u by long bytes drive in
+      let b = block-alike v u by long bytes drive in
       record {
-        names = names-alike v u (agree .shape) bytes drive;
+        names = names-alike v u by long bytes drive;
         effect = e;
         out = λ i. record { answer = e i .answer; sectors = e i .sectors; linked = b i .options .link; link = b i .link };
-        reads = reads-alike v u (agree .shape) bytes drive;
+        reads = reads-alike v u by long bytes drive;
       }
 
   pub block-is-local : Local worlds (working block)

@@ -10,7 +10,7 @@ use Rattle.independence.proofs.Runs.{run-is-local}
 use Rattle.independence.proofs.Steps.{either-order, none-in-common, one-state}
 
 pub run-local : (t : Which) (chain : Chain) → Local both (runOf t chain)
-run-local t chain = placed-local (placeOf t) (faithful t) (runOn chain) (run-is-local chain)
+run-local t chain = placed-local (placeOf t (chain .controller)) (faithful t (chain .controller)) (runOn chain) (run-is-local chain)
 
 module _ (first second : Chain) (s : Both) where
   abbrev one : Step both Told
@@ -23,17 +23,17 @@ module _ (first second : Chain) (s : Both) where
   apart i = record { written = none-in-common both one two s written-once; unread-by-second = by-second; unread-by-first = by-first }
     where
       written-once : (c : Cell) → one .Writes s c → two .Writes s c → ⊥
-      written-once (hostByte x) w v = i .written x w v
+      written-once (hostByte c x) w v = i .written (w .0 ∙ sym (v .0)) x (w .1) (v .1)
       written-once (drive n) w v = i .units n w v
       written-once (eventBuffer r) w v = no-chain-is-both (w .0 ∙ sym (v .0))
 
       by-second : (c : Cell) → one .Writes s c → two .Reads s c → ⊥
-      by-second (hostByte x) w v = i .read x .0 w v
+      by-second (hostByte c x) w v = i .read (w .0 ∙ sym (v .0)) x .0 (w .1) (v .1)
       by-second (drive n) w v = i .units n w v
       by-second (eventBuffer r) w v = no-chain-is-both (w .0 ∙ sym (v .0))
 
       by-first : (c : Cell) → two .Writes s c → one .Reads s c → ⊥
-      by-first (hostByte x) w v = i .read x .1 w v
+      by-first (hostByte c x) w v = i .read (v .0 ∙ sym (w .0)) x .1 (w .1) (v .1)
       by-first (drive n) w v = i .units n v w
       by-first (eventBuffer r) w v = no-chain-is-both (v .0 ∙ sym (w .0))
 

@@ -120,8 +120,8 @@ chain-local (suc k) tally at =
     branch-local worlds (λ w. InMemory (w .host) at 28) (λ w. inMemory? (w .host) at 28) (chainOn (suc k) tally at)
     (then (first k tally at) (then-on k tally at)) (idle (bad-address k tally at))
     (λ w u agree. (
-      λ good. range-same (w .host) (u .host) at 28 (agree .shape) good,
-      λ good. range-same (u .host) (w .host) at 28 (sym (agree .shape)) good,
+      λ good. range-same (w .host) (u .host) at 28 (ap (λ p. p .1) (agree .shape)) good,
+      λ good. range-same (u .host) (w .host) at 28 (sym (ap (λ p. p .1) (agree .shape))) good,
     ))
     (then-local worlds worlds-stable (first k tally at) (then-on k tally at) (block-is-local at (tally .blocks))
     (λ o.

@@ -25,22 +25,23 @@ use Rattle.judge.specs.Checks.{None, before}
 use Rattle.judge.specs.Given.{Asked, BadPlace}
 use Rattle.judge.specs.Reads.{InList, InUib}
 use Rattle.judge.proofs.First.{none-of-all, none-of-parts}
+use Rattle.unit.specs.declared.Controller.{Controller}
 use Rattle.block.specs.Block.{asking}
 use Rattle.block.specs.World.{Drive}
 
 no-shape-moves : {s : Shape} {m : Move} → Initialize s ≡ Moves m → ⊥
 no-shape-moves e = never cc
 
-module _ (h k : List ℕ) (long : length h ≡ length k) (d : Drive) where
+module _ (by : Controller) (h k : List ℕ) (long : length h ≡ length k) (d : Drive) where
   -- The checks before 18 and before 13, of the same task.
   before-list-alike :
-      (t : Task) (m : Move) (at n : ℕ) → t ≡ Moves m → m .buffer ≡ Elements at n → None (before ListBad (checks (asking t d h))) →
-      None (before ListBad (checks (asking t d k)))
+      (t : Task) (m : Move) (at n : ℕ) → t ≡ Moves m → m .buffer ≡ Elements at n → None (before ListBad (checks (asking by t d h))) →
+      None (before ListBad (checks (asking by t d k)))
   before-list-alike t m at n asks buffer passed = rw (asks, buffer) (rw (asks, buffer) at passed)
 
   before-limits-alike :
-      (t : Task) (s : Shape) → t ≡ Initialize s → None (before UibOutsideLimits (checks (asking t d h))) →
-      None (before UibOutsideLimits (checks (asking t d k)))
+      (t : Task) (s : Shape) → t ≡ Initialize s → None (before UibOutsideLimits (checks (asking by t d h))) →
+      None (before UibOutsideLimits (checks (asking by t d k)))
   before-limits-alike t s asks passed = rw asks (rw asks at passed)
 
   -- A UIB that is where it can be read in one memory is so in the other.
@@ -52,10 +53,10 @@ module _ (h k : List ℕ) (long : length h ≡ length k) (d : Drive) where
 
   module _ (b : Block) where
     abbrev in-h : Asked
-    in-h = asking (taskOf h b) d h
+    in-h = asking by (taskOf h b) d h
 
     abbrev in-k : Asked
-    in-k = asking (taskOf k b) d k
+    in-k = asking by (taskOf k b) d k
 
     pub list-read-alike : (x : ℕ) → InList in-h x → InList in-k x
     list-read-alike x l =
@@ -67,7 +68,7 @@ module _ (h k : List ℕ) (long : length h ≡ length k) (d : Drive) where
           elements = l .elements;
           buffer = l .buffer;
           passed =
-              subst (λ t. None (before ListBad (checks (asking t d k)))) same
+              subst (λ t. None (before ListBad (checks (asking by t d k)))) same
               (before-list-alike (taskOf h b) (l .move) (l .at) (l .elements) (l .asks) (l .buffer) (l .passed));
           some = l .some;
           most = l .most;
@@ -84,16 +85,16 @@ module _ (h k : List ℕ) (long : length h ≡ length k) (d : Drive) where
         let in-k = asked-by-87 k b is in
         let uib-h = shapeAt h (b .address) in
         let uib-k = shapeAt k (b .address) in
-        let a = asking (Initialize uib-h) d h in
-        let e = asking (Initialize uib-k) d k in
-        let passed = subst (λ t. None (before UibOutsideLimits (checks (asking t d h)))) in-h (u .passed) in
-        let parts = none-of-parts (firstChecks a) (uibMisplaced a uib-h ∷ []) passed in
+        let a = asking by (Initialize uib-h) d h in
+        let e = asking by (Initialize uib-k) d k in
+        let passed = subst (λ t. None (before UibOutsideLimits (checks (asking by t d h)))) in-h (u .passed) in
+        let parts = none-of-parts (firstChecks a (Initialize uib-h)) (uibMisplaced a uib-h ∷ []) passed in
         record {
           shape = uib-k;
           asks = in-k;
           passed =
-              subst (λ t. None (before UibOutsideLimits (checks (asking t d k)))) (sym in-k)
-              (none-of-all (firstChecks e) (uibMisplaced e uib-k ∷ []) (parts .0) (placed-alike (b .address) (parts .1 .0), tt));
+              subst (λ t. None (before UibOutsideLimits (checks (asking by t d k)))) (sym in-k)
+              (none-of-all (firstChecks e (Initialize uib-k)) (uibMisplaced e uib-k ∷ []) (parts .0) (placed-alike (b .address) (parts .1 .0), tt));
           among = u .among;
         })
         (λ other.
@@ -102,7 +103,7 @@ module _ (h k : List ℕ) (long : length h ≡ length k) (d : Drive) where
           shape = u .shape;
           asks = sym same ∙ u .asks;
           passed =
-              subst (λ t. None (before UibOutsideLimits (checks (asking t d k)))) same
+              subst (λ t. None (before UibOutsideLimits (checks (asking by t d k)))) same
               (before-limits-alike (taskOf h b) (u .shape) (u .asks) (u .passed));
           among = u .among;
         })

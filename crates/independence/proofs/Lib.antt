@@ -2,8 +2,10 @@ pub mod Alike
 pub mod Blocks
 pub mod Both
 pub mod Branches
+pub mod Controllers
 pub mod Demand3
 pub mod Followed
+pub mod Held
 pub mod Lengths
 pub mod Meets
 pub mod Places

@@ -93,7 +93,8 @@ module _ (chain : Chain) where
       branch-local worlds (Passes first allowance) (passes? first allowance) (runOn chain) (chainOn allowance nothing first) refusal
       (λ w u agree.
       let long = ap length (agree .cells events tt) in
-      (passes-alike w u (agree .shape) long, passes-alike u w (sym (agree .shape)) (sym long)))
+      let memory = ap (λ p. p .1) (agree .shape) in
+      (passes-alike w u memory long, passes-alike u w (sym memory) (sym long)))
       (chain-local allowance nothing first)
       (still-local worlds NoBlock (λ w. answerFor (length (w .events)))
       (λ w u agree. ap (λ e. answerFor (length e)) (agree .cells events tt)))

@@ -54,6 +54,11 @@ pub record ByWhatItReads {Out : Type 0} (k : Work Out) : Type 0 where
 
 -- ---- a world with one drive changed
 
+-- The run's controller stays.
+run-by-changed : (w : World) (m : Buffers) (u : UnitRecord) (n : UnitNumber) → w .controller ≡ changed w n m u .controller
+run-by-changed w m u Zero = refl
+run-by-changed w m u One = refl
+
 module _ (w : World) (m : Buffers) (r : UnitRecord) where
   buffers-changed : (n : UnitNumber) → buffersOf (changed w n m r) n ≡ m
   buffers-changed Zero = refl
@@ -116,7 +121,7 @@ module _ {Out : Type 0} (k : Work Out) (by : ByWhatItReads k) where
     met : Meet (k .Reads w) (buffersOf w n) (buffersOf u n)
     met =
         record {
-          long = agree .shape;
+          long = ap (λ p. p .1) (agree .shape);
           host = λ x read. agree .cells (byte x) read;
           image = ap (λ d. d .image) (agree .cells (disk n) refl);
           events = agree .cells events tt;
@@ -152,8 +157,10 @@ module _ {Out : Type 0} (k : Work Out) (by : ByWhatItReads k) where
   work-local =
       record {
         shape = λ w.
-            sym (lengths-stay (k .effect w .stores) (buffersOf w (k .names w)) .0) ∙
-            ap (λ b. length (b .host)) (sym (buffers-changed w _ _ (k .names w)));
+            let long : length (w .host) ≡ length (leaves k w .host) =
+            sym (lengths-stay (k .effect w .stores) (buffersOf w (k .names w)) .0)
+            ∙ ap (λ b. length (b .host)) (sym (buffers-changed w _ _ (k .names w))) in
+            λ i. (run-by-changed w (after (k .effect w .stores) (buffersOf w (k .names w))) (k .effect w .unit) (k .names w) i, long i);
         frame = frame;
         local = leads;
       }

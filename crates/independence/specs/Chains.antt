@@ -1,11 +1,13 @@
--- A chain run on its world, and two chains on one host memory and two drives, each with an event buffer of its own (00, demand 3), as steps
--- with a footprint.
+-- A chain run on its world, and two chains, each run by either controller, on the memories of the two, the drives that they share, and an event
+-- buffer for each chain (00, demand 3; 02, K10), as steps with a footprint.
 use Prim.Native.Nat.{ℕ}
 use mathlib.Core.List.{List}
 use mathlib.Core.Path.{_≡_}
 use lib.ListN.{getD, length}
 use Rattle.answers.specs.declared.RunAnswer.{RunAnswer}
 use Rattle.request.specs.declared.UnitNumber.{UnitNumber}
+use Rattle.unit.specs.declared.Controller.{Controller}
+use Rattle.unit.specs.declared.Controller.the-variants.{First as FirstController, Second as SecondController}
 use Rattle.block.specs.World.{Drive, World, driveOf}
 use Rattle.board.specs.Chain.{Ending, Tally, ran}
 use Rattle.demands.specs.Footprint.{RunNames, RunWrites}
@@ -13,8 +15,9 @@ use Rattle.independence.specs.Local.{Kind, Place, Step, placed}
 use Rattle.independence.specs.Reads.{RunReads}
 use Rattle.independence.specs.Worlds.{Touches, byte, disk, events, worlds}
 
--- A chain as it is asked for: "the address of a first IOPB (a "block") and an allowance".
+-- A chain as it is asked for: the controller that runs it, and "the address of a first IOPB (a "block") and an allowance".
 pub record Chain : Type 0 where
+  pub controller : Controller
   pub first : ℕ
   pub allowance : ℕ
 
@@ -56,8 +59,11 @@ pub data Which : Type 0 where
   First : Which
   Second : Which
 
+-- "Each has its own host memory" (02, K10): host1 is the first controller's, host2 the second's. An event buffer
+-- is a chain's.
 pub record Both : Type 0 where
-  pub host : List ℕ
+  pub host1 : List ℕ
+  pub host2 : List ℕ
   pub drive0 : Drive
   pub drive1 : Drive
   pub events1 : List ℕ
@@ -67,53 +73,67 @@ abbrev pub eventsOf : Both → Which → List ℕ
 eventsOf s First = s .events1
 eventsOf s Second = s .events2
 
--- The world that a chain finds, and what is there when it has left its world.
-abbrev pub worldFor : Which → Both → World
-worldFor t s = record { host = s .host; drive0 = s .drive0; drive1 = s .drive1; events = eventsOf s t }
+abbrev pub hostOf : Both → Controller → List ℕ
+hostOf s FirstController = s .host1
+hostOf s SecondController = s .host2
 
-abbrev pub leaving : Which → Both → World → Both
-leaving First s w =
-    record { host = w .host; drive0 = w .drive0; drive1 = w .drive1; events1 = w .events; events2 = s .events2 }
-leaving Second s w =
-    record { host = w .host; drive0 = w .drive0; drive1 = w .drive1; events1 = s .events1; events2 = w .events }
+-- The world that a chain run by a controller finds, and what is there when it has left its world.
+abbrev pub worldFor : Which → Controller → Both → World
+worldFor t c s = record { controller = c; host = hostOf s c; drive0 = s .drive0; drive1 = s .drive1; events = eventsOf s t }
 
--- The cells: each byte of host memory, each unit's drive, record and image together, and each event buffer. Host memory keeps its length.
+-- Of two memories or two event buffers, the one of a controller or a chain is put, and the other stays.
+abbrev pub putHost : Controller → List ℕ → Both → Both
+putHost FirstController h s = record { host1 = h; host2 = s .host2; drive0 = s .drive0; drive1 = s .drive1; events1 = s .events1; events2 = s .events2 }
+putHost SecondController h s = record { host1 = s .host1; host2 = h; drive0 = s .drive0; drive1 = s .drive1; events1 = s .events1; events2 = s .events2 }
+
+abbrev pub putEvents : Which → List ℕ → Both → Both
+putEvents First e s = record { host1 = s .host1; host2 = s .host2; drive0 = s .drive0; drive1 = s .drive1; events1 = e; events2 = s .events2 }
+putEvents Second e s = record { host1 = s .host1; host2 = s .host2; drive0 = s .drive0; drive1 = s .drive1; events1 = s .events1; events2 = e }
+
+abbrev pub putDrives : Drive → Drive → Both → Both
+putDrives d e s = record { host1 = s .host1; host2 = s .host2; drive0 = d; drive1 = e; events1 = s .events1; events2 = s .events2 }
+
+abbrev pub leaving : Which → Controller → Both → World → Both
+leaving t c s w = putDrives (w .drive0) (w .drive1) (putEvents t (w .events) (putHost c (w .host) s))
+
+-- The cells: each byte of each controller's memory, each unit's drive, its record with table and holder and its image, and each event buffer. The memories keep
+-- their lengths.
 pub data Cell : Type 0 where
-  hostByte : ℕ → Cell
+  hostByte : Controller → ℕ → Cell
   drive : UnitNumber → Cell
   eventBuffer : Which → Cell
 
 abbrev pub Holds : Cell → Type 0
-Holds (hostByte x) = ℕ
+Holds (hostByte c x) = ℕ
 Holds (drive n) = Drive
 Holds (eventBuffer t) = List ℕ
 
 abbrev pub holds : Both → (c : Cell) → Holds c
-holds s (hostByte x) = getD (s .host) x 0
-holds s (drive n) = driveOf (worldFor First s) n
+holds s (hostByte c x) = getD (hostOf s c) x 0
+holds s (drive n) = driveOf (worldFor First FirstController s) n
 holds s (eventBuffer t) = eventsOf s t
 
 abbrev pub both : Kind
 both =
     record {
       State = Both;
-      Shape = ℕ;
-      shape = λ s. length (s .host);
+      Shape = ℕ × ℕ;
+      shape = λ s. (length (s .host1), length (s .host2));
       Cell = Cell;
       Value = Holds;
       get = holds;
     }
 
--- The cells that are some cells of the world of one of the two.
-abbrev pub cellsOf : Which → (worlds .Cell → Type 0) → Cell → Type 0
-cellsOf t P (hostByte x) = P (byte x)
-cellsOf t P (drive n) = P (disk n)
-cellsOf t P (eventBuffer u) = (t ≡ u) × P events
+-- The cells that are some cells of the world of one of the two chains, which a controller runs.
+abbrev pub cellsOf : Which → Controller → (worlds .Cell → Type 0) → Cell → Type 0
+cellsOf t c P (hostByte d x) = (c ≡ d) × P (byte x)
+cellsOf t c P (drive n) = P (disk n)
+cellsOf t c P (eventBuffer u) = (t ≡ u) × P events
 
--- Where the world of one of the two lies: everywhere but in the event buffer of the other.
-abbrev pub placeOf : Which → Place worlds both
-placeOf t = record { seen = worldFor t; back = leaving t; Cells = cellsOf t }
+-- Where the world of one of the two lies: everywhere but in the event buffer of the other chain, and in the memory of the other controller.
+abbrev pub placeOf : Which → Controller → Place worlds both
+placeOf t c = record { seen = worldFor t c; back = leaving t c; Cells = cellsOf t c }
 
 -- The run of a chain, as one of the two.
 abbrev pub runOf : Which → Chain → Step both Told
-runOf t c = placed (placeOf t) (runOn c)
+runOf t k = placed (placeOf t (k .controller)) (runOn k)

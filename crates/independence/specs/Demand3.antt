@@ -1,30 +1,42 @@
--- Demand 3. Take any host memory, two drives of any contents and lengths, and two separate event buffers; take two chains, each by the
--- address of its first block and its allowance, and follow each alone from there. If the blocks that they fetch name no unit in
--- common, and no host byte that one writes is read or written by the other, then running the first and then the second, and the second
--- and then the first, leaves the same host memory, images, unit records and event buffers; and in both orders each chain gives the
--- answer, the failed number, the counts and the events that it gives alone. A run that is refused fetches no block and is covered too;
--- so is a chain that writes over its own blocks, for a chain may read what it wrote itself.
+-- Demand 3. Take any two host memories, one of each controller (02, K10), two drives of any contents and lengths, and two separate event buffers; take
+-- two chains, each by the controller that runs it, the address of its first block and its allowance, and follow each alone from there. If the
+-- blocks that they fetch name no unit in common, and, where one controller runs both, no host byte that one writes is read or written by the
+-- other, then running the first and then the second, and the second and then the first, leaves the same memories, images, unit records,
+-- holders and event buffers; and in both orders each chain gives the answer, the failed number, the counts and the events that it gives
+-- alone. A run that is refused fetches no block and is covered too; so is a chain that writes over its own blocks, for a chain may read what
+-- it wrote itself.
 use Prim.Native.Nat.{ℕ}
 use mathlib.Core.Path.{_≡_}
 use Rattle.request.specs.declared.UnitNumber.{UnitNumber}
 use Rattle.independence.specs.Chains.{Both, Cell, Chain, First, HostReads, HostWrites, Names, Second, Told, both, holds, runOf, worldFor}
 use Rattle.independence.specs.Local.{Step}
+use Rattle.block.specs.World.{World}
 
 module _ (one two : Chain) (s : Both) where
-  -- "the blocks they fetch name no unit in common"
+  -- What each finds, followed alone.
+  abbrev pub firstFinds : World
+  firstFinds = worldFor First (one .controller) s
+
+  abbrev pub secondFinds : World
+  secondFinds = worldFor Second (two .controller) s
+
+  -- "the blocks they fetch name no unit in common": "the chains share no drive, whichever controller runs them" (02, K10)
   abbrev pub NoUnitInCommon : Type 0
-  NoUnitInCommon = (n : UnitNumber) → Names one (worldFor First s) n → Names two (worldFor Second s) n → ⊥
+  NoUnitInCommon = (n : UnitNumber) → Names one firstFinds n → Names two secondFinds n → ⊥
+
+  -- A host byte is a controller and an index: what chains on two controllers read and write is never the same byte.
+  abbrev pub OnOneController : Type 0
+  OnOneController = one .controller ≡ two .controller
 
   -- "no host byte that one writes is .. written by the other"
   abbrev pub NoByteWrittenByBoth : Type 0
-  NoByteWrittenByBoth = (x : ℕ) → HostWrites one (worldFor First s) x → HostWrites two (worldFor Second s) x → ⊥
+  NoByteWrittenByBoth = OnOneController → (x : ℕ) → HostWrites one firstFinds x → HostWrites two secondFinds x → ⊥
 
   -- "no host byte that one writes is read .. by the other"
   abbrev pub NoByteReadByOther : Type 0
   NoByteReadByOther =
-      (x : ℕ) →
-      (HostWrites one (worldFor First s) x → HostReads two (worldFor Second s) x → ⊥) ×
-      (HostWrites two (worldFor Second s) x → HostReads one (worldFor First s) x → ⊥)
+      OnOneController → (x : ℕ) →
+      (HostWrites one firstFinds x → HostReads two secondFinds x → ⊥) × (HostWrites two secondFinds x → HostReads one firstFinds x → ⊥)
 
   -- The condition. That "their event buffers are separate" is in `Both`, which has two.
   pub record Independent : Type 0 where

@@ -1,4 +1,5 @@
 pub mod Chains
+pub mod Controllers
 pub mod Demand3
 pub mod Local
 pub mod Reads

@@ -3,10 +3,12 @@ use Prim.Native.Nat.{ℕ}
 use mathlib.Core.List.{List}
 use lib.ListN.{getD, length}
 use Rattle.request.specs.declared.UnitNumber.{UnitNumber}
+use Rattle.unit.specs.declared.Controller.{Controller}
 use Rattle.block.specs.World.{Drive, World, driveOf}
 use Rattle.independence.specs.Local.{Kind}
 
--- The cells: each byte of host memory, each unit's drive, record and image together, and the event buffer. Host memory keeps its length.
+-- The cells: each byte of host memory, each unit's drive, its record with table and holder and its image, and the event buffer. Host memory keeps its length, and the run
+-- its controller (02, K10).
 pub data Cell : Type 0 where
   byte : ℕ → Cell
   disk : UnitNumber → Cell
@@ -26,8 +28,8 @@ abbrev pub worlds : Kind
 worlds =
     record {
       State = World;
-      Shape = ℕ;
-      shape = λ w. length (w .host);
+      Shape = Controller × ℕ;
+      shape = λ w. (w .controller, length (w .host));
       Cell = Cell;
       Value = Holds;
       get = holds;

@@ -90,5 +90,6 @@ taskAt command ((code, task) ∷ ts) = cond (eqb command code) task (taskAt comm
 unfoldable pub taskOf : List ℕ → Block → Task
 taskOf host b = taskAt (b .command) (tasks host b)
 
+-- The unit, what is asked of it, and RV (02, K10).
 abbrev pub requestOf : List ℕ → Block → Request
-requestOf host b = record { unit = unitOf b; task = taskOf host b }
+requestOf host b = record { unit = unitOf b; task = taskOf host b; reserve = b .options .reserve }

@@ -6,7 +6,7 @@ use lib.Dec.{eqb}
 use Rattle.answers.specs.declared.BlockAnswer.{BlockAnswer}
 use Rattle.answers.specs.declared.BlockAnswer.the-variants.{Ended, Failed}
 use Rattle.answers.specs.declared.Refusal.{Refusal}
-use Rattle.answers.specs.declared.Refusal.the-variants.{CommandUnknown, NotInitialized, UibMisplaced, UibOutsideLimits, VolumeAbsent, SectorOutside, DataMisplaced, Unreadable}
+use Rattle.answers.specs.declared.Refusal.the-variants.{CommandUnknown, NotInitialized, UibMisplaced, UibOutsideLimits, VolumeAbsent, SectorOutside, DataMisplaced, Unreadable, DriveHeld}
 use Rattle.answers.specs.Numbers.{refusalNumber}
 use Rattle.iopb.specs.declared.ErrorLine.{ErrorLine}
 
@@ -23,6 +23,7 @@ errorTable =
     line SectorOutside 0x16 ∷
     line DataMisplaced 0x62 ∷
     line Unreadable 0x13 ∷
+    line DriveHeld 0x2e ∷
     []
 
 -- The byte of the line with a number; "an answer with no line there takes FF".

@@ -28,7 +28,11 @@ pub fn request(b: Block, host: &[u8]) -> Request
     let options = b.options;
     let unit = unit(options);
     let task = task(b, host);
-    Request { unit, task }
+    Request {
+        unit,
+        task,
+        reserve: options.reserve,
+    }
 }
 
 // The unit that the block at an address names, told without the rest of it: whoever picks a drive by it need not keep a block.

@@ -143,7 +143,7 @@ pub(crate) struct ErrorLine {
 }
 
 // The answers for which the manual has a line.
-const ERROR_LINES: [ErrorLine; 8] = [
+const ERROR_LINES: [ErrorLine; 9] = [
     ErrorLine {
         number: 10,
         error: 0x14,
@@ -175,6 +175,10 @@ const ERROR_LINES: [ErrorLine; 8] = [
     ErrorLine {
         number: 20,
         error: 0x13,
+    },
+    ErrorLine {
+        number: 24,
+        error: 0x2E,
     },
 ];
 

@@ -23,6 +23,7 @@ use Rattle.judge.specs.Checks.{Check, None, before, first}
 use Rattle.judge.specs.Given.{Asked, on}
 use Rattle.judge.specs.Reads.{InList}
 use Rattle.judge.proofs.First.{early, none?, pass, skip, stop}
+use Rattle.unit.specs.declared.Controller.{Controller}
 use Rattle.unit.specs.Standing.{UnitRecord}
 
 -- ---- two lists of checks
@@ -47,21 +48,21 @@ alike-then k l ks ls p answer same rest =
 -- What comes before check 18 of a transfer through a list.
 pub before-list :
     (a : Asked) (m : Move) (at n : ℕ) → a .task ≡ Moves m → m .buffer ≡ Elements at n →
-    None (firstChecks a ++ beforeBuffer a m) → None (before Refusal.ListBad (checks a))
+    None (firstChecks a (Moves m) ++ beforeBuffer a m) → None (before Refusal.ListBad (checks a))
 before-list a m at n asks buffer none =
-    subst (λ (t : Task). None (before Refusal.ListBad (firstChecks a ++ ownChecks a t))) (sym asks)
-    (subst (λ (b : Buffer). None (before Refusal.ListBad (firstChecks a ++ beforeBuffer a m ++ ofBuffer a b (bytesOf a m)))) (sym buffer) none)
+    subst (λ (t : Task). None (before Refusal.ListBad (firstChecks a t ++ ownChecks a t))) (sym asks)
+    (subst (λ (b : Buffer). None (before Refusal.ListBad (firstChecks a (Moves m) ++ beforeBuffer a m ++ ofBuffer a b (bytesOf a m)))) (sym buffer) none)
 
-module _ (u : UnitRecord) (image : ℕ) (h k : List ℕ) (long : length h ≡ length k) where
-  pub same-range : (t : Task) (at bytes : ℕ) (p : Plan) → first (dataMisplaced (on u image t h) at bytes ∷ []) p ≡ first (dataMisplaced (on u image t k) at bytes ∷ []) p
+module _ (c : Controller) (u : UnitRecord) (image : ℕ) (h k : List ℕ) (long : length h ≡ length k) where
+  pub same-range : (t : Task) (at bytes : ℕ) (p : Plan) → first (dataMisplaced (on c u image t h) at bytes ∷ []) p ≡ first (dataMisplaced (on c u image t k) at bytes ∷ []) p
   same-range t at bytes p =
-      alike-then (dataMisplaced (on u image t h) at bytes) (dataMisplaced (on u image t k) at bytes) [] [] p refl (
+      alike-then (dataMisplaced (on c u image t h) at bytes) (dataMisplaced (on c u image t k) at bytes) [] [] p refl (
         λ out i. out (range-same k h at bytes (sym long) i),
         λ out i. out (range-same h k at bytes long i),
       )
       (λ out. refl)
 
-  module _ (m : Move) (alike : (i : ℕ) → InList (on u image (Moves m) h) i → getD h i 0 ≡ getD k i 0) (passed : None (firstChecks (on u image (Moves m) h) ++ beforeBuffer (on u image (Moves m) h) m)) where
+  module _ (m : Move) (alike : (i : ℕ) → InList (on c u image (Moves m) h) i → getD h i 0 ≡ getD k i 0) (passed : None (firstChecks (on c u image (Moves m) h) (Moves m) ++ beforeBuffer (on c u image (Moves m) h) m)) where
     -- The elements of a list that can be read are the same in both.
     same-elements :
         (at n bytes : ℕ) → m .buffer ≡ Elements at n → (host : List ℕ) → length host ≡ length h → ListGood host at n bytes →
@@ -74,7 +75,7 @@ module _ (u : UnitRecord) (image : ℕ) (h k : List ℕ) (long : length h ≡ le
           at = at;
           elements = n;
           buffer = is;
-          passed = before-list (on u image (Moves m) h) m at n refl is passed;
+          passed = before-list (on c u image (Moves m) h) m at n refl is passed;
           some = l .some;
           most = l .most;
           place = range-same host h at (8 * n) same (l .place);
@@ -83,7 +84,7 @@ module _ (u : UnitRecord) (image : ℕ) (h k : List ℕ) (long : length h ≡ le
 
     pub same-buffer :
         (b : Buffer) → m .buffer ≡ b → (bytes : ℕ) (p : Plan) →
-        first (ofBuffer (on u image (Moves m) h) b bytes) p ≡ first (ofBuffer (on u image (Moves m) k) b bytes) p
+        first (ofBuffer (on c u image (Moves m) h) b bytes) p ≡ first (ofBuffer (on c u image (Moves m) k) b bytes) p
     same-buffer (Piece at) is bytes p = same-range (Moves m) at bytes p
     same-buffer (Elements at n) is bytes p =
         alike-then _ _ _ _ p refl (

@@ -1,11 +1,13 @@
 -- Whatever is shown by going through the tasks one by one: a task more is a line in each, here and in no other file.
 -- What they have in common stands beside them (Buffers, Known), and what follows for every task above (Table, Locality, LetThrough).
 use Prim.Native.Nat.{ℕ, _+_, _<_}
+use mathlib.Core.Bool.{Bool, true, false}
 use mathlib.Core.List.{List, [], _∷_, _++_}
-use mathlib.Core.Path.{_≡_, refl}
+use mathlib.Core.Path.{_≡_, refl, ap, _∙_}
 use native.Mathlib.Omega.{arith}
 use lib.Dec.{T}
 use lib.ListN.{getD, length}
+use Rattle.answers.specs.declared.Refusal.the-variants.{DriveHeld}
 use Rattle.geometry.specs.Drive.{B}
 use Rattle.geometry.specs.Sectors.{address, onDrive?}
 use Rattle.geometry.proofs.Decided.{within?}
@@ -16,14 +18,18 @@ use Rattle.request.specs.declared.Shape.the-variants.{Misplaced, Given as Uib}
 use Rattle.request.specs.declared.Task.{Task}
 use Rattle.request.specs.declared.Task.the-variants.{Unknown, Move as Moves, Handshake, Initialize, Restore, Seek, Format, Map}
 use Rattle.spares.proofs.Decided.{free?}
+use Rattle.unit.specs.Holding.{heldByOther}
 use Rattle.unit.specs.Landing.{spotOf}
-use Rattle.unit.specs.Standing.{UnitRecord, geometry, pairs, table}
+use Rattle.unit.specs.declared.Controller.{Controller}
+use Rattle.unit.specs.Standing.{UnitRecord, geometry, holder, pairs, table}
 use Rattle.unit.proofs.Decided.{counts?}
 use Rattle.unit.proofs.Laws.{track-inside, track-whole}
 use Rattle.wire.specs.Memory.{inMemory?}
 use Rattle.judge.specs.declared.Leaving.{Leaving}
-use Rattle.judge.specs.Asks.{beforeBuffer, bytesOf, firstChecks, found, imageShort, jobOf, notInitialized, ofBuffer, ownChecks, planOf, trackOutside, unlisted}
-use Rattle.judge.specs.Checks.{Check, None, answersOf}
+use Rattle.judge.specs.declared.Plan.{Plan}
+use Rattle.judge.specs.declared.Verdict.{Verdict}
+use Rattle.judge.specs.Asks.{beforeBuffer, bytesOf, driveHeld, firstChecks, found, imageShort, jobOf, notInitialized, ofBuffer, ofHolder, ownChecks, planOf, trackOutside, unlisted}
+use Rattle.judge.specs.Checks.{Check, None, answersOf, first}
 use Rattle.judge.specs.Decided.{covers?, hasTracks?}
 use Rattle.judge.specs.Fits.{SpanGood}
 use Rattle.judge.specs.Given.{Asked, badNumber, beginsAt, on, spareNumber}
@@ -32,17 +38,69 @@ use Rattle.judge.specs.Table.{inOrder, keepsOrder, rows}
 use Rattle.judge.specs.Verdict.{verdict}
 use Rattle.judge.proofs.Known.{Accepted, covered, good-buffer, has-number, heads-only, seek-inside, so}
 use Rattle.judge.proofs.Buffers.{after-the-same, before-list, same-buffer, same-range}
-use Rattle.judge.proofs.First.{none-of-all}
+use Rattle.judge.proofs.First.{none-of-all, skip, stop}
 
 -- ---- what is asked first, and in which order
 
--- A listed command passes what all are asked first.
-pub passes-first : (a : Asked) → (T (unlisted (a .task)) → ⊥) → None (firstChecks a)
+-- A listed command passes what is asked first, where the other controller does not hold the drive.
+pub passes-first :
+    (a : Asked) → (T (unlisted (a .task)) → ⊥) → (T (heldByOther (a .controller) (holder (a .unit))) → ⊥) → None (firstChecks a (a .task))
 unfolding None
-passes-first a listed = (listed, tt)
+passes-first a listed free = (listed, by-task (a .task))
+  where
+    by-task : (t : Task) → None (ofHolder a t)
+    by-task Unknown = (free, tt)
+    by-task (Moves m) = (free, tt)
+    by-task Handshake = tt
+    by-task (Initialize s) = (free, tt)
+    by-task Restore = (free, tt)
+    by-task (Seek t) = (free, tt)
+    by-task (Format k) = (free, tt)
+    by-task (Map k) = (free, tt)
+
+-- Which tasks are asked who holds the drive: all but a handshake.
+abbrev pub asksHolder : Task → Bool
+asksHolder Unknown = true
+asksHolder (Moves m) = true
+asksHolder Handshake = false
+asksHolder (Initialize s) = true
+asksHolder Restore = true
+asksHolder (Seek t) = true
+asksHolder (Format k) = true
+asksHolder (Map k) = true
+
+pub asked-of-holder : (a : Asked) (t : Task) → T (asksHolder t) → ofHolder a t ≡ driveHeld a ∷ []
+asked-of-holder a Unknown asks = refl
+asked-of-holder a (Moves m) asks = refl
+asked-of-holder a Handshake asks = absurd asks
+asked-of-holder a (Initialize s) asks = refl
+asked-of-holder a Restore asks = refl
+asked-of-holder a (Seek t) asks = refl
+asked-of-holder a (Format k) asks = refl
+asked-of-holder a (Map k) asks = refl
+
+pub unasked-is-handshake : (t : Task) → (T (asksHolder t) → ⊥) → t ≡ Handshake
+unasked-is-handshake Unknown none = absurd (none tt)
+unasked-is-handshake (Moves m) none = absurd (none tt)
+unasked-is-handshake Handshake none = refl
+unasked-is-handshake (Initialize s) none = absurd (none tt)
+unasked-is-handshake Restore none = absurd (none tt)
+unasked-is-handshake (Seek t) none = absurd (none tt)
+unasked-is-handshake (Format k) none = absurd (none tt)
+unasked-is-handshake (Map k) none = absurd (none tt)
+
+-- Where the other controller holds it, each of them that is listed is refused.
+pub stopped-by-holder :
+    (a : Asked) → (T (unlisted (a .task)) → ⊥) → T (asksHolder (a .task)) → T (heldByOther (a .controller) (holder (a .unit))) →
+    verdict a ≡ Verdict.Refused DriveHeld
+unfolding verdict
+stopped-by-holder a listed asks held =
+    let t = a .task in
+    skip _ _ _ listed ∙
+    ap (λ (ks : List Check). first (ks ++ ownChecks a t) (planOf (a .unit) t)) (asked-of-holder a t asks) ∙ stop _ _ _ held
 
 -- Every list of checks keeps the order of the paper's rows.
-pub asked-in-order : (a : Asked) (t : Task) → T (keepsOrder (answersOf (firstChecks a ++ ownChecks a t)) (inOrder rows))
+pub asked-in-order : (a : Asked) (t : Task) → T (keepsOrder (answersOf (firstChecks a t ++ ownChecks a t)) (inOrder rows))
 asked-in-order a t = by-task t
   where
     InOrder : List Check → Type 0
@@ -52,9 +110,9 @@ asked-in-order a t = by-task t
     with-buffer ks (Piece x) n piece list = piece x 0
     with-buffer ks (Elements x y) n piece list = list x y
 
-    by-task : (t : Task) → InOrder (firstChecks a ++ ownChecks a t)
+    by-task : (t : Task) → InOrder (firstChecks a t ++ ownChecks a t)
     by-task Unknown = tt
-    by-task (Moves m) = with-buffer (firstChecks a ++ beforeBuffer a m) (m .buffer) (bytesOf a m) (λ x y. tt) (λ x y. tt)
+    by-task (Moves m) = with-buffer (firstChecks a (Moves m) ++ beforeBuffer a m) (m .buffer) (bytesOf a m) (λ x y. tt) (λ x y. tt)
     by-task Handshake = tt
     by-task (Initialize s) = tt
     by-task Restore = tt
@@ -64,41 +122,41 @@ asked-in-order a t = by-task t
 
 -- ---- the same in two memories
 
-module _ (u : UnitRecord) (image : ℕ) (h k : List ℕ) (long : length h ≡ length k) where
-  pub verdict-local : (t : Task) → ((i : ℕ) → InList (on u image t h) i → getD h i 0 ≡ getD k i 0) → verdict (on u image t h) ≡ verdict (on u image t k)
+module _ (c : Controller) (u : UnitRecord) (image : ℕ) (h k : List ℕ) (long : length h ≡ length k) where
+  pub verdict-local : (t : Task) → ((i : ℕ) → InList (on c u image t h) i → getD h i 0 ≡ getD k i 0) → verdict (on c u image t h) ≡ verdict (on c u image t k)
   unfolding verdict
   verdict-local Unknown alike = refl
   verdict-local (Moves m) alike =
-      let a = on u image (Moves m) h in
-      after-the-same (firstChecks a ++ beforeBuffer a m) (ofBuffer a (m .buffer) (bytesOf a m))
-      (ofBuffer (on u image (Moves m) k) (m .buffer) (bytesOf a m)) (planOf u (Moves m))
-      (λ passed. same-buffer u image h k long m alike passed (m .buffer) refl (bytesOf a m) (planOf u (Moves m)))
+      let a = on c u image (Moves m) h in
+      after-the-same (firstChecks a (Moves m) ++ beforeBuffer a m) (ofBuffer a (m .buffer) (bytesOf a m))
+      (ofBuffer (on c u image (Moves m) k) (m .buffer) (bytesOf a m)) (planOf u (Moves m))
+      (λ passed. same-buffer c u image h k long m alike passed (m .buffer) refl (bytesOf a m) (planOf u (Moves m)))
   verdict-local Handshake alike = refl
   verdict-local (Initialize s) alike = refl
   verdict-local Restore alike = refl
   verdict-local (Seek t) alike = refl
   verdict-local (Format x) alike =
-      let a = on u image (Format x) h in
-      after-the-same (firstChecks a ++ notInitialized a ∷ trackOutside a x ∷ imageShort a ∷ []) _ _ (planOf u (Format x))
-      (λ passed. same-range u image h k long (Format x) (x .buffer) (B (geometry u)) (planOf u (Format x)))
+      let a = on c u image (Format x) h in
+      after-the-same (firstChecks a (Format x) ++ notInitialized a ∷ trackOutside a x ∷ imageShort a ∷ []) _ _ (planOf u (Format x))
+      (λ passed. same-range c u image h k long (Format x) (x .buffer) (B (geometry u)) (planOf u (Format x)))
   verdict-local (Map x) alike = refl
 
 -- ---- what its plan is known to be
 
-module _ (u : UnitRecord) (image : ℕ) (host : List ℕ) where
-  pub accepted : (t : Task) → None (firstChecks (on u image t host)) → None (ownChecks (on u image t host) t) → Accepted (on u image t host) (planOf u t)
+module _ (c : Controller) (u : UnitRecord) (image : ℕ) (host : List ℕ) where
+  pub accepted : (t : Task) → None (firstChecks (on c u image t host) t) → None (ownChecks (on c u image t host) t) → Accepted (on c u image t host) (planOf u t)
   unfolding None
   accepted Unknown (listed, rest) none = absurd (listed tt)
   accepted (Moves m) first (initialized, (present, (some-sectors, (inside, (long, buffer))))) =
-      let a = on u image (Moves m) host in
+      let a = on c u image (Moves m) host in
       let begin = beginsAt u (m .target) in
       let some : 0 < m .count = omega arith in
       let span : SpanGood u (jobOf m (found begin) .span) =
       record {
         some = some;
-        inside = covered u image host (m .target .volume) begin (m .count) some (so (covers? u (m .target .volume) begin (m .count)) inside);
+        inside = covered c u image host (m .target .volume) begin (m .count) some (so (covers? u (m .target .volume) begin (m .count)) inside);
       } in
-      let good = good-buffer u image host a (m .buffer) (bytesOf a m) buffer in
+      let good = good-buffer c u image host a (m .buffer) (bytesOf a m) buffer in
       record {
         fits =
             record {
@@ -119,7 +177,7 @@ module _ (u : UnitRecord) (image : ℕ) (host : List ℕ) where
               buffer = is;
               passed =
                   before-list a m at n refl is
-                  (none-of-all (firstChecks a) (beforeBuffer a m) first
+                  (none-of-all (firstChecks a (Moves m)) (beforeBuffer a m) first
                   (initialized, (present, (some-sectors, (inside, (long, tt))))));
               some = l .some;
               most = l .most;
@@ -129,14 +187,14 @@ module _ (u : UnitRecord) (image : ℕ) (host : List ℕ) where
       }
   accepted Handshake first none = record { fits = record { moving = tt; report = tt; leaving = tt }; mover = tt; report = refl; quiet = tt; list = tt }
   accepted (Initialize Misplaced) first (placed, rest) = absurd (placed tt)
-  accepted (Initialize (Uib g)) first (placed, (within, rest)) = heads-only u image host _ (Leaving.Fresh g) (so (within? g) within)
+  accepted (Initialize (Uib g)) first (placed, (within, rest)) = heads-only c u image host _ (Leaving.Fresh g) (so (within? g) within)
   accepted Restore first (initialized, rest) =
       let counts = so (counts? u) initialized in
-      heads-only u image host _ (Leaving.HeadsAt 0) (counts, omega (arith, counts .within .sizes .cylinders))
+      heads-only c u image host _ (Leaving.HeadsAt 0) (counts, omega (arith, counts .within .sizes .cylinders))
   accepted (Seek t) first (initialized, (present, (inside, rest))) =
       let begin = beginsAt u t in
-      heads-only u image host _ (Leaving.HeadsAt (spotOf u (t .volume) (found begin) .cylinder))
-      (so (counts? u) initialized, seek-inside u image host (t .volume) begin (so (covers? u (t .volume) begin 1) inside))
+      heads-only c u image host _ (Leaving.HeadsAt (spotOf u (t .volume) (found begin) .cylinder))
+      (so (counts? u) initialized, seek-inside c u image host (t .volume) begin (so (covers? u (t .volume) begin 1) inside))
   accepted (Format k) first (initialized, (inside, (long, (held, rest)))) =
       let counts = so (counts? u) initialized in
       let on = so (onDrive? (geometry u) (address (k .cylinder) (k .head) 0)) inside in
@@ -166,11 +224,11 @@ module _ (u : UnitRecord) (image : ℕ) (host : List ℕ) where
   accepted (Map k) first (initialized, (inside, (taken, (full, rest)))) =
       let counts = so (counts? u) initialized in
       let on = so (hasTracks? u k) inside in
-      heads-only u image host _ (Leaving.Mapped (badNumber k) (spareNumber k)) (
+      heads-only c u image host _ (Leaving.Mapped (badNumber k) (spareNumber k)) (
         counts,
         record {
-          bad-on = has-number u image host counts (k .«bad_cylinder») (k .«bad_head») (on .0);
-          spare-on = has-number u image host counts (k .«spare_cylinder») (k .«spare_head») (on .1);
+          bad-on = has-number c u image host counts (k .«bad_cylinder») (k .«bad_head») (on .0);
+          spare-on = has-number c u image host counts (k .«spare_cylinder») (k .«spare_head») (on .1);
           free = so (free? (pairs u) (table u) (badNumber k) (spareNumber k)) taken;
           room = omega arith;
         },

@@ -12,13 +12,19 @@ use Rattle.answers.specs.declared.Refusal.{Refusal}
 use Rattle.answers.specs.Numbers.{refusalNumber}
 use Rattle.judge.specs.declared.Plan.{Plan}
 use Rattle.judge.specs.declared.Verdict.{Verdict}
-use Rattle.judge.specs.Asks.{checks}
+use Rattle.judge.specs.Asks.{checks, commandUnknown, driveHeld, ownChecks, unlisted}
 use Rattle.judge.specs.Checks.{Check, None, answersOf, first}
-use Rattle.judge.specs.Given.{Asked}
+use Rattle.judge.specs.Decided.{test?}
+use Rattle.judge.specs.Given.{Asked, on}
 use Rattle.judge.specs.Table.{BeforeTransfer, has, inOrder, keepsOrder, hasNumber, rows}
 use Rattle.judge.specs.Verdict.{verdict}
+use Rattle.request.specs.declared.Task.{Task}
+use Rattle.unit.specs.Holding.{heldByOther}
+use Rattle.unit.specs.Standing.{holder}
+use Rattle.judge.proofs.EachTask.{asked-of-holder, asksHolder, stopped-by-holder, unasked-is-handshake}
 use Rattle.judge.proofs.First.{done, skip, stop}
-use Rattle.judge.proofs.Table.{both, in-the-papers-order}
+use Rattle.judge.proofs.Table.{and, both, in-the-papers-order}
+use Rattle.judge.proofs.Tasks.{handshake}
 
 answer-of : (r s : Refusal) → Verdict.Refused r ≡ Verdict.Refused s → r ≡ s
 answer-of r s e = cc
@@ -58,11 +64,6 @@ of-order r (x ∷ xs) (y ∷ ys) keeps there =
 abbrev distinct : List Refusal → Bool
 distinct [] = true
 distinct (r ∷ rs) = not (has r rs) && distinct rs
-
-and : (a b : Bool) → T a → T b → T (a && b)
-and true true p q = tt
-and true false p q = q
-and false b p q = p
 
 same-there : (r s : Refusal) (ss : List Refusal) → refusalNumber r ≡ refusalNumber s → T (has r ss) → T (has s ss)
 same-there r s ss same there = subst (λ (n : ℕ). T (hasNumber n ss)) same there
@@ -148,6 +149,28 @@ unfolding verdict
 given-in-its-case a before k after is =
     let d = subst (λ (ks : List Check). T (distinct (answersOf ks))) is (distinct-answers a) in
     rw is (first-exactly before k after _ d)
+
+-- 24: "A chain's block for a drive held by the other controller", "not for 86" (02, K10), whatever else is wrong with it but its command.
+pub held-exactly :
+    (a : Asked) →
+    (verdict a ≡ Verdict.Refused Refusal.DriveHeld) ↔
+    (((T (unlisted (a .task)) → ⊥) × T (asksHolder (a .task))) × T (heldByOther (a .controller) (holder (a .unit))))
+unfolding None
+held-exactly a = (forth, λ so. stopped-by-holder a (so .0 .0) (so .0 .1) (so .1))
+  where
+    forth :
+        verdict a ≡ Verdict.Refused Refusal.DriveHeld →
+        ((T (unlisted (a .task)) → ⊥) × T (asksHolder (a .task))) × T (heldByOther (a .controller) (holder (a .unit)))
+    forth e =
+        by-cases (test? (asksHolder (a .task)))
+        (λ asks.
+        let so = given-in-its-case a (commandUnknown a ∷ []) (driveHeld a) (ownChecks a (a .task))
+        (ap (λ (ks : List Check). commandUnknown a ∷ ks ++ ownChecks a (a .task)) (asked-of-holder a (a .task) asks)) .0 e in
+        ((so .0 .0, asks), so .1))
+        (λ none.
+        let is = unasked-is-handshake (a .task) none in
+        let does = ap (λ (t : Task). verdict (on (a .controller) (a .unit) (a .image) t (a .host))) is ∙ handshake (a .controller) (a .unit) (a .image) (a .host) in
+        absurd (impossible (cc (does, e))))
 
 -- A refusal is one before transfer; so is the answer of every check.
 pub refused-before-transfer : (a : Asked) (r : Refusal) → verdict a ≡ Verdict.Refused r → BeforeTransfer r

@@ -56,6 +56,6 @@ pub never : ⊥ → ⊥
 never x = x
 
 -- A command that passes what all are asked first is judged by its own checks.
-pub on-its-own : (a : Asked) → None (firstChecks a) → verdict a ≡ byItsOwn a
+pub on-its-own : (a : Asked) → None (firstChecks a (a .task)) → verdict a ≡ byItsOwn a
 unfolding verdict byItsOwn
-on-its-own a none = pass (firstChecks a) _ _ none
+on-its-own a none = pass (firstChecks a (a .task)) _ _ none

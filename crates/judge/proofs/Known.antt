@@ -22,6 +22,7 @@ use Rattle.request.specs.declared.Task.the-variants.{Move as Moves, Handshake, 
 use Rattle.unit.specs.Landing.{spotOf}
 use Rattle.spares.specs.Tracks.{TrackOn, trackNumber}
 use Rattle.spares.proofs.Laws.{on-drive-by-parts}
+use Rattle.unit.specs.declared.Controller.{Controller}
 use Rattle.unit.specs.Standing.{CountsAsInitialized, UnitRecord, geometry}
 use Rattle.unit.proofs.Laws.{spot-inside}
 use Rattle.memory.proofs.Decided.{listGood?, ranges?}
@@ -90,9 +91,9 @@ pub record Accepted (a : Asked) (p : Plan) : Type 0 where
   pub quiet : Quiet (p .moving) (p .report)
   pub list : ListKnown a (p .moving)
 
-module _ (u : UnitRecord) (image : ℕ) (host : List ℕ) where
+module _ (c : Controller) (u : UnitRecord) (image : ℕ) (host : List ℕ) where
   abbrev asking : Task → Asked
-  asking t = on u image t host
+  asking t = on c u image t host
 
   pub good-buffer : (a : Asked) (b : Buffer) (bytes : ℕ) → None (ofBuffer a b bytes) → BufferGood (a .host) b bytes
   unfolding None

@@ -31,8 +31,8 @@ let-through : (a : Asked) (p : Plan) → verdict a ≡ Verdict.Do p → Accepted
 unfolding verdict
 let-through a p e =
     let passed = all-passed (checks a) (planOf (a .unit) (a .task)) p e in
-    let none = none-of-parts (firstChecks a) (ownChecks a (a .task)) (passed .0) in
-    subst (Accepted a) (passed .1) (accepted (a .unit) (a .image) (a .host) (a .task) (none .0) (none .1))
+    let none = none-of-parts (firstChecks a (a .task)) (ownChecks a (a .task)) (passed .0) in
+    subst (Accepted a) (passed .1) (accepted (a .controller) (a .unit) (a .image) (a .host) (a .task) (none .0) (none .1))
 
 -- It is its task's own.
 pub own-plan : (a : Asked) (p : Plan) → verdict a ≡ Verdict.Do p → p ≡ planOf (a .unit) (a .task)
@@ -65,8 +65,8 @@ report-let-through a p e = let-through a p e .report
 pub handshake-reports :
     (a : Asked) → a .task ≡ Handshake → verdict a ≡ Verdict.Do (plan Moving.Nothing Report.Identity Leaving.AsItWas)
 handshake-reports a is =
-    subst (λ (t : Task). verdict (on (a .unit) (a .image) t (a .host)) ≡ Verdict.Do (plan Moving.Nothing Report.Identity Leaving.AsItWas)) (sym is)
-    (handshake (a .unit) (a .image) (a .host))
+    subst (λ (t : Task). verdict (on (a .controller) (a .unit) (a .image) t (a .host)) ≡ Verdict.Do (plan Moving.Nothing Report.Identity Leaving.AsItWas)) (sym is)
+    (handshake (a .controller) (a .unit) (a .image) (a .host))
 
 pub format-reports :
     (a : Asked) (k : Track) (p : Plan) → a .task ≡ Format k → verdict a ≡ Verdict.Do p → p .report ≡ Formatted (S (geometry (a .unit)))

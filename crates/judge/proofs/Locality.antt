@@ -25,21 +25,22 @@ use Rattle.judge.specs.Given.{Asked, BadPlace, on}
 use Rattle.judge.specs.Reads.{InList, InUib}
 use Rattle.judge.specs.Verdict.{verdict}
 use Rattle.judge.proofs.First.{early, none-of-all, none-of-parts, none?}
+use Rattle.unit.specs.declared.Controller.{Controller}
 use Rattle.unit.specs.Standing.{UnitRecord}
 use Rattle.judge.proofs.EachTask.{verdict-local}
 
-module _ (u : UnitRecord) (image : ℕ) (h k : List ℕ) (long : length h ≡ length k) where
+module _ (c : Controller) (u : UnitRecord) (image : ℕ) (h k : List ℕ) (long : length h ≡ length k) where
   -- ---- the verdict on a block
 
   module _ (b : Block) where
     abbrev asked-in : List ℕ → Asked
-    asked-in host = on u image (taskOf host b) host
+    asked-in host = on c u image (taskOf host b) host
 
     module _
         (uib : (i : ℕ) → InUib (asked-in h) (b .address) 18 i → getD h i 0 ≡ getD k i 0)
         (list : (i : ℕ) → InList (asked-in h) i → getD h i 0 ≡ getD k i 0) where
       same-task : taskOf h b ≡ taskOf k b → verdict (asked-in h) ≡ verdict (asked-in k)
-      same-task same = verdict-local u image h k long (taskOf h b) list ∙ ap (λ (t : Task). verdict (on u image t k)) same
+      same-task same = verdict-local c u image h k long (taskOf h b) list ∙ ap (λ (t : Task). verdict (on c u image t k)) same
 
       -- An 87: where a check before its UIB refuses it the UIB is not looked at, and elsewhere it is where it can be.
       renewing : b .command ≡ 0x87 → verdict (asked-in h) ≡ verdict (asked-in k)
@@ -47,8 +48,8 @@ module _ (u : UnitRecord) (image : ℕ) (h k : List ℕ) (long : length h ≡ le
       renewing is =
           let in-h = asked-by-87 h b is in
           let in-k = asked-by-87 k b is in
-          let a = on u image (Initialize (shapeAt h (b .address))) h in
-          by-cases (none? (firstChecks a))
+          let a = on c u image (Initialize (shapeAt h (b .address))) h in
+          by-cases (none? (firstChecks a (a .task)))
           (λ none.
           same-task
           (in-h
@@ -60,15 +61,15 @@ module _ (u : UnitRecord) (image : ℕ) (h k : List ℕ) (long : length h ≡ le
             shape = shapeAt h (b .address);
             asks = in-h;
             passed =
-                subst (λ (t : Task). None (before Refusal.UibOutsideLimits (checks (on u image t h)))) (sym in-h)
-                (none-of-all (firstChecks a) (uibMisplaced a (shapeAt h (b .address)) ∷ []) none (λ bad. rw (shapeAt-inside h (b .address) place) at bad, tt));
+                subst (λ (t : Task). None (before Refusal.UibOutsideLimits (checks (on c u image t h)))) (sym in-h)
+                (none-of-all (firstChecks a (a .task)) (uibMisplaced a (shapeAt h (b .address)) ∷ []) none (λ bad. rw (shapeAt-inside h (b .address) place) at bad, tt));
             among = among;
           })))
           ∙ sym in-k))
           (λ some.
-          ap (λ (t : Task). verdict (on u image t h)) in-h
-          ∙ early (firstChecks a) _ _ _ _ some
-          ∙ sym (ap (λ (t : Task). verdict (on u image t k)) in-k))
+          ap (λ (t : Task). verdict (on c u image t h)) in-h
+          ∙ early (firstChecks a (a .task)) _ _ _ _ some
+          ∙ sym (ap (λ (t : Task). verdict (on c u image t k)) in-k))
 
       pub block-local : verdict (asked-in h) ≡ verdict (asked-in k)
       block-local =
@@ -78,7 +79,7 @@ module _ (u : UnitRecord) (image : ℕ) (h k : List ℕ) (long : length h ≡ le
 
 -- A UIB that lies in memory is read by an 87 that passes what all are asked first.
 pub placed-uib-read :
-    (a : Asked) (at bytes x : ℕ) (s : Shape) → a .task ≡ Initialize s → None (firstChecks a) → (BadPlace s → ⊥) → Among at bytes x →
+    (a : Asked) (at bytes x : ℕ) (s : Shape) → a .task ≡ Initialize s → None (firstChecks a (Initialize s)) → (BadPlace s → ⊥) → Among at bytes x →
     InUib a at bytes x
 unfolding None
 placed-uib-read a at bytes x s is first placed among =
@@ -86,8 +87,8 @@ placed-uib-read a at bytes x s is first placed among =
       shape = s;
       asks = is;
       passed =
-          subst (λ (t : Task). None (before Refusal.UibOutsideLimits (firstChecks a ++ ownChecks a t))) (sym is)
-          (none-of-all (firstChecks a) (uibMisplaced a s ∷ []) first (placed, tt));
+          subst (λ (t : Task). None (before Refusal.UibOutsideLimits (firstChecks a t ++ ownChecks a t))) (sym is)
+          (none-of-all (firstChecks a (Initialize s)) (uibMisplaced a s ∷ []) first (placed, tt));
       among = among;
     }
 
@@ -95,8 +96,8 @@ placed-uib-read a at bytes x s is first placed among =
 pub misplaced-uib-unread : (a : Asked) (at bytes x : ℕ) → a .task ≡ Initialize Shape.Misplaced → InUib a at bytes x → ⊥
 unfolding None
 misplaced-uib-unread a at bytes x is uib =
-    let passed = subst (λ (t : Task). None (before Refusal.UibOutsideLimits (firstChecks a ++ ownChecks a t))) is (uib .passed) in
-    none-of-parts (firstChecks a) (uibMisplaced a Shape.Misplaced ∷ []) passed .1 .0 tt
+    let passed = subst (λ (t : Task). None (before Refusal.UibOutsideLimits (firstChecks a t ++ ownChecks a t))) is (uib .passed) in
+    none-of-parts (firstChecks a (Initialize Shape.Misplaced)) (uibMisplaced a Shape.Misplaced ∷ []) passed .1 .0 tt
 
 -- A list of more than 64 elements is not read.
 pub long-list-unread : (a : Asked) (x : ℕ) → (l : InList a x) → 64 < l .elements → ⊥

@@ -1,8 +1,10 @@
 -- The verdict on each kind of task, case by case, from what is known of its checks.
 -- Those that are not given are passed over, and the first that is refuses the task.
 use Prim.Native.Nat.{ℕ, _+_, _*_, _<_, _≤_}
+use mathlib.Core.Bool.{Bool, true, false}
 use mathlib.Core.List.{List}
-use mathlib.Core.Path.{_≡_, _∙_}
+use mathlib.Core.Logic.{_⊎_, inl, inr}
+use mathlib.Core.Path.{_≡_, refl, sym, subst, _∙_}
 use native.Mathlib.Omega.{arith}
 use lib.Dec.{T}
 use Rattle.answers.specs.declared.Refusal.{Refusal}
@@ -18,8 +20,10 @@ use Rattle.request.specs.declared.Target.{Target}
 use Rattle.request.specs.declared.Task.{Task}
 use Rattle.request.specs.declared.Track.{Track}
 use Rattle.spares.specs.Table.{Free}
+use Rattle.unit.specs.declared.Controller.{Controller}
+use Rattle.unit.specs.Holding.{heldByOther}
 use Rattle.unit.specs.Landing.{spotOf}
-use Rattle.unit.specs.Standing.{CountsAsInitialized, UnitRecord, geometry, pairs, table}
+use Rattle.unit.specs.Standing.{CountsAsInitialized, UnitRecord, geometry, holder, pairs, table}
 use Rattle.memory.specs.Lists.{ListGood, Ranges}
 use Rattle.wire.specs.Memory.{InMemory}
 use Rattle.judge.specs.declared.Leaving.{Leaving}
@@ -30,46 +34,62 @@ use Rattle.judge.specs.Asks.{carrying, jobOf, ofUnit, only, plan, planOf
 use Rattle.judge.specs.Checks.{None}
 use Rattle.judge.specs.Given.{Asked, Covers, HasTrack, HasTracks, badNumber, beginsAt, on, spareNumber}
 use Rattle.judge.specs.Verdict.{byItsOwn, fromAddress, fromBuffer, fromData, fromImage, fromSectors, fromTable, verdict}
-use Rattle.judge.proofs.EachTask.{passes-first}
+use Rattle.judge.proofs.EachTask.{asksHolder, passes-first, stopped-by-holder}
 use Rattle.judge.proofs.First.{done, never, on-its-own, pass, skip, stop}
 
-module _ (u : UnitRecord) (image : ℕ) (host : List ℕ) where
+module _ (c : Controller) (u : UnitRecord) (image : ℕ) (host : List ℕ) where
   abbrev g : Geometry
   g = geometry u
 
-  pub own : (t : Task) → (T (unlisted t) → ⊥) → verdict (on u image t host) ≡ byItsOwn (on u image t host)
-  own t listed = on-its-own (on u image t host) (passes-first (on u image t host) listed)
+  pub own : (t : Task) → (T (unlisted t) → ⊥) → heldByOther c (holder u) ≡ false → verdict (on c u image t host) ≡ byItsOwn (on c u image t host)
+  own t listed free = on-its-own (on c u image t host) (passes-first (on c u image t host) listed (λ held. subst T free held))
 
-  pub unknown : verdict (on u image Task.Unknown host) ≡ Verdict.Refused Refusal.CommandUnknown
+  -- Where it is, every task is refused but one that is not listed and a handshake.
+  pub held-24 : (t : Task) → (T (unlisted t) → ⊥) → T (asksHolder t) → heldByOther c (holder u) ≡ true → verdict (on c u image t host) ≡ Verdict.Refused Refusal.DriveHeld
+  held-24 t listed asks held = stopped-by-holder (on c u image t host) listed asks (subst T (sym held) tt)
+
+  -- So a task that asks it is refused by 24, or judged by its own checks.
+  pub own-unless-held :
+      (t : Task) → (T (unlisted t) → ⊥) → T (asksHolder t) →
+      (verdict (on c u image t host) ≡ Verdict.Refused Refusal.DriveHeld) ⊎ (verdict (on c u image t host) ≡ byItsOwn (on c u image t host))
+  own-unless-held t listed asks = by-holder (heldByOther c (holder u)) refl
+    where
+      by-holder :
+          (held : Bool) → heldByOther c (holder u) ≡ held →
+          (verdict (on c u image t host) ≡ Verdict.Refused Refusal.DriveHeld) ⊎ (verdict (on c u image t host) ≡ byItsOwn (on c u image t host))
+      by-holder true held = inl (held-24 t listed asks held)
+      by-holder false free = inr (own t listed free)
+
+  pub unknown : verdict (on c u image Task.Unknown host) ≡ Verdict.Refused Refusal.CommandUnknown
   unfolding verdict
   unknown = stop _ _ _ tt
 
-  pub handshake : verdict (on u image Task.Handshake host) ≡ Verdict.Do (plan Moving.Nothing Report.Identity Leaving.AsItWas)
-  unfolding byItsOwn
-  handshake = own Task.Handshake never ∙ done _
+  pub handshake : verdict (on c u image Task.Handshake host) ≡ Verdict.Do (plan Moving.Nothing Report.Identity Leaving.AsItWas)
+  unfolding verdict
+  handshake = skip _ _ _ never ∙ done _
 
   -- ---- 87
 
-  pub shape-misplaced : byItsOwn (on u image (Task.Initialize Shape.Misplaced) host) ≡ Verdict.Refused Refusal.UibMisplaced
+  pub shape-misplaced : byItsOwn (on c u image (Task.Initialize Shape.Misplaced) host) ≡ Verdict.Refused Refusal.UibMisplaced
   unfolding byItsOwn
   shape-misplaced = stop _ _ _ tt
 
   module _ (x : Geometry) where
-    pub shape-outside : (Within x → ⊥) → byItsOwn (on u image (Task.Initialize (Shape.Given x)) host) ≡ Verdict.Refused Refusal.UibOutsideLimits
+    pub shape-outside : (Within x → ⊥) → byItsOwn (on c u image (Task.Initialize (Shape.Given x)) host) ≡ Verdict.Refused Refusal.UibOutsideLimits
     unfolding byItsOwn
     shape-outside out = skip _ _ _ never ∙ stop _ _ _ out
 
-    pub shape-given : Within x → byItsOwn (on u image (Task.Initialize (Shape.Given x)) host) ≡ Verdict.Do (only (Leaving.Fresh x))
+    pub shape-given : Within x → byItsOwn (on c u image (Task.Initialize (Shape.Given x)) host) ≡ Verdict.Do (only (Leaving.Fresh x))
     unfolding byItsOwn
     shape-given within = skip _ _ _ never ∙ skip _ _ _ (λ n. n within) ∙ done _
 
   -- ---- 89
 
-  pub restore-refused : (CountsAsInitialized u → ⊥) → byItsOwn (on u image Task.Restore host) ≡ Verdict.Refused Refusal.NotInitialized
+  pub restore-refused : (CountsAsInitialized u → ⊥) → byItsOwn (on c u image Task.Restore host) ≡ Verdict.Refused Refusal.NotInitialized
   unfolding byItsOwn
   restore-refused not-it = stop _ _ _ not-it
 
-  pub restore-done : CountsAsInitialized u → byItsOwn (on u image Task.Restore host) ≡ Verdict.Do (only (Leaving.HeadsAt 0))
+  pub restore-done : CountsAsInitialized u → byItsOwn (on c u image Task.Restore host) ≡ Verdict.Do (only (Leaving.HeadsAt 0))
   unfolding byItsOwn
   restore-done counts = skip _ _ _ (λ n. n counts) ∙ done _
 
@@ -77,7 +97,7 @@ module _ (u : UnitRecord) (image : ℕ) (host : List ℕ) where
 
   module _ (t : Target) where
     abbrev seek : Asked
-    seek = on u image (Task.Seek t) host
+    seek = on c u image (Task.Seek t) host
 
     abbrev at : Number
     at = beginsAt u t
@@ -116,7 +136,7 @@ module _ (u : UnitRecord) (image : ℕ) (host : List ℕ) where
 
   module _ (k : Track) where
     abbrev format : Asked
-    format = on u image (Task.Format k) host
+    format = on c u image (Task.Format k) host
 
     pub format-11 : (CountsAsInitialized u → ⊥) → byItsOwn format ≡ Verdict.Refused Refusal.NotInitialized
     unfolding byItsOwn
@@ -148,7 +168,7 @@ module _ (u : UnitRecord) (image : ℕ) (host : List ℕ) where
 
   module _ (k : Pair) where
     abbrev maps : Asked
-    maps = on u image (Task.Map k) host
+    maps = on c u image (Task.Map k) host
 
     pub map-11 : (CountsAsInitialized u → ⊥) → byItsOwn maps ≡ Verdict.Refused Refusal.NotInitialized
     unfolding byItsOwn
@@ -183,7 +203,7 @@ module _ (u : UnitRecord) (image : ℕ) (host : List ℕ) where
 
   module _ (m : Move) where
     abbrev moves : Asked
-    moves = on u image (Task.Move m) host
+    moves = on c u image (Task.Move m) host
 
     abbrev bytes : ℕ
     bytes = m .count * B g

@@ -1,4 +1,4 @@
--- What each command is asked, in the order of the answers (01, Answer numbers; 02, K5), and what it does where no check refuses it. Whatever
+-- What each command is asked, in the order of the answers (01, Answer numbers; 02, K5 and K10), and what it does where no check refuses it. Whatever
 -- goes by command stands here; Table compares it with the paper's rows.
 use Prim.Native.Nat.{ℕ, _*_, _≤_, _<_}
 use mathlib.Core.Bool.{Bool, true, false}
@@ -7,7 +7,7 @@ use mathlib.Core.Logic.{Dec·not}
 use mathlib.Core.Path.{_≡_}
 use native.Mathlib.Decide.{decLe, decLt, ℕ-discrete}
 use lib.Dec.{T}
-use Rattle.answers.specs.declared.Refusal.the-variants.{CommandUnknown, NotInitialized, UibMisplaced, UibOutsideLimits, VolumeAbsent, CountZero, SectorOutside, ImageShort, ListBad, DataMisplaced, TracksTaken, TableFull}
+use Rattle.answers.specs.declared.Refusal.the-variants.{CommandUnknown, NotInitialized, UibMisplaced, UibOutsideLimits, VolumeAbsent, CountZero, SectorOutside, ImageShort, ListBad, DataMisplaced, TracksTaken, TableFull, DriveHeld}
 use Rattle.geometry.specs.declared.Number.{Number}
 use Rattle.geometry.specs.declared.Number.the-variants.{Is, Outside}
 use Rattle.geometry.specs.declared.VolumeNumber.{VolumeNumber}
@@ -29,8 +29,9 @@ use Rattle.request.specs.declared.Task.the-variants.{Unknown, Move as Moves, Ha
 use Rattle.request.specs.declared.Track.{Track}
 use Rattle.spares.specs.Table.{Free}
 use Rattle.spares.proofs.Decided.{free?}
+use Rattle.unit.specs.Holding.{heldByOther}
 use Rattle.unit.specs.Landing.{spotOf, trackOf}
-use Rattle.unit.specs.Standing.{CountsAsInitialized, UnitRecord, geometry, pairs, table}
+use Rattle.unit.specs.Standing.{CountsAsInitialized, UnitRecord, geometry, holder, pairs, table}
 use Rattle.unit.proofs.Decided.{counts?}
 use Rattle.wire.specs.Memory.{InMemory, inMemory?}
 use Rattle.judge.specs.declared.Job.{Job}
@@ -61,6 +62,12 @@ module _ (a : Asked) where
 
   abbrev pub commandUnknown : Check
   commandUnknown = check CommandUnknown (T (unlisted (a .task))) (test? (unlisted (a .task)))
+
+  -- "A chain's block for a drive held by the other controller is refused at once" (02, K10)
+  abbrev pub driveHeld : Check
+  driveHeld =
+      let held = heldByOther (a .controller) (holder (a .unit)) in
+      check DriveHeld (T held) (test? held)
 
   -- "unit not initialized"
   abbrev pub notInitialized : Check
@@ -127,9 +134,21 @@ module _ (a : Asked) where
 
   -- ---- what is asked, in order
 
-  -- What every command is asked first: a later answer that is for nearly all of them comes in here.
-  abbrev pub firstChecks : List Check
-  firstChecks = commandUnknown ∷ []
+  -- "24 drive held, directly after 10 .., not for 86" (02, K10)
+  abbrev pub ofHolder : Task → List Check
+  -- never reached: 10 refuses it before
+  ofHolder Unknown = driveHeld ∷ []
+  ofHolder (Moves m) = driveHeld ∷ []
+  ofHolder Handshake = []
+  ofHolder (Initialize s) = driveHeld ∷ []
+  ofHolder Restore = driveHeld ∷ []
+  ofHolder (Seek t) = driveHeld ∷ []
+  ofHolder (Format k) = driveHeld ∷ []
+  ofHolder (Map k) = driveHeld ∷ []
+
+  -- What is asked first: whether the command is listed, and, but for 86, who holds the drive.
+  abbrev pub firstChecks : Task → List Check
+  firstChecks t = commandUnknown ∷ ofHolder t
 
   -- What 81, 82, A1 and A2 are asked of the unit, of their sectors, and of the buffer, which may be a list.
   abbrev pub ofUnit : Move → List Check
@@ -160,7 +179,7 @@ module _ (a : Asked) where
   ownChecks (Map k) = notInitialized ∷ tracksOutside k ∷ tracksTaken k ∷ tableFull ∷ []
 
   abbrev pub checks : List Check
-  checks = firstChecks ++ ownChecks (a .task)
+  checks = firstChecks (a .task) ++ ownChecks (a .task)
 
 -- ---- what is done
 

@@ -16,23 +16,25 @@ use Rattle.request.specs.declared.Start.the-variants.{Logical, Physical}
 use Rattle.request.specs.declared.Target.{Target}
 use Rattle.request.specs.declared.Task.{Task}
 use Rattle.spares.specs.Tracks.{trackNumber}
+use Rattle.unit.specs.declared.Controller.{Controller}
 use Rattle.unit.specs.Landing.{numberOn}
 use Rattle.unit.specs.Standing.{UnitRecord, geometry, unitOf}
 use Rattle.judge.specs.declared.Standing.{Standing}
 
--- What is judged: a task, its unit's record, table and all, the length of its image, and the host memory.
+-- What is judged: a task, the controller that asks (02, K10), its unit's record, table and all, the length of its image, and the host memory.
 pub record Asked : Type 0 where
   pub task : Task
+  pub controller : Controller
   pub unit : UnitRecord
   pub image : ℕ
   pub host : List ℕ
 
-abbrev pub on : UnitRecord → (image : ℕ) → Task → (host : List ℕ) → Asked
-on u image t host = record { task = t; unit = u; image = image; host = host }
+abbrev pub on : Controller → UnitRecord → (image : ℕ) → Task → (host : List ℕ) → Asked
+on c u image t host = record { task = t; controller = c; unit = u; image = image; host = host }
 
 -- The same as the judge is handed it. Whether the record counts as initialized, which it is told besides, is no part of what is asked: the record says it.
 abbrev pub asked : Task → Standing → (tracks host : List ℕ) → Asked
-asked t s tracks host = on (unitOf (s .record) tracks) (s .image) t host
+asked t s tracks host = on (s .controller) (unitOf (s .record) tracks) (s .image) t host
 
 -- The number at which a request begins: a logical number as it came, and a physical address's where the volume has it.
 abbrev pub numberOf : Geometry → VolumeNumber → Start → Number

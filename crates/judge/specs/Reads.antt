@@ -11,7 +11,7 @@ use Rattle.judge.specs.Asks.{checks}
 use Rattle.judge.specs.Checks.{None, before}
 use Rattle.judge.specs.Given.{Asked}
 
--- "a UIB that passed check 12": of an 87 that no check before 13 refuses, so many bytes at the UIB's address. Both numbers are those of the
+-- "a UIB that passed check 12": of an 87 that no check before 13 refuses, 24 among them (02, K10), so many bytes at the UIB's address. Both numbers are those of the
 -- block that asks.
 pub record InUib (a : Asked) (at bytes x : ℕ) : Type 0 where
   pub shape : Shape
@@ -20,7 +20,7 @@ pub record InUib (a : Asked) (at bytes x : ℕ) : Type 0 where
   pub among : Among at bytes x
 
 -- "a list of 1 to 64 elements that lies at an even address and in memory, once checks 10 to 17 are passed": of an A1 or A2 that no check
--- before 18 refuses. A list of 65, or one of a block that an earlier check refuses, is not read; one refused for its sum is.
+-- before 18 refuses, 24 among them. A list of 65, or one of a block that an earlier check refuses, is not read; one refused for its sum is.
 pub record InList (a : Asked) (x : ℕ) : Type 0 where
   pub move : Move
   pub asks : a .task ≡ Moves move

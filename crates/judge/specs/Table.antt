@@ -1,4 +1,4 @@
--- The table of the answers before transfer as the papers have it, by rows (01, Answer numbers; 02, K5). The checks are listed by command
+-- The table of the answers before transfer as the papers have it, by rows (01, Answer numbers; 02, K5 and K10). The checks are listed by command
 -- (Asks); proofs/Table computes the rows from those lists, and that each list keeps the rows' order. The case of each answer stands with its
 -- check.
 use Prim.Native.Nat.{ℕ}
@@ -6,7 +6,7 @@ use mathlib.Core.Bool.{Bool, true, false, cond, _||_}
 use mathlib.Core.List.{List, [], _∷_}
 use lib.Dec.{T, eqb}
 use Rattle.answers.specs.declared.Refusal.{Refusal}
-use Rattle.answers.specs.declared.Refusal.the-variants.{CommandUnknown, NotInitialized, UibMisplaced, UibOutsideLimits, VolumeAbsent, CountZero, SectorOutside, ImageShort, ListBad, DataMisplaced, TracksTaken, TableFull}
+use Rattle.answers.specs.declared.Refusal.the-variants.{CommandUnknown, NotInitialized, UibMisplaced, UibOutsideLimits, VolumeAbsent, CountZero, SectorOutside, ImageShort, ListBad, DataMisplaced, TracksTaken, TableFull, DriveHeld}
 use Rattle.answers.specs.Numbers.{refusalNumber}
 use Rattle.iopb.specs.declared.Block.{Block}
 use Rattle.iopb.specs.Ask.{taskOf}
@@ -31,6 +31,8 @@ abbrev pub rows : List Row
 rows =
     -- "any": of the commands that there are none is refused so, and every other is (proofs/Table)
     row CommandUnknown listed ∷
+    -- "directly after 10 and 31, not for 86" (02, K10)
+    row DriveHeld (0x81 ∷ 0x82 ∷ 0x87 ∷ 0x89 ∷ 0x8a ∷ 0x8c ∷ 0xa1 ∷ 0xa2 ∷ 0x85 ∷ []) ∷
     row NotInitialized (0x81 ∷ 0x82 ∷ 0x89 ∷ 0x8a ∷ 0x8c ∷ 0xa1 ∷ 0xa2 ∷ 0x85 ∷ []) ∷
     row UibMisplaced (0x87 ∷ []) ∷
     row UibOutsideLimits (0x87 ∷ []) ∷
@@ -43,6 +45,14 @@ rows =
     row TracksTaken (0x85 ∷ []) ∷
     row TableFull (0x85 ∷ []) ∷
     []
+
+-- The commands of an answer's row, or none where no row has it.
+abbrev pub commandsIn : Refusal → List Row → List ℕ
+commandsIn r [] = []
+commandsIn r (x ∷ xs) = cond (eqb (refusalNumber (x .answer)) (refusalNumber r)) (x .commands) (commandsIn r xs)
+
+abbrev pub commandsOf : Refusal → List ℕ
+commandsOf r = commandsIn r rows
 
 -- "Block answers, in order"
 abbrev pub inOrder : List Row → List Refusal
@@ -57,7 +67,7 @@ hasNumber n (s ∷ ss) = eqb (refusalNumber s) n || hasNumber n ss
 abbrev pub has : Refusal → List Refusal → Bool
 has r ss = hasNumber (refusalNumber r) ss
 
--- An answer that refuses a block before its transfer: one of these rows has it. "For 10 to 19", and for 22 and 23, "only the block's word 1 and
+-- An answer that refuses a block before its transfer: one of these rows has it. "For 10 to 19", and for 22 to 24, "only the block's word 1 and
 -- its event entry change".
 abbrev pub BeforeTransfer : Refusal → Type 0
 BeforeTransfer r = T (has r (inOrder rows))

@@ -18,17 +18,19 @@ use request::Start;
 use request::Target;
 use request::Task;
 use request::Track;
+use unit::Controller;
 use unit::Landing;
 use unit::Record;
 use unit::Span;
 use unit::Spot;
 use wire::holds;
+ghost use mathlib.Core.Bool.{true, false};
 ghost use mathlib.Core.List.{List};
 ghost use mathlib.Core.Path.{_≡_};
 ghost use Prim.Native.Nat.{ℕ, _<_};
 ghost use Rattle.geometry.specs.Drive.{B, S, need, volume, volumeSectors};
 ghost use Rattle.geometry.specs.Limits.{Present};
-ghost use Rattle.judge.specs.Given.{HasTrack, HasTracks, asked, numberOf, on};
+ghost use Rattle.judge.specs.Given.{Asked, HasTrack, HasTracks, asked, numberOf, on};
 ghost use Rattle.judge.specs.Asks.{carrying, jobOf, only, plan};
 ghost use Rattle.judge.specs.Verdict.{Begins, byItsOwn, fromAddress, fromBuffer, fromData, fromImage, fromSectors, fromTable, verdict};
 ghost use Rattle.judge.specs.declared.Leaving.{Leaving};
@@ -37,15 +39,18 @@ ghost use Rattle.judge.specs.declared.Report.{Report};
 ghost use Rattle.judge.specs.declared.Verdict.{Verdict};
 ghost use Rattle.request.specs.declared.Task.{Task};
 ghost use Rattle.wire.specs.Promise.{Says};
+ghost use Rattle.unit.specs.declared.Controller.{Controller};
+ghost use Rattle.unit.specs.Holding.{heldByOther};
 ghost use Rattle.unit.specs.Landing.{trackOf};
-ghost use Rattle.unit.specs.Standing.{CountsAsInitialized, UnitRecord, bare, geometry, unitOf};
+ghost use Rattle.unit.specs.Standing.{CountsAsInitialized, UnitRecord, bare, geometry, holder, unitOf};
 
-// What is judged of a unit beside the request: its record, whether that counts as initialized, and how long its image is. Whoever runs several
-// blocks has asked the second once: a table of many pairs is long to look through.
+// What is judged of a unit beside the request: its record, whether that counts as initialized, how long its image is, and which controller asks.
+// Whoever runs several blocks has asked the second once: a table of many pairs is long to look through.
 pub struct Standing {
     pub record: Record,
     pub counts: bool,
     pub image: usize,
+    pub controller: Controller,
 }
 
 // Sectors to move: which, which way, and where the data lies.
@@ -98,14 +103,57 @@ pub fn judge(r: Request, standing: Standing, table: &[u32; 64], host: &[u8]) -> 
     ensures { λ v. ⌜ v ≡ verdict (asked (r .task) standing (now (table .entry)) (now (host .entry))) ⌝ }
 {
     let task = r.task;
+    if is_held(standing) {
+        return judge_held(task);
+    }
+    judge_free(task, standing, table, host)
+}
+
+// Whether the other controller holds the drive.
+fn is_held(s: Standing) -> bool
+    ensures { λ r. ⌜ r ≡ heldByOther (s .controller) (holder (bare (s .record))) ⌝ }
+{
+    let u = s.record;
+    let c = s.controller;
+    u.holder().is_other_than(c)
+}
+
+// A request for a drive that the other controller holds: a handshake alone is let through, and what is not listed has its own answer.
+fn judge_held(task: Task) -> Verdict
+    ensures { λ v. ⌜ ((a : Asked) → a .task ≡ task → heldByOther (a .controller) (holder (a .unit)) ≡ true → v ≡ verdict a) ⌝ }
+{
+    match task {
+        Task::Unknown => Verdict::Refused(Refusal::CommandUnknown), // asked before the holder
+        Task::Move(_) => Verdict::Refused(Refusal::DriveHeld),
+        Task::Handshake => identified(),
+        Task::Initialize(_) => Verdict::Refused(Refusal::DriveHeld),
+        Task::Restore => Verdict::Refused(Refusal::DriveHeld),
+        Task::Seek(_) => Verdict::Refused(Refusal::DriveHeld),
+        Task::Format(_) => Verdict::Refused(Refusal::DriveHeld),
+        Task::Map(_) => Verdict::Refused(Refusal::DriveHeld),
+    }
+}
+
+// The plan of 86: it moves nothing, and leaves the record as it was.
+fn identified() -> Verdict
+    ensures { λ v. ⌜ v ≡ Verdict.Do (plan Moving.Nothing Report.Identity Leaving.AsItWas) ⌝ }
+{
+    Verdict::Do(Plan {
+        moving: Moving::Nothing,
+        report: Report::Identity,
+        leaving: Leaving::AsItWas,
+    })
+}
+
+// A request for a drive that nobody holds, or the controller that asks.
+fn judge_free(task: Task, standing: Standing, table: &[u32; 64], host: &[u8]) -> Verdict
+    requires { ⌜ Says (standing .counts) (CountsAsInitialized (unitOf (standing .record) (now table))) × (heldByOther (standing .controller) (holder (bare (standing .record))) ≡ false) ⌝ }
+    ensures { λ v. ⌜ v ≡ verdict (asked task standing (now (table .entry)) (now (host .entry))) ⌝ }
+{
     match task {
         Task::Unknown => Verdict::Refused(Refusal::CommandUnknown),
         Task::Move(m) => judge_move(m, standing, table, host),
-        Task::Handshake => Verdict::Do(Plan {
-            moving: Moving::Nothing,
-            report: Report::Identity,
-            leaving: Leaving::AsItWas,
-        }),
+        Task::Handshake => identified(),
         Task::Initialize(s) => judge_shape(s),
         Task::Restore => judge_restore(standing),
         Task::Seek(t) => judge_seek(t, standing, table),
@@ -126,7 +174,7 @@ fn only(leaving: Leaving) -> Verdict
 }
 
 fn judge_shape(s: Shape) -> Verdict
-    ensures { λ v. ⌜ ((u : UnitRecord) (image : ℕ) (host : List ℕ) → v ≡ byItsOwn (on u image (Task.Initialize s) host)) ⌝ }
+    ensures { λ v. ⌜ ((c : Controller) (u : UnitRecord) (image : ℕ) (host : List ℕ) → v ≡ byItsOwn (on c u image (Task.Initialize s) host)) ⌝ }
 {
     match s {
         Shape::Misplaced => Verdict::Refused(Refusal::UibMisplaced),

@@ -73,7 +73,9 @@ pub enum Task {
     Map(Pair),
 }
 
+// `reserve`: on success the controller that asks takes or keeps the drive, and without it gives the drive up.
 pub struct Request {
     pub unit: UnitNumber,
     pub task: Task,
+    pub reserve: bool,
 }

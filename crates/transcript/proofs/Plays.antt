@@ -14,6 +14,7 @@ use Rattle.board.specs.declared.chain.Outcome.{Outcome}
 use Rattle.board.specs.Chain.{Ending, ends, ran}
 use Rattle.board.specs.Steps.{CameTo}
 use Rattle.block.specs.Steps.{written}
+use Rattle.unit.specs.declared.Controller.the-variants.{First}
 use Rattle.block.specs.World.{World}
 use Rattle.board.specs.Lent.{worldOf}
 use Rattle.demands.proofs.RunAnswers.{blocks-within-the-allowance}
@@ -109,7 +110,7 @@ run-heard h tag bytes not-1 not-2 not-3 =
 
 -- What a run meets: what is held, and an event buffer of its own.
 abbrev pub met : Held → World
-met h = record { host = h .host; drive0 = h .drive0; drive1 = h .drive1; events = replicate 512 0 }
+met h = record { controller = First; host = h .host; drive0 = h .drive0; drive1 = h .drive1; events = replicate 512 0 }
 
 -- Its address and its allowance are read where they stand in the field.
 module _ (field : List ℕ) (five : longOf field ≡ 5) where
@@ -150,7 +151,7 @@ came-back used buffer part fits kept =
 pub run-went :
     (s : State) (l : Lent) (at : ℕ) → Room s l →
     {e : Ending} (host image0 image1 events tracks0 tracks1 : List ℕ) (r : Outcome) →
-    CameTo e (worldOf host image0 image1 events tracks0 tracks1 (r .units)) r →
+    CameTo e (worldOf First host image0 image1 events tracks0 tracks1 (r .units)) r →
     length host ≡ length (take (s .host) (l .host)) →
     length image0 ≡ length (take (s .image0) (l .image0)) →
     length image1 ≡ length (take (s .image1) (l .image1)) →

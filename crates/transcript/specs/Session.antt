@@ -6,6 +6,7 @@ use mathlib.Core.Path.{_≡_}
 use native.Mathlib.Decide.{decLe, map-dec, ℕ-discrete}
 use lib.ListN.{drop, getD, length, replicate, take}
 use Rattle.wire.specs.Words.{be16, be32}
+use Rattle.unit.specs.declared.Controller.the-variants.{First}
 use Rattle.unit.specs.Standing.{blank}
 use Rattle.answers.specs.Numbers.{runNumber}
 use Rattle.board.specs.Chain.{Ending, ran}
@@ -75,10 +76,11 @@ pub record Heard : Type 0 where
 abbrev pub heardOf : List ℕ → Held → Heard
 heardOf text held = record { text = text; held = held }
 
--- "04 a run (address 4 bytes, allowance 1)". Its event buffer of 512 bytes is new and zero; only the entries of blocks run are printed.
+-- "04 a run (address 4 bytes, allowance 1)". Its event buffer of 512 bytes is new and zero; only the entries of blocks run are printed. A session
+-- is the first controller's (02, K10).
 abbrev pub endingOf : Held → List ℕ → Ending
 endingOf h bytes =
-    ran (be32 bytes 0) (getD bytes 4 0) (record { host = h .host; drive0 = h .drive0; drive1 = h .drive1; events = replicate 512 0 })
+    ran (be32 bytes 0) (getD bytes 4 0) (record { controller = First; host = h .host; drive0 = h .drive0; drive1 = h .drive1; events = replicate 512 0 })
 
 abbrev pub runHeard : Ending → Heard
 runHeard e =

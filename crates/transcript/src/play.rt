@@ -3,6 +3,7 @@ use crate::Next;
 use crate::Said;
 use crate::State;
 use crate::lines;
+use unit::Controller;
 ghost use mathlib.Core.Path.{_≡_};
 ghost use Prim.Native.Nat.{_+_, _≤_};
 ghost use lib.ListN.{length};
@@ -56,6 +57,7 @@ fn run(
         map0,
         map1,
         s.units,
+        Controller::First,
         first,
         allowance,
     );

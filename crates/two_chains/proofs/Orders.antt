@@ -13,53 +13,80 @@ use Rattle.two_chains.specs.declared.Came.{Came}
 use Rattle.two_chains.specs.declared.Order.{Order}
 use Rattle.two_chains.specs.declared.Order.the-variants.{FirstThenSecond, SecondThenFirst}
 use Rattle.two_chains.specs.declared.Twice.{Twice}
-use Rattle.independence.specs.Chains.{Both, Chain, First, Second, Which, leaving, runOf, worldFor}
+use Rattle.unit.specs.declared.Controller.{Controller}
+use Rattle.unit.specs.declared.Controller.the-variants.{First as FirstController, Second as SecondController}
+use Rattle.independence.specs.Chains.{Both, Chain, First, Second, Told, Which, leaving, runOf, told}
 use Rattle.independence.specs.Demand3.{EitherWay, Independent}
-use Rattle.two_chains.specs.Orders.{bothOf, cameOf, ranBoth, ranBothOf, toldBy}
+use Rattle.two_chains.specs.Orders.{IsRunOf, RanBoth, RanOne, cameOf, lentTo, ranBoth, ranBothOf, ranOne, ranOneOf, toldBy}
 use Rattle.independence.proofs.Demand3.{either-way}
 
-module _ (t : Which) (c : Chain) (s : Both) {r : Outcome} {w : World} (came : CameTo (ran (c .first) (c .allowance) (worldFor t s)) w r) where
-  left-by-call : leaving t s w ≡ runOf t c .left s
-  left-by-call = ap (leaving t s) (came .world)
+-- A call is the run of its chain: the memory of its controller is the one that was lent to it, and the other stays.
+-- The cases say no more than which fields these are.
+module _ (first allowance : ℕ) (r : Outcome) (host1 host2 image0 image1 events tracks0 tracks1 : List ℕ) (units : Units) (h a b e t u : List ℕ) where
+  abbrev before : Which → List ℕ → Both
+  before = lentTo host1 host2 image0 image1 events tracks0 tracks1 units
 
-  told-by-call : toldBy (cameOf r) ≡ runOf t c .out s
-  told-by-call = ap (λ (o : Outcome). toldBy (cameOf o)) (came .result)
+  abbrev by : Controller → Chain
+  by c = record { controller = c; first = first; allowance = allowance }
 
-module _ (c d : Chain) (host image0 image1 events1 events2 tracks0 tracks1 : List ℕ) (units : Units) where
-  abbrev s : Both
-  s = bothOf host image0 image1 events1 events2 tracks0 tracks1 units
+  abbrev Ran : Controller → (mine : List ℕ) → Type 0
+  Ran c mine =
+      CameTo (ran first allowance (worldOf c mine image0 image1 events tracks0 tracks1 units)) (worldOf c h a b e t u (r .units)) r
 
-  pub first-then-second :
-      {r q : Outcome} {x y : Came} {h a b e t u h′ a′ b′ e′ t′ u′ : List ℕ} →
-      CameTo (ran (c .first) (c .allowance) (worldOf host image0 image1 events1 tracks0 tracks1 units)) (worldOf h a b e t u (r .units)) r →
-      CameTo (ran (d .first) (d .allowance) (worldOf h a b events2 t u (r .units))) (worldOf h′ a′ b′ e′ t′ u′ (q .units)) q →
-      x ≡ cameOf r → y ≡ cameOf q →
-      ranBothOf (record { first = x; second = y; units = q .units }) (bothOf h′ a′ b′ e e′ t′ u′ (q .units)) ≡
-      ranBoth FirstThenSecond c d s
-  first-then-second {r} {q} {x} {y} {h} {a} {b} {e} {t} {u} one two is-x is-y =
-      let between = bothOf h a b e events2 t u (r .units) in
-      let step = left-by-call First c s one in
-      λ i.
-      record {
-        first = (ap toldBy is-x ∙ told-by-call First c s one) i;
-        second = (ap toldBy is-y ∙ told-by-call Second d between two ∙ ap (runOf Second d .out) step) i;
-        left = (left-by-call Second d between two ∙ ap (runOf Second d .left) step) i;
-      }
+  told-so : (c : Controller) (mine : List ℕ) → Ran c mine →
+      toldBy (cameOf r) ≡ told (ran first allowance (worldOf c mine image0 image1 events tracks0 tracks1 units))
+  told-so c mine came = ap (λ (o : Outcome). toldBy (cameOf o)) (came .result)
+
+  pub by-the-first : Ran FirstController host1 → IsRunOf (by FirstController) before (lentTo h host2 a b e t u (r .units)) r
+  by-the-first came First other =
+      λ i. record { came = told-so FirstController host1 came i; left = leaving First FirstController (before First other) (came .world i) }
+  by-the-first came Second other =
+      λ i. record { came = told-so FirstController host1 came i; left = leaving Second FirstController (before Second other) (came .world i) }
+
+  pub by-the-second : Ran SecondController host2 → IsRunOf (by SecondController) before (lentTo host1 h a b e t u (r .units)) r
+  by-the-second came First other =
+      λ i. record { came = told-so SecondController host2 came i; left = leaving First SecondController (before First other) (came .world i) }
+  by-the-second came Second other =
+      λ i. record { came = told-so SecondController host2 came i; left = leaving Second SecondController (before Second other) (came .world i) }
+
+-- Two of them in a row are the first order.
+pub first-then-second :
+    (one two : Chain) (s between after : Both) (r q : Outcome) {x y : Came} →
+    ranOneOf r between ≡ ranOne First one s → ranOneOf q after ≡ ranOne Second two between → x ≡ cameOf r → y ≡ cameOf q →
+    ranBothOf (record { first = x; second = y; units = q .units }) after ≡ ranBoth FirstThenSecond one two s
+first-then-second one two s between after r q ran-one ran-two is-x is-y =
+    let step = ap (λ (o : RanOne). o .left) ran-one in
+    λ i.
+    record {
+      first = (ap toldBy is-x ∙ ap (λ (o : RanOne). o .came) ran-one) i;
+      second = (ap toldBy is-y ∙ ap (λ (o : RanOne). o .came) ran-two ∙ ap (runOf Second two .out) step) i;
+      left = (ap (λ (o : RanOne). o .left) ran-two ∙ ap (runOf Second two .left) step) i;
+    }
 
 -- The other order is this one with the chains and their event buffers exchanged.
-mirrored : Both → Both
-mirrored s = record { host = s .host; drive0 = s .drive0; drive1 = s .drive1; events1 = s .events2; events2 = s .events1 }
+abbrev mirrored : Both → Both
+mirrored s =
+    record { host1 = s .host1; host2 = s .host2; drive0 = s .drive0; drive1 = s .drive1; events1 = s .events2; events2 = s .events1 }
+
+abbrev turned : RanBoth → RanBoth
+turned r = record { first = r .second; second = r .first; left = mirrored (r .left) }
+
+other-order :
+    (c d : Controller) (first allowance first′ allowance′ : ℕ) (s : Both) →
+    let one : Chain = record { controller = c; first = first; allowance = allowance } in
+    let two : Chain = record { controller = d; first = first′; allowance = allowance′ } in
+    turned (ranBoth FirstThenSecond two one (mirrored s)) ≡ ranBoth SecondThenFirst one two s
+other-order FirstController FirstController first allowance first′ allowance′ s = refl
+other-order FirstController SecondController first allowance first′ allowance′ s = refl
+other-order SecondController FirstController first allowance first′ allowance′ s = refl
+other-order SecondController SecondController first allowance first′ allowance′ s = refl
 
 pub exchanged :
-    (c d : Chain) (host image0 image1 events1 events2 tracks0 tracks1 : List ℕ) (units : Units) (x : Twice)
-    (h a b e e′ t u : List ℕ) →
-    ranBothOf x (bothOf h a b e′ e t u (x .units)) ≡
-    ranBoth FirstThenSecond d c (bothOf host image0 image1 events2 events1 tracks0 tracks1 units) →
-    ranBothOf (record { first = x .second; second = x .first; units = x .units }) (bothOf h a b e e′ t u (x .units)) ≡
-    ranBoth SecondThenFirst c d (bothOf host image0 image1 events1 events2 tracks0 tracks1 units)
-unfolding mirrored
-exchanged c d host image0 image1 events1 events2 tracks0 tracks1 units x h a b e e′ t u is =
-    λ i. record { first = is i .second; second = is i .first; left = mirrored (is i .left) }
+    (one two : Chain) (s : Both) (x : Twice) (left : Both) →
+    ranBothOf x (mirrored left) ≡ ranBoth FirstThenSecond two one (mirrored s) →
+    ranBothOf (record { first = x .second; second = x .first; units = x .units }) left ≡ ranBoth SecondThenFirst one two s
+exchanged one two s x left is =
+    ap turned is ∙ other-order (one .controller) (two .controller) (one .first) (one .allowance) (two .first) (two .allowance) s
 
 -- Of independent chains the order does not matter, whichever it is.
 pub orders-are-one :

@@ -1,12 +1,20 @@
-// Two chains run one after the other, each with an event buffer of its own, in the order that is asked for.
+// Two chains run one after the other, each by either controller and with an event buffer of its own, in the order that is asked for.
 // Demand 3 is about the definition of a run (crate independence); here it is about what runs: both orders hand back the same.
 // It runs nothing by itself but board's run, twice, and asks nothing of the two chains.
 use answers::RunAnswer;
 use board::Outcome;
 use board::Units;
+use unit::Controller;
 ghost use mathlib.Core.Path.{_≡_};
 ghost use Rattle.two_chains.specs.declared.Order.{Order};
-ghost use Rattle.two_chains.specs.Orders.{bothOf, cameOf, chainOf, ranBoth, ranBothOf};
+ghost use Rattle.two_chains.specs.Orders.{IsRunOf, bothOf, cameOf, chainOf, lentTo, ranBoth, ranBothOf};
+
+// A chain as it is asked for: which controller runs it, from which block on, and how many blocks it may fetch.
+pub struct Chain {
+    pub controller: Controller,
+    pub first: u32,
+    pub allowance: u32,
+}
 
 // Which of two chains is run first.
 pub enum Order {
@@ -41,9 +49,54 @@ fn told(o: Outcome) -> Came
     }
 }
 
+// One of two chains, on the memory of the controller that runs it. The other memory is left as it is.
+fn run_on_its_own(
+    host1: &mut [u8],
+    host2: &mut [u8],
+    image0: &mut [u8],
+    image1: &mut [u8],
+    events: &mut [u8],
+    map0: &mut [u32; 64],
+    map1: &mut [u32; 64],
+    units: Units,
+    k: Chain,
+) -> Outcome
+    ensures { λ r. ⌜ IsRunOf (chainOf k) (lentTo (now (host1 .entry)) (now (host2 .entry)) (now (image0 .entry)) (now (image1 .entry)) (now (events .entry)) (now (map0 .entry)) (now (map1 .entry)) units)
+        (lentTo (now (host1 .exit)) (now (host2 .exit)) (now (image0 .exit)) (now (image1 .exit)) (now (events .exit)) (now (map0 .exit)) (now (map1 .exit)) (r .units)) r ⌝ }
+{
+    let c = k.controller;
+    match c {
+        Controller::First => board::run(
+            host1,
+            image0,
+            image1,
+            events,
+            map0,
+            map1,
+            units,
+            Controller::First,
+            k.first,
+            k.allowance,
+        ),
+        Controller::Second => board::run(
+            host2,
+            image0,
+            image1,
+            events,
+            map0,
+            map1,
+            units,
+            Controller::Second,
+            k.first,
+            k.allowance,
+        ),
+    }
+}
+
 // The first chain and then the second.
 fn in_turn(
-    host: &mut [u8],
+    host1: &mut [u8],
+    host2: &mut [u8],
     image0: &mut [u8],
     image1: &mut [u8],
     events1: &mut [u8],
@@ -51,48 +104,47 @@ fn in_turn(
     map0: &mut [u32; 64],
     map1: &mut [u32; 64],
     units: Units,
-    first1: u32,
-    allowance1: u32,
-    first2: u32,
-    allowance2: u32,
+    one: Chain,
+    two: Chain,
 ) -> Twice
-    ensures { λ r. ⌜ ranBothOf r (bothOf (now (host .exit)) (now (image0 .exit)) (now (image1 .exit)) (now (events1 .exit)) (now (events2 .exit)) (now (map0 .exit)) (now (map1 .exit)) (r .units))
-        ≡ ranBoth Order.FirstThenSecond (chainOf first1 allowance1) (chainOf first2 allowance2) (bothOf (now (host .entry)) (now (image0 .entry)) (now (image1 .entry)) (now (events1 .entry)) (now (events2 .entry)) (now (map0 .entry)) (now (map1 .entry)) units) ⌝ }
+    ensures { λ r. ⌜ ranBothOf r (bothOf (now (host1 .exit)) (now (host2 .exit)) (now (image0 .exit)) (now (image1 .exit)) (now (events1 .exit)) (now (events2 .exit)) (now (map0 .exit)) (now (map1 .exit)) (r .units))
+        ≡ ranBoth Order.FirstThenSecond (chainOf one) (chainOf two) (bothOf (now (host1 .entry)) (now (host2 .entry)) (now (image0 .entry)) (now (image1 .entry)) (now (events1 .entry)) (now (events2 .entry)) (now (map0 .entry)) (now (map1 .entry)) units) ⌝ }
 {
-    let one = board::run(
-        host,
+    let first = run_on_its_own(
+        host1,
+        host2,
         image0,
         image1,
         events1,
         map0,
         map1,
         units,
-        first1,
-        allowance1,
+        one,
     );
-    let between = one.units;
-    let two = board::run(
-        host,
+    let between = first.units;
+    let second = run_on_its_own(
+        host1,
+        host2,
         image0,
         image1,
         events2,
         map0,
         map1,
         between,
-        first2,
-        allowance2,
+        two,
     );
-    let after = two.units;
+    let after = second.units;
     Twice {
-        first: told(one),
-        second: told(two),
+        first: told(first),
+        second: told(second),
         units: after,
     }
 }
 
-// Runs two chains one after the other, each with an event buffer of its own.
+// Runs two chains one after the other, each by its controller on that one's memory and with an event buffer of its own.
 pub fn run_both(
-    host: &mut [u8],
+    host1: &mut [u8],
+    host2: &mut [u8],
     image0: &mut [u8],
     image1: &mut [u8],
     events1: &mut [u8],
@@ -101,17 +153,16 @@ pub fn run_both(
     map1: &mut [u32; 64],
     units: Units,
     order: Order,
-    first1: u32,
-    allowance1: u32,
-    first2: u32,
-    allowance2: u32,
+    one: Chain,
+    two: Chain,
 ) -> Twice
-    ensures { λ r. ⌜ ranBothOf r (bothOf (now (host .exit)) (now (image0 .exit)) (now (image1 .exit)) (now (events1 .exit)) (now (events2 .exit)) (now (map0 .exit)) (now (map1 .exit)) (r .units))
-        ≡ ranBoth order (chainOf first1 allowance1) (chainOf first2 allowance2) (bothOf (now (host .entry)) (now (image0 .entry)) (now (image1 .entry)) (now (events1 .entry)) (now (events2 .entry)) (now (map0 .entry)) (now (map1 .entry)) units) ⌝ }
+    ensures { λ r. ⌜ ranBothOf r (bothOf (now (host1 .exit)) (now (host2 .exit)) (now (image0 .exit)) (now (image1 .exit)) (now (events1 .exit)) (now (events2 .exit)) (now (map0 .exit)) (now (map1 .exit)) (r .units))
+        ≡ ranBoth order (chainOf one) (chainOf two) (bothOf (now (host1 .entry)) (now (host2 .entry)) (now (image0 .entry)) (now (image1 .entry)) (now (events1 .entry)) (now (events2 .entry)) (now (map0 .entry)) (now (map1 .entry)) units) ⌝ }
 {
     match order {
         Order::FirstThenSecond => in_turn(
-            host,
+            host1,
+            host2,
             image0,
             image1,
             events1,
@@ -119,14 +170,13 @@ pub fn run_both(
             map0,
             map1,
             units,
-            first1,
-            allowance1,
-            first2,
-            allowance2,
+            one,
+            two,
         ),
         Order::SecondThenFirst => {
             let exchanged = in_turn(
-                host,
+                host1,
+                host2,
                 image0,
                 image1,
                 events2,
@@ -134,10 +184,8 @@ pub fn run_both(
                 map0,
                 map1,
                 units,
-                first2,
-                allowance2,
-                first1,
-                allowance1,
+                two,
+                one,
             );
             let first = exchanged.second;
             let second = exchanged.first;

@@ -10,7 +10,9 @@ use Rattle.geometry.proofs.Decided.{within?}
 use Rattle.geometry.proofs.Same as Geometries
 use Rattle.spares.proofs.Decided.{good?}
 use Rattle.unit.specs.declared.Record.{Record}
-use Rattle.unit.specs.Standing.{CountsAsInitialized, UnitRecord, byValue, cylinder, geometry, heldOf, initialized, pairs, table, unitOf}
+use Rattle.unit.specs.Holding.{holderNumber}
+use Rattle.unit.specs.Standing.{CountsAsInitialized, UnitRecord, byValue, cylinder, geometry, heldOf, initialized, pairs, table, unitOf, withHolder}
+use Rattle.unit.proofs.Holders.{holders-differ}
 
 pub counts? : (u : UnitRecord) → Dec (CountsAsInitialized u)
 counts? u =
@@ -20,20 +22,19 @@ counts? u =
     (Dec·and (within? (geometry u)) (Dec·and (decLt (cylinder u) (C (geometry u))) (good? (geometry u) (pairs u) (table u)))))
 
 pub record-is :
-    (u v : Record) → u .initialized ≡ v .initialized → u .geometry ≡ v .geometry → u .cylinder ≡ v .cylinder → u .pairs ≡ v .pairs → u ≡ v
-record-is u v i g c n =
-    ap (λ x. heldOf x (u .geometry) (u .cylinder) (u .pairs)) i ∙
-    ap (λ x. heldOf (v .initialized) x (u .cylinder) (u .pairs)) g ∙
-    ap (λ x. heldOf (v .initialized) (v .geometry) x (u .pairs)) c ∙
-    ap (heldOf (v .initialized) (v .geometry) (v .cylinder)) n
+    (u v : Record) → u .initialized ≡ v .initialized → u .geometry ≡ v .geometry → u .cylinder ≡ v .cylinder → u .pairs ≡ v .pairs →
+    u .holder ≡ v .holder → u ≡ v
+record-is u v i g c n h = λ k. withHolder (heldOf (i k) (g k) (c k) (n k)) (h k)
 
 pub same? : (u v : Record) → Dec (u ≡ v)
 same? u v =
-    map-dec (λ d. record-is u v (d .0) (d .1 .0) (d .1 .1 .0) (d .1 .1 .1))
-    (λ e. (ap (λ x. x .initialized) e, (ap (λ x. x .geometry) e, (ap (λ x. x .cylinder) e, ap (λ x. x .pairs) e))))
+    map-dec (λ d. record-is u v (d .0) (d .1 .0) (d .1 .1 .0) (d .1 .1 .1 .0) (d .1 .1 .1 .1))
+    (λ e. (ap (λ x. x .initialized) e, (ap (λ x. x .geometry) e, (ap (λ x. x .cylinder) e, (ap (λ x. x .pairs) e, ap (λ x. x .holder) e)))))
     (Dec·and (Bool-discrete (u .initialized) (v .initialized))
     (Dec·and (Geometries.same? (u .geometry) (v .geometry))
-    (Dec·and (ℕ-discrete (u .cylinder) (v .cylinder)) (ℕ-discrete (u .pairs) (v .pairs)))))
+    (Dec·and (ℕ-discrete (u .cylinder) (v .cylinder))
+    (Dec·and (ℕ-discrete (u .pairs) (v .pairs))
+    (map-dec (holders-differ (u .holder) (v .holder)) (ap holderNumber) (ℕ-discrete (holderNumber (u .holder)) (holderNumber (v .holder))))))))
 
 pub same-with-table? : (u v : UnitRecord) → Dec (u ≡ v)
 same-with-table? u v =

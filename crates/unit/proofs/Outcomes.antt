@@ -3,11 +3,18 @@
 use mathlib.Core.Path.{_∙_, sym}
 use Rattle.wire.specs.Promise.{OneResult}
 use Rattle.wire.proofs.Promises.{says-once}
+use Rattle.unit.proofs.Controller.as_holder.Reads as as-holder
+use Rattle.unit.proofs.Controller.reserves.Reads as reserves
+use Rattle.unit.proofs.Holder.is_other_than.Reads as is-other-than
+use Rattle.unit.proofs.Holder.number.Reads as holder-number
+use Rattle.unit.proofs.Holder.of.Reads as of
 use Rattle.unit.proofs.Record.blank.Reads as blank
 use Rattle.unit.proofs.Record.counts_as_initialized.Reads as counts-as-initialized
 use Rattle.unit.proofs.Record.cylinder.Reads as cylinder
 use Rattle.unit.proofs.Record.fresh.Reads as fresh
 use Rattle.unit.proofs.Record.geometry.Reads as geometry
+use Rattle.unit.proofs.Record.held_by.Reads as held-by
+use Rattle.unit.proofs.Record.holder.Reads as holder
 use Rattle.unit.proofs.Record.initialized.Reads as initialized
 use Rattle.unit.proofs.Record.land.Reads as land
 use Rattle.unit.proofs.Record.land_track.Reads as land-track
@@ -59,3 +66,24 @@ pairs-once κ a x y e f p q = p ∙ sym q
 
 one-pair-more-once : OneResult one-pair-more.Post
 one-pair-more-once κ a x y e f p q = p ∙ sym q
+
+as-holder-once : OneResult as-holder.Post
+as-holder-once κ a x y e f p q = p ∙ sym q
+
+reserves-once : OneResult reserves.Post
+reserves-once κ a x y e f p q = p ∙ sym q
+
+is-other-than-once : OneResult is-other-than.Post
+is-other-than-once κ a x y e f p q = p ∙ sym q
+
+holder-number-once : OneResult holder-number.Post
+holder-number-once κ a x y e f p q = p ∙ sym q
+
+of-once : OneResult of.Post
+of-once κ a x y e f p q = p ∙ sym q
+
+held-by-once : OneResult held-by.Post
+held-by-once κ a x y e f p q = p ∙ sym q
+
+holder-once : OneResult holder.Post
+holder-once κ a x y e f p q = p ∙ sym q

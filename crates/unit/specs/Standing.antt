@@ -1,4 +1,4 @@
--- The unit record and when it counts as initialized (01, Geometry; 02, K5).
+-- The unit record and when it counts as initialized (01, Geometry; 02, K5 and K10).
 use Prim.Native.Nat.{ℕ, _<_}
 use mathlib.Core.Bool.{Bool, false, true}
 use mathlib.Core.List.{List, []}
@@ -8,9 +8,12 @@ use Rattle.geometry.specs.declared.Geometry.{Geometry}
 use Rattle.geometry.specs.Drive.{C, geometryOf, volumeOf}
 use Rattle.geometry.specs.Limits.{Within}
 use Rattle.spares.specs.Table.{Good, onePairMore, withPair}
+use Rattle.unit.specs.declared.Holder.{Holder}
+use Rattle.unit.specs.declared.Holder.the-variants.{Nobody}
 use Rattle.unit.specs.declared.Record.{Record}
 
--- A unit's record: "whether the unit is initialized, its geometry and its cylinder", and "a table of 32 pairs" (02, K5), of which so many count.
+-- A unit's record: "whether the unit is initialized, its geometry and its cylinder", "a table of 32 pairs" (02, K5), of which so many count, and who
+-- holds the drive (02, K10).
 -- Whoever stands above takes one apart and makes one by the names that follow and by no other, so that a record can come to hold more.
 pub record UnitRecord : Type 0 where
   pub held : Record
@@ -32,6 +35,10 @@ pairs u = u .held .pairs
 abbrev pub table : UnitRecord → List ℕ
 table u = u .tracks
 
+-- Who holds the drive.
+abbrev pub holder : UnitRecord → Holder
+holder u = u .held .holder
+
 -- A record in two parts, as the code has it: what goes by value, and the table, which is lent.
 abbrev pub unitOf : Record → List ℕ → UnitRecord
 unitOf r ts = record { held = r; tracks = ts }
@@ -43,10 +50,10 @@ byValue u = u .held
 abbrev pub bare : Record → UnitRecord
 bare r = unitOf r []
 
--- A record from what it is to say, as a caller hands one in.
+-- A record from what it is to say, with nobody holding the drive; a holder is put in by withHolder.
 abbrev pub heldOf : Bool → Geometry → ℕ → ℕ → Record
 heldOf initialized geometry cylinder pairs =
-    record { initialized = initialized; geometry = geometry; cylinder = cylinder; pairs = pairs }
+    record { initialized = initialized; geometry = geometry; cylinder = cylinder; pairs = pairs; holder = Nobody }
 
 abbrev pub recordOf : Bool → Geometry → ℕ → ℕ → List ℕ → UnitRecord
 recordOf initialized geometry cylinder pairs ts = unitOf (heldOf initialized geometry cylinder pairs) ts
@@ -55,23 +62,32 @@ recordOf initialized geometry cylinder pairs ts = unitOf (heldOf initialized geo
 abbrev pub noTracks : List ℕ
 noTracks = replicate 64 0
 
--- A unit that has just been initialized: "cylinder 0" (01, One run, 87), and "A successful 87 clears the table" (02, K5).
+-- A unit that has just been initialized: "cylinder 0" (01, One run, 87), and "A successful 87 clears the table" (02, K5). Nobody
+-- holds it here: the block that initialized it says who does.
 abbrev pub freshly : Geometry → Record
 freshly g = heldOf true g 0 0
 
 abbrev pub fresh : Geometry → UnitRecord
 fresh g = unitOf (freshly g) noTracks
 
+-- The same unit with another holder (02, K10).
+abbrev pub withHolder : Record → Holder → Record
+withHolder r h =
+    record { initialized = r .initialized; geometry = r .geometry; cylinder = r .cylinder; pairs = r .pairs; holder = h }
+
+abbrev pub heldBy : UnitRecord → Holder → UnitRecord
+heldBy u h = unitOf (withHolder (u .held) h) (u .tracks)
+
 -- The same unit with its heads on a cylinder.
 abbrev pub headsOn : Record → ℕ → Record
-headsOn r c = heldOf (r .initialized) (r .geometry) c (r .pairs)
+headsOn r c = withHolder (heldOf (r .initialized) (r .geometry) c (r .pairs)) (r .holder)
 
 abbrev pub movedTo : UnitRecord → ℕ → UnitRecord
 movedTo u c = unitOf (headsOn (u .held) c) (u .tracks)
 
 -- The same unit with a pair more at the end of its table (02, K5): 85 "moves neither data nor heads".
 abbrev pub moreHeld : Record → Record
-moreHeld r = heldOf (r .initialized) (r .geometry) (r .cylinder) (onePairMore (r .pairs))
+moreHeld r = withHolder (heldOf (r .initialized) (r .geometry) (r .cylinder) (onePairMore (r .pairs))) (r .holder)
 
 abbrev pub mapped : UnitRecord → (bad spare : ℕ) → UnitRecord
 mapped u bad spare = unitOf (moreHeld (u .held)) (withPair (pairs u) (table u) bad spare)
@@ -84,7 +100,7 @@ abbrev pub blank : UnitRecord
 blank = unitOf nothingSaid noTracks
 
 -- A record that says so counts as initialized, but not "with a geometry outside the limits, or a cylinder of C or more", nor with a table that is
--- not good (02, K5).
+-- not good (02, K5). Who holds the drive is not asked.
 pub record CountsAsInitialized (u : UnitRecord) : Type 0 where
   pub said : initialized u ≡ true
   pub within : Within (geometry u)

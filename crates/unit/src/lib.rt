@@ -1,4 +1,4 @@
-// The unit record: when it counts as initialized, and where a request lands on it.
+// The unit record: when it counts as initialized, who holds its drive, and where a request lands on it.
 // It is the one door to where a sector stands: a spare serves for a bad track behind it, and an order of tracks can come in there.
 // It moves no data and sees no image; a record goes in and comes back by value, and its table is lent and left as it is.
 use geometry::Address;
@@ -14,9 +14,91 @@ ghost use Prim.Native.Nat.{_<_};
 ghost use Rattle.geometry.specs.Drive.{C};
 ghost use Rattle.geometry.specs.Sectors.{OnDrive};
 ghost use Rattle.spares.specs.Table.{Good};
+ghost use Rattle.unit.specs.Holding.{asHolder, heldByOther, holderNumber, holderOf, reservedBy};
 ghost use Rattle.unit.specs.Landing.{landing, landingAt, numberOn, spotAt, spotted, trackLanding};
-ghost use Rattle.unit.specs.Standing.{CountsAsInitialized, bare, cylinder, freshly, geometry, headsOn, heldOf, initialized, moreHeld, nothingSaid, pairs, unitOf};
+ghost use Rattle.unit.specs.Standing.{CountsAsInitialized, bare, cylinder, freshly, geometry, headsOn, heldOf, holder, initialized, moreHeld, nothingSaid, pairs, unitOf, withHolder};
 ghost use Rattle.wire.specs.Promise.{Says};
+
+// One of the two controllers that can share a drive.
+pub enum Controller {
+    First,
+    Second,
+}
+
+// Who holds a drive.
+pub enum Holder {
+    Nobody,
+    TheFirst,
+    TheSecond,
+}
+
+impl Controller {
+    // The controller as the holder of a drive.
+    pub fn as_holder(self) -> Holder
+        ensures { λ r. ⌜ r ≡ asHolder self ⌝ }
+    {
+        match self {
+            Controller::First => Holder::TheFirst,
+            Controller::Second => Holder::TheSecond,
+        }
+    }
+
+    // Who holds a drive once a block of this controller has succeeded, with the reserve option or without.
+    pub fn reserves(self, reserve: bool) -> Holder
+        ensures { λ r. ⌜ r ≡ reservedBy self reserve ⌝ }
+    {
+        if reserve {
+            self.as_holder()
+        } else {
+            Holder::Nobody
+        }
+    }
+}
+
+impl Holder {
+    // 0 for nobody, 1 for the first controller, 2 for the second.
+    pub fn number(self) -> u8
+        ensures { λ r. ⌜ r ≡ holderNumber self ⌝ }
+    {
+        match self {
+            Holder::Nobody => 0,
+            Holder::TheFirst => 1,
+            Holder::TheSecond => 2,
+        }
+    }
+
+    // The holder with that number, and nobody for any other.
+    pub fn of(number: u16) -> Holder
+        ensures { λ r. ⌜ r ≡ holderOf number ⌝ }
+    {
+        if number == 1 {
+            return Holder::TheFirst;
+        }
+        if number == 2 {
+            Holder::TheSecond
+        } else {
+            Holder::Nobody
+        }
+    }
+
+    // Whether a drive with this holder is held by the other controller than this one.
+    pub fn is_other_than(self, c: Controller) -> bool
+        ensures { λ r. ⌜ r ≡ heldByOther c self ⌝ }
+    {
+        match c {
+            Controller::First => match self {
+                Holder::Nobody => false,
+                Holder::TheFirst => false,
+                Holder::TheSecond => true,
+            },
+            Controller::Second => match self {
+                Holder::Nobody => false,
+                Holder::TheFirst => true,
+                Holder::TheSecond => false,
+            },
+        }
+    }
+}
 
 // A unit's record, of any contents: what it says of itself is judged by `counts_as_initialized`. Its table of bad tracks is lent beside it; here
 // is how many pairs of that count.
@@ -25,6 +107,7 @@ pub struct Record {
     geometry: Geometry,
     cylinder: u16,
     pairs: u16,
+    holder: Holder,
 }
 
 // Where a sector stands: its cylinder, its place in the image, and how many sectors there are from it to the end of its
@@ -57,6 +140,7 @@ impl Record {
             geometry,
             cylinder,
             pairs,
+            holder: Holder::Nobody,
         }
     }
 
@@ -69,6 +153,7 @@ impl Record {
             geometry: g,
             cylinder: 0,
             pairs: 0,
+            holder: Holder::Nobody,
         }
     }
 
@@ -82,6 +167,7 @@ impl Record {
             geometry: Geometry::new(0, 0, 0, none, none),
             cylinder: 0,
             pairs: 0,
+            holder: Holder::Nobody,
         }
     }
 
@@ -112,16 +198,39 @@ impl Record {
         self.pairs
     }
 
-    // The record once its heads stand on another cylinder.
-    pub fn moved_to(self, to: u16) -> Record
-        ensures { λ r. ⌜ r ≡ headsOn self to ⌝ }
+    // Who holds the drive.
+    pub fn holder(self) -> Holder
+        ensures { λ r. ⌜ r ≡ holder (bare self) ⌝ }
+    {
+        self.holder
+    }
+
+    // The record once the drive has that holder.
+    pub fn held_by(self, to: Holder) -> Record
+        ensures { λ r. ⌜ r ≡ withHolder self to ⌝ }
     {
         let geometry = self.geometry;
         Record {
             initialized: self.initialized,
             geometry,
+            cylinder: self.cylinder,
+            pairs: self.pairs,
+            holder: to,
+        }
+    }
+
+    // The record once its heads stand on another cylinder.
+    pub fn moved_to(self, to: u16) -> Record
+        ensures { λ r. ⌜ r ≡ headsOn self to ⌝ }
+    {
+        let geometry = self.geometry;
+        let holder = self.holder;
+        Record {
+            initialized: self.initialized,
+            geometry,
             cylinder: to,
             pairs: self.pairs,
+            holder,
         }
     }
 
@@ -130,11 +239,13 @@ impl Record {
         ensures { λ r. ⌜ r ≡ moreHeld self ⌝ }
     {
         let geometry = self.geometry;
+        let holder = self.holder;
         Record {
             initialized: self.initialized,
             geometry,
             cylinder: self.cylinder,
             pairs: spares::one_more(self.pairs),
+            holder,
         }
     }
 
@@ -146,6 +257,11 @@ impl Record {
             return false;
         }
         if self.pairs != other.pairs {
+            return false;
+        }
+        let mine = self.holder;
+        let its = other.holder;
+        if mine.number() != its.number() {
             return false;
         }
         if !self.geometry.same(other.geometry) {

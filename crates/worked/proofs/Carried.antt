@@ -12,6 +12,8 @@ use Rattle.wire.proofs.Promises.{never as impossible}
 use Rattle.answers.specs.declared.BlockAnswer.{BlockAnswer}
 use Rattle.answers.specs.declared.BlockAnswer.the-variants.{Ended, Failed}
 use Rattle.answers.specs.declared.Refusal.{Refusal}
+use Rattle.answers.specs.declared.RunAnswer.{RunAnswer}
+use Rattle.answers.specs.Numbers.{refusalNumber}
 use Rattle.geometry.specs.Drive.{B}
 use Rattle.iopb.specs.Ask.{taskOf}
 use Rattle.judge.specs.declared.Moving.{Moving}
@@ -23,6 +25,9 @@ use Rattle.judge.specs.Given.{Asked}
 use Rattle.judge.specs.Reads.{InList, InUib}
 use Rattle.transfer.specs.Progress.{progress}
 use Rattle.block.specs.Block.{transferOf}
+use Rattle.block.specs.World.{World}
+use Rattle.board.specs.Chain.{ran}
+use Rattle.unit.specs.declared.Controller.{Controller}
 use Rattle.request.specs.declared.Buffer.{Buffer}
 use Rattle.request.specs.declared.Move.{Move}
 use Rattle.request.specs.declared.Shape.{Shape}
@@ -30,45 +35,48 @@ use Rattle.request.specs.declared.Task.{Task}
 use Rattle.demands.specs.Footprint.{HostData, RunNames, RunWrites, WritesHost, askedOf, comes, movingOf, namedDrive, names, reportOf, transferBy, verdictOf, wordsBy}
 use Rattle.demands.specs.Visits.{Passes, Visit, blockOf, effectOf}
 use Rattle.demands.proofs.Fits.{drives-geometry}
+use Rattle.demands.proofs.BlockLaws.{refusal-moves-nothing}
 use Rattle.demands.proofs.Written.{effect-is, sectors-come}
-use Rattle.independence.specs.Chains.{Both, First, Second, Which, eventsOf, worldFor}
-use Rattle.independence.specs.Demand3.{Independent, NoUnitInCommon, NoByteReadByOther, NoByteWrittenByBoth}
+use Rattle.independence.specs.Chains.{Both, First, Second, Told, runOf, told, worldFor}
+use Rattle.independence.specs.Demand3.{EitherWay, Independent, NoUnitInCommon, NoByteReadByOther, NoByteWrittenByBoth}
 use Rattle.independence.specs.Reads.{ReadsHost, RunReads}
 use Rattle.request.specs.declared.UnitNumber.{UnitNumber}
 use Rattle.request.specs.declared.UnitNumber.the-variants.{Zero, One}
-use Rattle.worked.specs.TwoChains.{driveWith, one, two}
-use Rattle.worked.proofs.OneBlock.{Apart, In, no-data, no-words, none-in-both, of-block, reads-in, writes-in}
+use Rattle.worked.specs.TwoChains.{come, driveWith, oneBy, twoBy}
+use Rattle.worked.proofs.OneBlock.{Apart, In, done, failed, no-data, no-words, none-in-both, of-block, reads-in, writes-in}
 use Rattle.worked.proofs.Tiny.{carriedOn, move-passes, moveOf, read-of-one, read-stopped, write-of-one}
 
 pub passes-at :
-    (t : Which) (s : Both) (at : ℕ) → length (eventsOf s t) ≡ 512 → at % 2 ≡ 0 → at + 28 ≤ length (s .host) → Passes at 1 (worldFor t s)
-passes-at t s at events even inside =
+    (w : World) (at : ℕ) → length (w .events) ≡ 512 → at % 2 ≡ 0 → at + 28 ≤ length (w .host) → Passes at 1 w
+passes-at w at events even inside =
     record { events = omega (arith, events); least = omega arith; most = omega arith; place = record { even = even; inside = inside } }
 
 -- ---- a chain of one block in a pair
 
 -- What it names, and the ranges that its reads and its writes lie in.
-pub record Alone (t : Which) (at : ℕ) (s : Both) (unit : UnitNumber) (reads writes : List (ℕ × ℕ)) : Type 0 where
-  pub passes : Passes at 1 (worldFor t s)
-  pub names-it : (n : UnitNumber) → RunNames at 1 (worldFor t s) n → unit ≡ n
-  pub reads-there : (x : ℕ) → RunReads at 1 (worldFor t s) x → In reads x
-  pub writes-there : (x : ℕ) → RunWrites at 1 (worldFor t s) x → In writes x
+pub record Alone (at : ℕ) (w : World) (unit : UnitNumber) (reads writes : List (ℕ × ℕ)) : Type 0 where
+  pub passes : Passes at 1 w
+  pub names-it : (n : UnitNumber) → RunNames at 1 w n → unit ≡ n
+  pub reads-there : (x : ℕ) → RunReads at 1 w x → In reads x
+  pub writes-there : (x : ℕ) → RunWrites at 1 w x → In writes x
 
 -- Two of them are apart where their units and their ranges are.
-module _ {s : Both} {m n : UnitNumber} {rs ws qs vs : List (ℕ × ℕ)} (f : Alone First 0 s m rs ws) (g : Alone Second 28 s n qs vs) where
-  pub no-unit : (m ≡ n → ⊥) → NoUnitInCommon one two s
+module _
+    {c d : Controller} (s : Both) {m n : UnitNumber} {rs ws qs vs : List (ℕ × ℕ)}
+    (f : Alone 0 (worldFor First c s) m rs ws) (g : Alone 28 (worldFor Second d s) n qs vs) where
+  pub no-unit : (m ≡ n → ⊥) → NoUnitInCommon (oneBy c) (twoBy d) s
   no-unit differ k a b = differ (f .names-it k a ∙ sym (g .names-it k b))
 
-  pub none-twice : Apart ws vs → NoByteWrittenByBoth one two s
-  none-twice apart x a b = none-in-both ws vs x apart (f .writes-there x a) (g .writes-there x b)
+  pub none-twice : Apart ws vs → NoByteWrittenByBoth (oneBy c) (twoBy d) s
+  none-twice apart same x a b = none-in-both ws vs x apart (f .writes-there x a) (g .writes-there x b)
 
-  pub none-read : Apart ws qs → Apart vs rs → NoByteReadByOther one two s
-  none-read forth back x = (
+  pub none-read : Apart ws qs → Apart vs rs → NoByteReadByOther (oneBy c) (twoBy d) s
+  none-read forth back same x = (
     λ w r. none-in-both ws qs x forth (f .writes-there x w) (g .reads-there x r),
     λ w r. none-in-both vs rs x back (g .writes-there x w) (f .reads-there x r),
   )
 
-  pub met : (m ≡ n → ⊥) → Apart ws vs → Apart ws qs → Apart vs rs → Independent one two s
+  pub met : (m ≡ n → ⊥) → Apart ws vs → Apart ws qs → Apart vs rs → Independent (oneBy c) (twoBy d) s
   met differ twice forth back = record { units = no-unit differ; written = none-twice twice; read = none-read forth back }
 
 unit-number : UnitNumber → ℕ
@@ -82,9 +90,9 @@ differ same = omega (arith, ap unit-number same)
 pub no-way : true ≡ false → ⊥
 no-way same = omega (arith, ap (λ b. cond {A = ℕ} b 1 0) same)
 
-module _ (t : Which) (s : Both) (at : ℕ) (passes : Passes at 1 (worldFor t s)) where
+module _ (w : World) (at : ℕ) (passes : Passes at 1 w) where
   abbrev pub v : Visit
-  v = record { at = at; index = 0; world = worldFor t s }
+  v = record { at = at; index = 0; world = w }
 
   module _ (rs ws : List (ℕ × ℕ)) where
     pub alone :
@@ -92,7 +100,7 @@ module _ (t : Which) (s : Both) (at : ℕ) (passes : Passes at 1 (worldFor t s))
         ((x : ℕ) → HostData (askedOf v) (namedDrive v) false x → In rs x) →
         ((x : ℕ) → Among (v .at + wordsBy (askedOf v) .from) (length (wordsBy (askedOf v) .bytes)) x → In ws x) →
         ((x : ℕ) → HostData (askedOf v) (namedDrive v) true x → In ws x) →
-        Alone t at s (names v) ((at, 28) ∷ rs) ((at + 2, 2) ∷ ws)
+        Alone at w (names v) ((at, 28) ∷ rs) ((at + 2, 2) ∷ ws)
     alone judged from reported to =
         record {
           passes = passes;
@@ -124,27 +132,27 @@ no-list a x other list = other (list .move) (list .asks)
 
 -- A block that moves nothing and reports nothing, and is neither an initialize nor a transfer, reads its 28 bytes and writes its word 1.
 pub idle :
-    (t : Which) (s : Both) (at : ℕ) (passes : Passes at 1 (worldFor t s)) (verd : Verdict) → verdictOf (v t s at passes) ≡ verd →
+    (w : World) (at : ℕ) (passes : Passes at 1 w) (verd : Verdict) → verdictOf (v w at passes) ≡ verd →
     movingOf verd ≡ Moving.Nothing → reportOf verd ≡ Report.Nothing →
-    ((s′ : Shape) → askedOf (v t s at passes) .task ≡ Task.Initialize s′ → ⊥) → ((m : Move) → askedOf (v t s at passes) .task ≡ Task.Move m → ⊥) →
-    Alone t at s (names (v t s at passes)) ((at, 28) ∷ []) ((at + 2, 2) ∷ [])
-idle t s at passes verd is moves says no-initialize no-move =
-    alone t s at passes [] []
+    ((s′ : Shape) → askedOf (v w at passes) .task ≡ Task.Initialize s′ → ⊥) → ((m : Move) → askedOf (v w at passes) .task ≡ Task.Move m → ⊥) →
+    Alone at w (names (v w at passes)) ((at, 28) ∷ []) ((at + 2, 2) ∷ [])
+idle w at passes verd is moves says no-initialize no-move =
+    alone w at passes [] []
     (λ x j. ⊎-elim (λ uib. no-uib _ _ _ x no-initialize uib) (λ list. no-list _ x no-move list) j)
-    (still t s at passes verd is moves false) (silent t s at passes verd is says)
-    (still t s at passes verd is moves true)
+    (still w at passes verd is moves false) (silent w at passes verd is says)
+    (still w at passes verd is moves true)
 
 -- An initialize whose UIB is read reads that too.
 pub initialized :
-    (t : Which) (s : Both) (at : ℕ) (passes : Passes at 1 (worldFor t s)) (verd : Verdict) → verdictOf (v t s at passes) ≡ verd →
-    movingOf verd ≡ Moving.Nothing → reportOf verd ≡ Report.Nothing → (uib : ℕ) → blockOf (v t s at passes) .address ≡ uib →
-    ((m : Move) → askedOf (v t s at passes) .task ≡ Task.Move m → ⊥) →
-    Alone t at s (names (v t s at passes)) ((at, 28) ∷ (uib, 18) ∷ []) ((at + 2, 2) ∷ [])
-initialized t s at passes verd is moves says uib here no-move =
-    alone t s at passes ((uib, 18) ∷ []) []
+    (w : World) (at : ℕ) (passes : Passes at 1 w) (verd : Verdict) → verdictOf (v w at passes) ≡ verd →
+    movingOf verd ≡ Moving.Nothing → reportOf verd ≡ Report.Nothing → (uib : ℕ) → blockOf (v w at passes) .address ≡ uib →
+    ((m : Move) → askedOf (v w at passes) .task ≡ Task.Move m → ⊥) →
+    Alone at w (names (v w at passes)) ((at, 28) ∷ (uib, 18) ∷ []) ((at + 2, 2) ∷ [])
+initialized w at passes verd is moves says uib here no-move =
+    alone w at passes ((uib, 18) ∷ []) []
     (λ x j. ⊎-elim (λ read. inl (rw here at (read .among))) (λ list. absurd (no-list _ x no-move list)) j)
-    (λ x d. absurd (still t s at passes verd is moves false x d)) (silent t s at passes verd is says)
-    (still t s at passes verd is moves true)
+    (λ x d. absurd (still w at passes verd is moves false x d)) (silent w at passes verd is says)
+    (still w at passes verd is moves true)
 
 -- A block that is accepted and moves nothing ends 80 and moves no sectors.
 pub comes-still :
@@ -154,6 +162,28 @@ comes-still v p is moves = (
   ap (λ e. e .sectors) (effect-is v) ∙ rw (is, moves),
   ap (λ e. e .answer) (effect-is v) ∙ rw (is, moves),
 )
+
+-- What a chain comes to that moves nothing: one that is done, and one that is refused.
+module _ (w : World) (at : ℕ) (passes : Passes at 1 w) where
+  pub comes-done :
+      blockOf (v w at passes) .options .link ≡ false → (p : Plan) → verdictOf (v w at passes) ≡ Verdict.Do p → p .moving ≡ Moving.Nothing →
+      told (ran at 1 w) ≡ come RunAnswer.Done 0 0
+  comes-done unlinked p is moves =
+      let e = comes-still (v w at passes) p is moves in
+      ap told (done at w passes unlinked 0 (e .1) (e .0))
+
+  pub comes-refused : (r : Refusal) → verdictOf (v w at passes) ≡ Verdict.Refused r → told (ran at 1 w) ≡ come RunAnswer.BlockFailed (refusalNumber r) 0
+  comes-refused r is =
+      let e = refusal-moves-nothing (v w at passes) r is in
+      ap told (failed at w passes r 0 (e .1) (e .0))
+
+-- The orders differ where the second fails otherwise after the first than it does alone.
+pub fails-otherwise :
+    (c d : Controller) (s then : Both) (after-it alone-it : Told) → runOf First (oneBy c) .left s ≡ then →
+    runOf Second (twoBy d) .out then ≡ after-it → runOf Second (twoBy d) .out s ≡ alone-it →
+    (after-it .failed ≡ alone-it .failed → ⊥) → EitherWay (oneBy c) (twoBy d) s → ⊥
+fails-otherwise c d s then after-it alone-it left comes comes-alone differs e =
+    differs (ap (λ t. t .failed) (sym comes ∙ ap (runOf Second (twoBy d) .out) (sym left) ∙ e .second ∙ comes-alone))
 
 -- ---- a transfer of the pairs
 
@@ -166,25 +196,25 @@ going true r = r ∷ []
 going false r = []
 
 -- What a transfer of so many sectors from the first on comes to.
-pub record Carried (t : Which) (s : Both) (at : ℕ) (to-host : Bool) (buffer count n : ℕ) (a : BlockAnswer) : Type 0 where
-  pub verdict : verdictOf (record { at = at; index = 0; world = worldFor t s }) ≡ carries to-host count buffer
-  pub sectors : effectOf (record { at = at; index = 0; world = worldFor t s }) .sectors ≡ n
-  pub answer : effectOf (record { at = at; index = 0; world = worldFor t s }) .answer ≡ a
+pub record Carried (w : World) (at : ℕ) (to-host : Bool) (buffer count n : ℕ) (a : BlockAnswer) : Type 0 where
+  pub verdict : verdictOf (record { at = at; index = 0; world = w }) ≡ carries to-host count buffer
+  pub sectors : effectOf (record { at = at; index = 0; world = w }) .sectors ≡ n
+  pub answer : effectOf (record { at = at; index = 0; world = w }) .answer ≡ a
   pub footprint :
-      Alone t at s (names (record { at = at; index = 0; world = worldFor t s })) ((at, 28) ∷ going (not to-host) (buffer, n * 64))
+      Alone at w (names (record { at = at; index = 0; world = w })) ((at, 28) ∷ going (not to-host) (buffer, n * 64))
       ((at + 2, 2) ∷ going to-host (buffer, n * 64))
 
 module _
-    (t : Which) (s : Both) (at : ℕ) (passes : Passes at 1 (worldFor t s)) (byte mark : ℕ)
-    (same : namedDrive (v t s at passes) ≡ driveWith byte mark) (to-host : Bool) (buffer count : ℕ)
-    (task : taskOf (s .host) (blockOf (v t s at passes)) ≡ Task.Move (moveOf to-host 0 count buffer))
-    (some : 0 < count) (fits : count ≤ 2) (held : InMemory (s .host) buffer (count * 64))
+    (w : World) (at : ℕ) (passes : Passes at 1 w) (byte mark : ℕ)
+    (same : namedDrive (v w at passes) ≡ driveWith byte mark) (to-host : Bool) (buffer count : ℕ)
+    (task : taskOf (w .host) (blockOf (v w at passes)) ≡ Task.Move (moveOf to-host 0 count buffer))
+    (some : 0 < count) (fits : count ≤ 2) (held : InMemory (w .host) buffer (count * 64))
   where
     abbrev b : Visit
-    b = v t s at passes
+    b = v w at passes
 
     judged-so : verdictOf b ≡ carries to-host count buffer
-    judged-so = rw (task, same) (move-passes (s .host) 0 (omega arith) to-host 0 count buffer some (omega arith) held)
+    judged-so = rw (task, same) (move-passes (w .controller) (w .host) 0 (omega arith) to-host 0 count buffer some (omega arith) held)
 
     judged-alone : (x : ℕ) → InUib (askedOf b) (blockOf b .address) 18 x ⊎ InList (askedOf b) x → ⊥
     judged-alone x (inl uib) = no-uib (askedOf b) _ _ x (λ s is. impossible (cc (task, is))) uib
@@ -193,14 +223,14 @@ module _
     -- What the verdict says of the transfer.
     goes-so : (way : Bool) (x : ℕ) → HostData (askedOf b) (namedDrive b) way x → to-host ≡ way
     goes-so way x here =
-        subst (λ (verd : Verdict). transferOf (s .host) (namedDrive b .unit) (movingOf verd) .to-host ≡ way) judged-so (here .goes)
+        subst (λ (verd : Verdict). transferOf (w .host) (namedDrive b .unit) (movingOf verd) .to-host ≡ way) judged-so (here .goes)
 
     module _ (n : ℕ) (moved : effectOf b .sectors ≡ n) where
       there : (way : Bool) (x : ℕ) → HostData (askedOf b) (namedDrive b) way x → Among buffer (n * 64) x
       there way x here =
           let less : here .byte < n * 64 = rw (sectors-come b, moved, drives-geometry (askedOf b), same) at (here .moved) in
           let lies : buffer + here .byte ≡ x =
-          subst (λ (verd : Verdict). transferOf (s .host) (namedDrive b .unit) (movingOf verd) .host-byte (here .byte) ≡ x) judged-so (here .here) in
+          subst (λ (verd : Verdict). transferOf (w .host) (namedDrive b .unit) (movingOf verd) .host-byte (here .byte) ≡ x) judged-so (here .here) in
           (omega arith, omega arith)
 
       ranged : (w way : Bool) (x : ℕ) → (w ≡ way → Among buffer (n * 64) x) → w ≡ way → In (going (cond way w (not w)) (buffer, n * 64)) x
@@ -212,7 +242,7 @@ module _
     carried :
         (n : ℕ) (a : BlockAnswer) →
         carriedOn (driveWith byte mark .image) refl buffer to-host count ≡ record { sectors = n; answer = a } →
-        Carried t s at to-host buffer count n a
+        Carried w at to-host buffer count n a
     carried n a p =
         let moved : effectOf b .sectors ≡ n = ap (λ e. e .sectors) (effect-is b) ∙ rw (judged-so, same) (ap (λ p. p .sectors) p) in
         record {
@@ -220,45 +250,45 @@ module _
           sectors = moved;
           answer = ap (λ e. e .answer) (effect-is b) ∙ rw (judged-so, same) (ap (λ p. p .answer) p);
           footprint =
-              alone t s at passes (going (not to-host) (buffer, n * 64)) (going to-host (buffer, n * 64))
+              alone w at passes (going (not to-host) (buffer, n * 64)) (going to-host (buffer, n * 64))
               (λ x j. absurd (judged-alone x j)) (λ x d. ranged n moved to-host false x (λ same. there n moved false x d) (goes-so false x d))
-              (λ x words. absurd (silent t s at passes _ judged-so refl x words))
+              (λ x words. absurd (silent w at passes _ judged-so refl x words))
               (λ x d. ranged n moved to-host true x (λ same. there n moved true x d) (goes-so true x d));
         }
 
 -- Byte k of a transfer of the pairs, where it was moved.
 module _
-    (t : Which) (s : Both) (at : ℕ) (passes : Passes at 1 (worldFor t s)) (byte mark : ℕ)
-    (same : namedDrive (v t s at passes) ≡ driveWith byte mark) (to-host : Bool) (buffer count n : ℕ) (a : BlockAnswer)
-    (c : Carried t s at to-host buffer count n a)
+    (w : World) (at : ℕ) (passes : Passes at 1 w) (byte mark : ℕ)
+    (same : namedDrive (v w at passes) ≡ driveWith byte mark) (to-host : Bool) (buffer count n : ℕ) (a : BlockAnswer)
+    (c : Carried w at to-host buffer count n a)
   where
-    pub host-byte-is : (k : ℕ) → transferBy (askedOf (v t s at passes)) .host-byte k ≡ buffer + k
+    pub host-byte-is : (k : ℕ) → transferBy (askedOf (v w at passes)) .host-byte k ≡ buffer + k
     host-byte-is k = rw (c .verdict)
 
-    pub came : (k : ℕ) → k < n * 64 → k < comes (askedOf (v t s at passes)) (namedDrive (v t s at passes)) .sectors * B (transferBy (askedOf (v t s at passes)) .geometry)
-    came k less = rw (sectors-come (v t s at passes), c .sectors, drives-geometry (askedOf (v t s at passes)), same) less
+    pub came : (k : ℕ) → k < n * 64 → k < comes (askedOf (v w at passes)) (namedDrive (v w at passes)) .sectors * B (transferBy (askedOf (v w at passes)) .geometry)
+    came k less = rw (sectors-come (v w at passes), c .sectors, drives-geometry (askedOf (v w at passes)), same) less
 
-    pub data-byte : (k : ℕ) → k < n * 64 → HostData (askedOf (v t s at passes)) (namedDrive (v t s at passes)) to-host (buffer + k)
+    pub data-byte : (k : ℕ) → k < n * 64 → HostData (askedOf (v w at passes)) (namedDrive (v w at passes)) to-host (buffer + k)
     data-byte k less = record { goes = rw (c .verdict); byte = k; moved = came k less; here = host-byte-is k }
 
 -- The transfers of one sector, and the read of two that a mark stops.
 module _
-    (t : Which) (s : Both) (at : ℕ) (passes : Passes at 1 (worldFor t s)) (byte mark : ℕ)
-    (same : namedDrive (v t s at passes) ≡ driveWith byte mark) (buffer : ℕ)
+    (w : World) (at : ℕ) (passes : Passes at 1 w) (byte mark : ℕ)
+    (same : namedDrive (v w at passes) ≡ driveWith byte mark) (buffer : ℕ)
   where
     abbrev Asks : Bool → ℕ → Type 0
-    Asks to-host count = taskOf (s .host) (blockOf (v t s at passes)) ≡ Task.Move (moveOf to-host 0 count buffer)
+    Asks to-host count = taskOf (w .host) (blockOf (v w at passes)) ≡ Task.Move (moveOf to-host 0 count buffer)
 
-    pub read-carried : Asks true 1 → InMemory (s .host) buffer 64 → Carried t s at true buffer 1 1 Ended
+    pub read-carried : Asks true 1 → InMemory (w .host) buffer 64 → Carried w at true buffer 1 1 Ended
     read-carried task held =
-        carried t s at passes byte mark same true buffer 1 task (omega arith) (omega arith) held 1 Ended (read-of-one _ refl buffer refl)
+        carried w at passes byte mark same true buffer 1 task (omega arith) (omega arith) held 1 Ended (read-of-one _ refl buffer refl)
 
-    pub write-carried : Asks false 1 → InMemory (s .host) buffer 64 → Carried t s at false buffer 1 1 Ended
+    pub write-carried : Asks false 1 → InMemory (w .host) buffer 64 → Carried w at false buffer 1 1 Ended
     write-carried task held =
-        carried t s at passes byte mark same false buffer 1 task (omega arith) (omega arith) held 1 Ended (write-of-one _ refl buffer)
+        carried w at passes byte mark same false buffer 1 task (omega arith) (omega arith) held 1 Ended (write-of-one _ refl buffer)
 
     pub read-stopped-carried :
-        mark ≡ 1 → Asks true 2 → InMemory (s .host) buffer 128 → Carried t s at true buffer 2 1 (Failed Refusal.Unreadable)
+        mark ≡ 1 → Asks true 2 → InMemory (w .host) buffer 128 → Carried w at true buffer 2 1 (Failed Refusal.Unreadable)
     read-stopped-carried bad task held =
-        carried t s at passes byte mark same true buffer 2 task (omega arith) (omega arith) held 1 _
+        carried w at passes byte mark same true buffer 2 task (omega arith) (omega arith) held 1 _
         (read-stopped _ refl buffer refl bad)

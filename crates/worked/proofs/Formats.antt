@@ -18,23 +18,23 @@ use Rattle.demands.specs.Footprint.{HostData, RunWrites, WritesHost, askedOf, n
 use Rattle.demands.specs.Footprint.HostWritten.{report}
 use Rattle.demands.specs.Visits.{Passes, Visit, blockOf}
 use Rattle.demands.proofs.Reports.{FormatTold, format-told}
-use Rattle.independence.specs.Chains.{Both, First, worldFor}
+use Rattle.block.specs.World.{World}
 use Rattle.worked.specs.TwoChains.{driveWith}
 use Rattle.worked.proofs.Carried.{Alone, alone, no-list, no-uib, no-way, v}
 use Rattle.worked.proofs.OneBlock.{by-block}
 use Rattle.worked.proofs.Tiny.{format-passes, track, unit}
 
 module _
-    (s : Both) (passes : Passes 0 1 (worldFor First s)) (byte mark : ℕ)
-    (same : namedDrive (v First s 0 passes) ≡ driveWith byte mark)
-    (task : taskOf (s .host) (blockOf (v First s 0 passes)) ≡ Task.Format track)
-    (held : InMemory (s .host) 256 64)
+    (w : World) (passes : Passes 0 1 w) (byte mark : ℕ)
+    (same : namedDrive (v w 0 passes) ≡ driveWith byte mark)
+    (task : taskOf (w .host) (blockOf (v w 0 passes)) ≡ Task.Format track)
+    (held : InMemory (w .host) 256 64)
   where
     abbrev b : Visit
-    b = v First s 0 passes
+    b = v w 0 passes
 
     pub format-judged-so : verdictOf b ≡ Verdict.Do (planOf (unit 0) (Task.Format track))
-    format-judged-so = rw (task, same) (format-passes (s .host) held)
+    format-judged-so = rw (task, same) (format-passes (w .controller) (w .host) held)
 
     taken : (x : ℕ) → HostData (askedOf b) (namedDrive b) false x → Among 256 64 x
     taken x d =
@@ -44,9 +44,9 @@ module _
     not-stored : (x : ℕ) → HostData (askedOf b) (namedDrive b) true x → ⊥
     not-stored x d = no-way (sym (rw format-judged-so at (d .goes)))
 
-    pub format-alone : Alone First 0 s (names b) ((0, 28) ∷ (256, 64) ∷ []) ((2, 2) ∷ (7, 3) ∷ [])
+    pub format-alone : Alone 0 w (names b) ((0, 28) ∷ (256, 64) ∷ []) ((2, 2) ∷ (7, 3) ∷ [])
     format-alone =
-        alone First s 0 passes ((256, 64) ∷ []) ((7, 3) ∷ [])
+        alone w 0 passes ((256, 64) ∷ []) ((7, 3) ∷ [])
         (λ x j. ⊎-elim (λ uib. absurd (no-uib _ _ _ x (λ s is. impossible (cc (task, is))) uib)) (λ list. absurd (no-list _ x (λ m is. impossible (cc (task, is))) list)) j)
         (λ x d. inl (taken x d))
         (λ x among. inl (subst (λ (verd : Verdict). Among (0 + wordsOf (reportOf verd) .from) (length (wordsOf (reportOf verd) .bytes)) x) format-judged-so among))
@@ -55,5 +55,5 @@ module _
     pub format-comes : FormatTold b
     format-comes = format-told b (passes .place .inside) ((track, task), (_, format-judged-so))
 
-    pub format-wrote : (x : ℕ) → Among 7 3 x → RunWrites 0 1 (worldFor First s) x
+    pub format-wrote : (x : ℕ) → Among 7 3 x → RunWrites 0 1 w x
     format-wrote x among = by-block 0 _ passes (λ v. WritesHost v x) (report (rw format-judged-so among))

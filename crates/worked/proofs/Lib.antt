@@ -7,3 +7,4 @@ pub mod Spared
 pub mod Starred
 pub mod Tiny
 pub mod TwoChains
+pub mod TwoControllers

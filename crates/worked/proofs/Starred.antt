@@ -14,6 +14,7 @@ use Rattle.judge.proofs.First.{never}
 use Rattle.judge.proofs.Tasks.{list-18, list-done, move-on, own, piece-done, span-17, span-last, span-on}
 use Rattle.request.specs.declared.Buffer.{Buffer}
 use Rattle.request.specs.declared.Move.{Move}
+use Rattle.unit.specs.declared.Controller.the-variants.{First}
 use Rattle.worked.specs.SmallDrive.{All, Holds, Judged, asking, drive, host, move, starred, unit}
 use Rattle.worked.specs.SmallDrive.Line.{reads, scatters, stands}
 use Rattle.worked.specs.SmallDrive.Says.{passes, refused}
@@ -33,19 +34,19 @@ module _ (n count image : ℕ) (b : Buffer) where
 
   -- It passes what it is asked of the unit; its sectors decide, and then its buffer.
   by-its-sectors : 0 < count → verdict (asking m image) ≡ fromSectors (asking m image) m
-  by-its-sectors some = own unit image host _ never ∙ move-on unit image host m counts present (λ none. omega arith)
+  by-its-sectors some = own First unit image host _ never refl ∙ move-on First unit image host m counts present (λ none. omega arith)
 
   outside-is-16 : (0 < count) × (80 < n + count) → Judged m n image (refused SectorOutside)
-  outside-is-16 is = by-its-sectors (is .0) ∙ span-last unit image host m n refl (is .0) (omega (arith, sectors-80))
+  outside-is-16 is = by-its-sectors (is .0) ∙ span-last First unit image host m n refl (is .0) (omega (arith, sectors-80))
 
   covered : (0 < count) × (n + count ≤ 80) → Covers unit Zero (Number.Is n) count
   covered is = omega (arith, sectors-80)
 
   short-is-17 : (0 < count) × (n + count ≤ 80) × (image < 7800) → Judged m n image (refused ImageShort)
-  short-is-17 is = by-its-sectors (is .0) ∙ span-17 unit image host m (covered (omega arith)) (omega (arith, need-7800))
+  short-is-17 is = by-its-sectors (is .0) ∙ span-17 First unit image host m (covered (omega arith)) (omega (arith, need-7800))
 
   by-its-buffer : (0 < count) × (n + count ≤ 80) × (7800 ≤ image) → verdict (asking m image) ≡ fromBuffer (asking m image) m
-  by-its-buffer is = by-its-sectors (is .0) ∙ span-on unit image host m (covered (omega arith)) (omega (arith, need-7800))
+  by-its-buffer is = by-its-sectors (is .0) ∙ span-on First unit image host m (covered (omega arith)) (omega (arith, need-7800))
 
 -- ---- by its buffer
 
@@ -54,19 +55,19 @@ read-passes :
 read-passes n count image is =
     let b = Buffer.Piece 512 in
     by-its-buffer n count image b is
-    ∙ piece-done unit image host (m n count image b) 512 refl n refl (piece-good (count * 64) (omega arith))
+    ∙ piece-done First unit image host (m n count image b) 512 refl n refl (piece-good (count * 64) (omega arith))
 
 list-of-64-passes : Holds (scatters 64 passes)
 list-of-64-passes =
     let b = Buffer.List 0 64 in
     by-its-buffer 0 64 7800 b (omega arith)
-    ∙ list-done unit 7800 host (m 0 64 7800 b) 0 64 refl list-good 0 refl ranges-good
+    ∙ list-done First unit 7800 host (m 0 64 7800 b) 0 64 refl list-good 0 refl ranges-good
 
 list-over-64-is-18 : (k : ℕ) → (64 < k) × (k ≤ 80) → Holds (scatters k (refused ListBad))
 list-over-64-is-18 k over =
     let b = Buffer.List 0 k in
     by-its-buffer 0 k 7800 b (omega arith)
-    ∙ list-18 unit 7800 host (m 0 k 7800 b) 0 k refl (λ good. omega (arith, good .most))
+    ∙ list-18 First unit 7800 host (m 0 k 7800 b) 0 k refl (λ good. omega (arith, good .most))
 
 -- ---- the table
 

@@ -34,9 +34,12 @@ use Rattle.transfer.specs.Data.{progressOn}
 use Rattle.transfer.specs.Progress.{Progress, progress, stopsAt}
 use Rattle.spares.proofs.Laws.{empty-is-good}
 use Rattle.unit.proofs.Laws.{no-pairs-lands-there}
+use Rattle.unit.specs.declared.Controller.{Controller}
+use Rattle.unit.specs.declared.Controller.the-variants.{First, Second}
+use Rattle.unit.specs.Holding.{heldByOther}
 use Rattle.unit.specs.Landing.{spotOf, trackOf}
 use Rattle.unit.specs.Landing.Behind.{spotAt-is, spotOf-is, trackOf-is}
-use Rattle.unit.specs.Standing.{CountsAsInitialized, UnitRecord, fresh, movedTo, noTracks}
+use Rattle.unit.specs.Standing.{CountsAsInitialized, UnitRecord, fresh, holder, movedTo, noTracks}
 use Rattle.worked.specs.TwoChains.{tiny}
 
 -- With its heads on a cylinder.
@@ -97,17 +100,22 @@ abbrev pub moveOf : Bool → ℕ → ℕ → ℕ → Move
 moveOf to-host n count at =
     record { «to_host» = to-host; «past_marks» = false; target = target n; count = count; buffer = Buffer.Piece at }
 
-module _ (host : List ℕ) (c : ℕ) (heads : c < 2) where
+-- Nobody holds it, so no controller is refused for that.
+pub free : (k : Controller) (c : ℕ) → heldByOther k (holder (unit c)) ≡ false
+free First c = refl
+free Second c = refl
+
+module _ (k : Controller) (host : List ℕ) (c : ℕ) (heads : c < 2) where
   pub move-passes :
       (to-host : Bool) (n count at : ℕ) → 0 < count → n + count ≤ 2 → InMemory host at (count * 64) →
-      verdict (on (unit c) 130 (Task.Move (moveOf to-host n count at)) host) ≡
+      verdict (on k (unit c) 130 (Task.Move (moveOf to-host n count at)) host) ≡
       Verdict.Do (carrying (jobOf (moveOf to-host n count at) n))
   move-passes to-host n count at some fits held =
       let m = moveOf to-host n count at in
-      own (unit c) 130 host _ never ∙
-      move-on (unit c) 130 host m (counts c heads) present (λ none. omega arith) ∙
-      span-on (unit c) 130 host m (span-covers (unit c) 130 host m n refl some (omega (arith, sectors-2))) (omega (arith, need-130)) ∙
-      piece-done (unit c) 130 host m at refl n refl held
+      own k (unit c) 130 host _ never (free k c) ∙
+      move-on k (unit c) 130 host m (counts c heads) present (λ none. omega arith) ∙
+      span-on k (unit c) 130 host m (span-covers k (unit c) 130 host m n refl some (omega (arith, sectors-2))) (omega (arith, need-130)) ∙
+      piece-done k (unit c) 130 host m at refl n refl held
 
 -- A format of the first track, with its data at 256.
 abbrev pub track : Track
@@ -118,13 +126,13 @@ pub heads-there : trackOf (unit 0) (track .cylinder) (track .head) .cylinder ≡
 heads-there = rw (trackOf-is, no-pairs-lands-there (unit 0) refl, spotAt-is)
 
 pub format-passes :
-    (host : List ℕ) → InMemory host 256 64 →
-    verdict (on (unit 0) 130 (Task.Format track) host) ≡ Verdict.Do (planOf (unit 0) (Task.Format track))
-format-passes host held =
-    own (unit 0) 130 host _ never ∙
-    format-on (unit 0) 130 host track (counts 0 (omega arith))
+    (k : Controller) (host : List ℕ) → InMemory host 256 64 →
+    verdict (on k (unit 0) 130 (Task.Format track) host) ≡ Verdict.Do (planOf (unit 0) (Task.Format track))
+format-passes k host held =
+    own k (unit 0) 130 host _ never (free k 0) ∙
+    format-on k (unit 0) 130 host track (counts 0 (omega arith))
     (record { cylinder = omega arith; head = omega (arith, heads-1); sector = omega arith })
-    (omega (arith, need-130)) ∙ data-done (unit 0) 130 host track held
+    (omega (arith, need-130)) ∙ data-done k (unit 0) 130 host track held
 
 -- ---- what stops a transfer
 

@@ -29,6 +29,7 @@ use Rattle.judge.proofs.First.{never}
 use Rattle.judge.proofs.Locality.{placed-uib-read}
 use Rattle.wire.proofs.Promises.{never as impossible}
 use Rattle.judge.proofs.Tasks.{format-11, handshake, move-11, own, restore-done, restore-refused, shape-given, shape-outside}
+use Rattle.unit.specs.declared.Controller.the-variants.{First as FirstController}
 use Rattle.unit.specs.Standing.{CountsAsInitialized, fresh}
 use Rattle.transfer.specs.Data.{dataOn}
 use Rattle.transfer.specs.Progress.{progress, stopsAt}
@@ -46,7 +47,7 @@ use Rattle.demands.specs.Visits.{Passes, Visit, blockOf, worldLeft}
 use Rattle.demands.proofs.Reports.{FormatTold}
 use Rattle.demands.proofs.VersionTwo.{disk-byte-is-there}
 use Rattle.demands.proofs.Written.{effect-is}
-use Rattle.independence.specs.Chains.{Both, Cell, First, HostReads, HostWrites, Second, Told, Which, both, drive, eventBuffer, hostByte, leaving, runOf, told, worldFor}
+use Rattle.independence.specs.Chains.{Both, Cell, First, HostReads, HostWrites, Second, Told, both, drive, eventBuffer, hostByte, leaving, runOf, told}
 use Rattle.independence.specs.Demand3.{EitherWay, Independent, NoUnitInCommon, NoByteReadByOther, NoByteWrittenByBoth}
 use Rattle.independence.specs.Local.{LeadsAlike}
 use Rattle.independence.specs.Reads.{ReadsHost}
@@ -56,69 +57,40 @@ use Rattle.independence.proofs.Demand3.{run-local}
 use Rattle.independence.proofs.Steps.{unnoticed}
 use Rattle.request.specs.declared.Task.{Task}
 use Rattle.request.specs.declared.UnitNumber.the-variants.{Zero, One}
-use Rattle.worked.specs.TwoChains.{adjacent, besideFormat, come, driveWith, formatRead, newDrive, ofFirst, ofSecond, one, readByOther, refusedData, refusedFormat, sharedUnit, stoppedRead, tiny, two, writtenTwice, Met, Fails}
-use Rattle.worked.proofs.Carried.{Alone, Carried, alone, came, comes-still, data-byte, differ, host-byte-is, idle, initialized, met, no-list, no-list-of-a-piece, no-uib, no-unit, no-way, none-read, none-twice, passes-at, read-carried, read-stopped-carried, silent, still, v, write-carried}
+use Rattle.worked.specs.TwoChains.{adjacent, besideFormat, come, driveWith, firstIn, formatRead, newDrive, ofFirst, ofSecond, one, readByOther, refusedData, refusedFormat, secondIn, sharedUnit, stoppedRead, tiny, two, writtenTwice, Met, Fails}
+use Rattle.worked.proofs.Carried.{Alone, Carried, alone, came, comes-done, comes-refused, data-byte, differ, fails-otherwise, host-byte-is, idle, initialized, met, no-list, no-list-of-a-piece, no-uib, no-unit, no-way, none-read, none-twice, passes-at, read-carried, read-stopped-carried, silent, still, v, write-carried}
 use Rattle.worked.proofs.Formats.{format-alone, format-comes, format-judged-so, format-wrote}
 use Rattle.worked.proofs.OneBlock.{In, by-block, done, failed, leaves}
 use Rattle.worked.proofs.Tiny.{counts, heads-there, moveOf, place-is, track, unit}
 
 abbrev first-of : Both → Visit
-first-of s = record { at = 0; index = 0; world = worldFor First s }
+first-of s = record { at = 0; index = 0; world = firstIn s }
 
 abbrev second-of : Both → Visit
-second-of s = record { at = 28; index = 0; world = worldFor Second s }
+second-of s = record { at = 28; index = 0; world = secondIn s }
 
 -- Both chains of a pair pass checks 1, 2 and 3.
-both-pass :
-    (s : Both) → length (s .events1) ≡ 512 → length (s .events2) ≡ 512 → 56 ≤ length (s .host) →
-    Passes 0 1 (worldFor First s) × Passes 28 1 (worldFor Second s)
+pub both-pass :
+    (s : Both) → length (s .events1) ≡ 512 → length (s .events2) ≡ 512 → 56 ≤ length (s .host1) →
+    Passes 0 1 (firstIn s) × Passes 28 1 (secondIn s)
 both-pass s events1 events2 long =
-    (passes-at First s 0 events1 refl (omega arith), passes-at Second s 28 events2 refl long)
-
--- What a chain comes to that moves nothing: one that is done, and one that is refused.
-second-done :
-    (s : Both) → Passes 28 1 (worldFor Second s) → blockOf (second-of s) .options .link ≡ false → (p : Plan) →
-    verdictOf (second-of s) ≡ Verdict.Do p → p .moving ≡ Moving.Nothing → ofSecond s ≡ come RunAnswer.Done 0 0
-second-done s passes unlinked p is moves =
-    let e = comes-still (second-of s) p is moves in
-    ap told (done 28 _ passes unlinked 0 (e .1) (e .0))
-
-second-refused :
-    (s : Both) → Passes 28 1 (worldFor Second s) → (r : Refusal) → verdictOf (second-of s) ≡ Verdict.Refused r →
-    ofSecond s ≡ come RunAnswer.BlockFailed (refusalNumber r) 0
-second-refused s passes r is =
-    let e = refusal-moves-nothing (second-of s) r is in
-    ap told (failed 28 _ passes r 0 (e .1) (e .0))
-
-first-refused :
-    (s : Both) → Passes 0 1 (worldFor First s) → (r : Refusal) → verdictOf (first-of s) ≡ Verdict.Refused r →
-    ofFirst s ≡ come RunAnswer.BlockFailed (refusalNumber r) 0
-first-refused s passes r is =
-    let e = refusal-moves-nothing (first-of s) r is in
-    ap told (failed 0 _ passes r 0 (e .1) (e .0))
-
--- The orders differ where the second fails otherwise after the first than it does alone.
-fails-otherwise :
-    (s then : Both) (after-it alone-it : Told) → runOf First one .left s ≡ then → ofSecond then ≡ after-it → ofSecond s ≡ alone-it →
-    (after-it .failed ≡ alone-it .failed → ⊥) → EitherWay one two s → ⊥
-fails-otherwise s then after-it alone-it left comes comes-alone differs e =
-    differs (ap (λ t. t .failed) (sym comes ∙ ap ofSecond (sym left) ∙ e .second ∙ comes-alone))
+    (passes-at (firstIn s) 0 events1 refl (omega arith), passes-at (secondIn s) 28 events2 refl long)
 
 -- ---- adjacent buffers
 
-adjacent-pass : Passes 0 1 (worldFor First adjacent) × Passes 28 1 (worldFor Second adjacent)
+adjacent-pass : Passes 0 1 (firstIn adjacent) × Passes 28 1 (secondIn adjacent)
 adjacent-pass = both-pass adjacent refl refl (omega arith)
 
-adjacent-read : Carried First adjacent 0 true 56 1 1 Ended
+adjacent-read : Carried (firstIn adjacent) 0 true 56 1 1 Ended
 unfolding word taskOf
-adjacent-read = read-carried First adjacent 0 (adjacent-pass .0) 7 0 refl 56 refl (omega arith)
+adjacent-read = read-carried (firstIn adjacent) 0 (adjacent-pass .0) 7 0 refl 56 refl (omega arith)
 
-adjacent-write : Carried Second adjacent 28 false 120 1 1 Ended
+adjacent-write : Carried (secondIn adjacent) 28 false 120 1 1 Ended
 unfolding word taskOf
-adjacent-write = write-carried Second adjacent 28 (adjacent-pass .1) 9 0 refl 120 refl (omega arith)
+adjacent-write = write-carried (secondIn adjacent) 28 (adjacent-pass .1) 9 0 refl 120 refl (omega arith)
 
 adjacent-met : Independent one two adjacent
-adjacent-met = met (adjacent-read .footprint) (adjacent-write .footprint) differ (omega arith) (omega arith) (omega arith)
+adjacent-met = met adjacent (adjacent-read .footprint) (adjacent-write .footprint) differ (omega arith) (omega arith) (omega arith)
 
 both-move : (ofFirst adjacent ≡ come RunAnswer.Done 0 1) × (ofSecond adjacent ≡ come RunAnswer.Done 0 1)
 both-move = (
@@ -131,81 +103,81 @@ both-move = (
 not-ready : CountsAsInitialized (newDrive .unit) → ⊥
 not-ready counts = no-way (sym (counts .said))
 
-refused-pass : Passes 0 1 (worldFor First refusedData) × Passes 28 1 (worldFor Second refusedData)
+refused-pass : Passes 0 1 (firstIn refusedData) × Passes 28 1 (secondIn refusedData)
 refused-pass = both-pass refusedData refl refl (omega arith)
 
 refused-write : verdictOf (first-of refusedData) ≡ Verdict.Refused Refusal.NotInitialized
 unfolding word taskOf
-refused-write = own _ _ _ _ never ∙ move-11 (newDrive .unit) 0 (refusedData .host) (moveOf false 0 1 28) not-ready
+refused-write = own _ _ _ _ _ never refl ∙ move-11 FirstController (newDrive .unit) 0 (refusedData .host1) (moveOf false 0 1 28) not-ready
 
-refused-first : Alone First 0 refusedData Zero ((0, 28) ∷ []) ((2, 2) ∷ [])
+refused-first : Alone 0 (firstIn refusedData) Zero ((0, 28) ∷ []) ((2, 2) ∷ [])
 unfolding word taskOf
 refused-first =
-    alone First refusedData 0 (refused-pass .0) [] []
+    alone (firstIn refusedData) 0 (refused-pass .0) [] []
     (λ x j. ⊎-elim (λ uib. absurd (no-uib _ _ _ x (λ s is. impossible cc) uib)) (λ list. absurd (no-list-of-a-piece _ (moveOf false 0 1 28) 28 x refl refl list)) j)
-    (still First refusedData 0 (refused-pass .0) _ refused-write refl false) (silent First refusedData 0 (refused-pass .0) _ refused-write refl)
-    (still First refusedData 0 (refused-pass .0) _ refused-write refl true)
+    (still (firstIn refusedData) 0 (refused-pass .0) _ refused-write refl false) (silent (firstIn refusedData) 0 (refused-pass .0) _ refused-write refl)
+    (still (firstIn refusedData) 0 (refused-pass .0) _ refused-write refl true)
 
-refused-read : Carried Second refusedData 28 true 56 1 1 Ended
+refused-read : Carried (secondIn refusedData) 28 true 56 1 1 Ended
 unfolding word taskOf
-refused-read = read-carried Second refusedData 28 (refused-pass .1) 9 0 refl 56 refl (omega arith)
+refused-read = read-carried (secondIn refusedData) 28 (refused-pass .1) 9 0 refl 56 refl (omega arith)
 
 refused-met : Independent one two refusedData
-refused-met = met refused-first (refused-read .footprint) differ (omega arith) (omega arith) (omega arith)
+refused-met = met refusedData refused-first (refused-read .footprint) differ (omega arith) (omega arith) (omega arith)
 
 data-not-read :
-    (ofFirst refusedData ≡ come RunAnswer.BlockFailed 11 0) × (Among 28 64 30 × HostWrites two (worldFor Second refusedData) 30)
+    (ofFirst refusedData ≡ come RunAnswer.BlockFailed 11 0) × (Among 28 64 30 × HostWrites two (secondIn refusedData) 30)
 data-not-read = (
-  first-refused refusedData (refused-pass .0) _ refused-write,
+  comes-refused (firstIn refusedData) 0 (refused-pass .0) _ refused-write,
   (omega arith, by-block 28 _ (refused-pass .1) (λ v. WritesHost v 30) (status-word (omega arith))),
 )
 
 -- ---- the rest of a stopped read
 
-stopped-pass : Passes 0 1 (worldFor First stoppedRead) × Passes 28 1 (worldFor Second stoppedRead)
+stopped-pass : Passes 0 1 (firstIn stoppedRead) × Passes 28 1 (secondIn stoppedRead)
 stopped-pass = both-pass stoppedRead refl refl (omega arith)
 
-stopped-read : Carried First stoppedRead 0 true 56 2 1 (Failed Refusal.Unreadable)
+stopped-read : Carried (firstIn stoppedRead) 0 true 56 2 1 (Failed Refusal.Unreadable)
 unfolding word taskOf
-stopped-read = read-stopped-carried First stoppedRead 0 (stopped-pass .0) 7 1 refl 56 refl refl (omega arith)
+stopped-read = read-stopped-carried (firstIn stoppedRead) 0 (stopped-pass .0) 7 1 refl 56 refl refl (omega arith)
 
-stopped-write : Carried Second stoppedRead 28 false 120 1 1 Ended
+stopped-write : Carried (secondIn stoppedRead) 28 false 120 1 1 Ended
 unfolding word taskOf
-stopped-write = write-carried Second stoppedRead 28 (stopped-pass .1) 9 0 refl 120 refl (omega arith)
+stopped-write = write-carried (secondIn stoppedRead) 28 (stopped-pass .1) 9 0 refl 120 refl (omega arith)
 
 stopped-met : Independent one two stoppedRead
-stopped-met = met (stopped-read .footprint) (stopped-write .footprint) differ (omega arith) (omega arith) (omega arith)
+stopped-met = met stoppedRead (stopped-read .footprint) (stopped-write .footprint) differ (omega arith) (omega arith) (omega arith)
 
 rest-not-written :
-    (ofFirst stoppedRead ≡ come RunAnswer.BlockFailed 20 1) × (Among 56 128 120 × HostReads two (worldFor Second stoppedRead) 120)
+    (ofFirst stoppedRead ≡ come RunAnswer.BlockFailed 20 1) × (Among 56 128 120 × HostReads two (secondIn stoppedRead) 120)
 rest-not-written = (
   ap told (failed 0 _ (stopped-pass .0) Refusal.Unreadable 1 (stopped-read .answer) (stopped-read .sectors)),
   (
     omega arith,
     by-block 28 _ (stopped-pass .1) (λ v. ReadsHost v 120)
-        (taken (data-byte Second stoppedRead 28 (stopped-pass .1) 9 0 refl false 120 1 1 Ended stopped-write 0 (omega arith))),
+        (taken (data-byte (secondIn stoppedRead) 28 (stopped-pass .1) 9 0 refl false 120 1 1 Ended stopped-write 0 (omega arith))),
   ),
 )
 
 -- ---- beside what a format reports
 
-beside-pass : Passes 0 1 (worldFor First besideFormat) × Passes 28 1 (worldFor Second besideFormat)
+beside-pass : Passes 0 1 (firstIn besideFormat) × Passes 28 1 (secondIn besideFormat)
 beside-pass = both-pass besideFormat refl refl (omega arith)
 
-beside-first : Alone First 0 besideFormat Zero ((0, 28) ∷ (256, 64) ∷ []) ((2, 2) ∷ (7, 3) ∷ [])
+beside-first : Alone 0 (firstIn besideFormat) Zero ((0, 28) ∷ (256, 64) ∷ []) ((2, 2) ∷ (7, 3) ∷ [])
 unfolding word taskOf
-beside-first = format-alone besideFormat (beside-pass .0) 7 0 refl refl (omega arith)
+beside-first = format-alone (firstIn besideFormat) (beside-pass .0) 7 0 refl refl (omega arith)
 
 beside-told : FormatTold (first-of besideFormat)
 unfolding word taskOf
-beside-told = format-comes besideFormat (beside-pass .0) 7 0 refl refl (omega arith)
+beside-told = format-comes (firstIn besideFormat) (beside-pass .0) 7 0 refl refl (omega arith)
 
-beside-second : Carried Second besideFormat 28 false 10 1 1 Ended
+beside-second : Carried (secondIn besideFormat) 28 false 10 1 1 Ended
 unfolding word taskOf
-beside-second = write-carried Second besideFormat 28 (beside-pass .1) 9 0 refl 10 refl (omega arith)
+beside-second = write-carried (secondIn besideFormat) 28 (beside-pass .1) 9 0 refl 10 refl (omega arith)
 
 beside-met : Independent one two besideFormat
-beside-met = met beside-first (beside-second .footprint) differ (omega arith) (omega arith) (omega arith)
+beside-met = met besideFormat beside-first (beside-second .footprint) differ (omega arith) (omega arith) (omega arith)
 
 word-1-or-words : (x : ℕ) → In ((2, 2) ∷ (7, 3) ∷ []) x → Among 2 2 x ⊎ Among 7 3 x
 word-1-or-words x (inl here) = inl here
@@ -214,8 +186,8 @@ word-1-or-words x (inr (inr none)) = absurd none
 
 three-bytes-written :
     (ofFirst besideFormat ≡ come RunAnswer.Done 0 1) ×
-    (((x : ℕ) → HostWrites one (worldFor First besideFormat) x ↔ (Among 2 2 x ⊎ Among 7 3 x)) ×
-    HostReads two (worldFor Second besideFormat) 10)
+    (((x : ℕ) → HostWrites one (firstIn besideFormat) x ↔ (Among 2 2 x ⊎ Among 7 3 x)) ×
+    HostReads two (secondIn besideFormat) 10)
 unfolding word taskOf
 three-bytes-written = (
   ap told (done 0 _ (beside-pass .0) refl 1 (beside-told .ended) (beside-told .counted)),
@@ -224,41 +196,41 @@ three-bytes-written = (
       λ w. word-1-or-words x (beside-first .writes-there x w),
       λ lies.
           ⊎-elim (λ word-1. by-block 0 _ (beside-pass .0) (λ v. WritesHost v x) (status-word word-1))
-          (format-wrote besideFormat (beside-pass .0) 7 0 refl refl (omega arith) x) lies,
+          (format-wrote (firstIn besideFormat) (beside-pass .0) 7 0 refl refl (omega arith) x) lies,
     ),
     by-block 28 _ (beside-pass .1) (λ v. ReadsHost v 10)
-        (taken (data-byte Second besideFormat 28 (beside-pass .1) 9 0 refl false 10 1 1 Ended beside-second 0 (omega arith))),
+        (taken (data-byte (secondIn besideFormat) 28 (beside-pass .1) 9 0 refl false 10 1 1 Ended beside-second 0 (omega arith))),
   ),
 )
 
 -- ---- what a refused format would have reported
 
-refused-format-pass : Passes 0 1 (worldFor First refusedFormat) × Passes 28 1 (worldFor Second refusedFormat)
+refused-format-pass : Passes 0 1 (firstIn refusedFormat) × Passes 28 1 (secondIn refusedFormat)
 refused-format-pass = both-pass refusedFormat refl refl (omega arith)
 
 refused-format : verdictOf (first-of refusedFormat) ≡ Verdict.Refused Refusal.NotInitialized
 unfolding word taskOf
-refused-format = own _ _ _ _ never ∙ format-11 (newDrive .unit) 0 (refusedFormat .host) track not-ready
+refused-format = own _ _ _ _ _ never refl ∙ format-11 FirstController (newDrive .unit) 0 (refusedFormat .host1) track not-ready
 
-refused-format-first : Alone First 0 refusedFormat Zero ((0, 28) ∷ []) ((2, 2) ∷ [])
+refused-format-first : Alone 0 (firstIn refusedFormat) Zero ((0, 28) ∷ []) ((2, 2) ∷ [])
 unfolding word taskOf
-refused-format-first = idle First refusedFormat 0 (refused-format-pass .0) _ refused-format refl refl (λ s is. impossible cc) (λ m is. impossible cc)
+refused-format-first = idle (firstIn refusedFormat) 0 (refused-format-pass .0) _ refused-format refl refl (λ s is. impossible cc) (λ m is. impossible cc)
 
-refused-format-second : Carried Second refusedFormat 28 false 6 1 1 Ended
+refused-format-second : Carried (secondIn refusedFormat) 28 false 6 1 1 Ended
 unfolding word taskOf
-refused-format-second = write-carried Second refusedFormat 28 (refused-format-pass .1) 9 0 refl 6 refl (omega arith)
+refused-format-second = write-carried (secondIn refusedFormat) 28 (refused-format-pass .1) 9 0 refl 6 refl (omega arith)
 
 refused-format-met : Independent one two refusedFormat
-refused-format-met = met refused-format-first (refused-format-second .footprint) differ (omega arith) (omega arith) (omega arith)
+refused-format-met = met refusedFormat refused-format-first (refused-format-second .footprint) differ (omega arith) (omega arith) (omega arith)
 
 words-not-written :
-    (ofFirst refusedFormat ≡ come RunAnswer.BlockFailed 11 0) × ((x : ℕ) → Among 7 3 x → HostReads two (worldFor Second refusedFormat) x)
+    (ofFirst refusedFormat ≡ come RunAnswer.BlockFailed 11 0) × ((x : ℕ) → Among 7 3 x → HostReads two (secondIn refusedFormat) x)
 words-not-written = (
-  first-refused refusedFormat (refused-format-pass .0) _ refused-format,
+  comes-refused (firstIn refusedFormat) 0 (refused-format-pass .0) _ refused-format,
   λ x among.
       let here : 6 + (x - 6) ≡ x = omega arith in
       by-block 28 _ (refused-format-pass .1) (λ v. ReadsHost v x)
-      (taken (rw here at (data-byte Second refusedFormat 28 (refused-format-pass .1) 9 0 refl false 6 1 1 Ended refused-format-second (x - 6) (omega arith)))),
+      (taken (rw here at (data-byte (secondIn refusedFormat) 28 (refused-format-pass .1) 9 0 refl false 6 1 1 Ended refused-format-second (x - 6) (omega arith)))),
 )
 
 pub met-pairs : Met
@@ -278,74 +250,74 @@ met-pairs =
 
 -- ---- a byte that both write
 
-twice-pass : Passes 0 1 (worldFor First writtenTwice) × Passes 28 1 (worldFor Second writtenTwice)
+twice-pass : Passes 0 1 (firstIn writtenTwice) × Passes 28 1 (secondIn writtenTwice)
 twice-pass = both-pass writtenTwice refl refl (omega arith)
 
-twice-first : Carried First writtenTwice 0 true 56 1 1 Ended
+twice-first : Carried (firstIn writtenTwice) 0 true 56 1 1 Ended
 unfolding word taskOf
-twice-first = read-carried First writtenTwice 0 (twice-pass .0) 7 0 refl 56 refl (omega arith)
+twice-first = read-carried (firstIn writtenTwice) 0 (twice-pass .0) 7 0 refl 56 refl (omega arith)
 
-twice-second : Carried Second writtenTwice 28 true 56 1 1 Ended
+twice-second : Carried (secondIn writtenTwice) 28 true 56 1 1 Ended
 unfolding word taskOf
-twice-second = read-carried Second writtenTwice 28 (twice-pass .1) 9 0 refl 56 refl (omega arith)
+twice-second = read-carried (secondIn writtenTwice) 28 (twice-pass .1) 9 0 refl 56 refl (omega arith)
 
 -- Byte 56 gets the byte of the disk that was read.
 module _
-    (t : Which) (s : Both) (at : ℕ) (passes : Passes at 1 (worldFor t s)) (byte mark : ℕ)
-    (same : namedDrive (v t s at passes) ≡ driveWith byte mark) (c : Carried t s at true 56 1 1 Ended)
+    (w : World) (at : ℕ) (passes : Passes at 1 w) (byte mark : ℕ)
+    (same : namedDrive (v w at passes) ≡ driveWith byte mark) (c : Carried w at true 56 1 1 Ended)
   where
     abbrev u : Visit
-    u = v t s at passes
+    u = v w at passes
 
-    wrote-56 : RunWrites at 1 (worldFor t s) 56
-    wrote-56 = by-block at _ passes (λ v. WritesHost v 56) (given (data-byte t s at passes byte mark same true 56 1 1 Ended c 0 (omega arith)))
+    pub wrote-56 : RunWrites at 1 w 56
+    wrote-56 = by-block at _ passes (λ v. WritesHost v 56) (given (data-byte w at passes byte mark same true 56 1 1 Ended c 0 (omega arith)))
 
-    left-56 : (Among (at + 2) 2 56 → ⊥) → 56 < length (s .host) → getD (worldLeft u .host) 56 0 ≡ byte
+    left-56 : (Among (at + 2) 2 56 → ⊥) → 56 < length (w .host) → getD (worldLeft u .host) 56 0 ≡ byte
     left-56 clear room =
-        let lies = host-byte-is t s at passes byte mark same true 56 1 1 Ended c in
+        let lies = host-byte-is w at passes byte mark same true 56 1 1 Ended c in
         let reads : transferBy (askedOf u) .to-host ≡ true = rw (c .verdict) in
         ap (λ (n : ℕ). getD (worldLeft u .host) n 0) (sym (lies 0)) ∙
-        disk-byte-is-there u reads 0 (came t s at passes byte mark same true 56 1 1 Ended c 0 (omega arith)) (omega (arith, lies 0))
+        disk-byte-is-there u reads 0 (came w at passes byte mark same true 56 1 1 Ended c 0 (omega arith)) (omega (arith, lies 0))
         (λ i later less again. omega (arith, lies i, lies 0, again)) (λ among. clear (omega (arith, lies 0, among))) ∙
         rw (c .verdict, same, place-is 0 0, firstByte-is tiny 0)
 
 -- A second chain that names another unit and reads no byte that the first writes goes after the first as it goes alone.
 module _ (s : Both) (units : NoUnitInCommon one two s) (read : NoByteReadByOther one two s) where
   unread : (c : Cell) → runOf First one .Writes s c → runOf Second two .Reads s c → ⊥
-  unread (hostByte x) w r = read x .0 w r
+  unread (hostByte c x) w r = read refl x .0 (w .1) (r .1)
   unread (drive n) w r = units n w r
   unread (eventBuffer k) w r = no-chain-is-both (w .0 ∙ sym (r .0))
 
   as-alone : LeadsAlike both (runOf Second two) s (runOf First one .left s)
   as-alone = unnoticed both (runOf Second two) (runOf First one) (run-local Second two) (run-local First one) s unread
 
-wrote-first : HostWrites one (worldFor First writtenTwice) 56
-wrote-first = wrote-56 First writtenTwice 0 (twice-pass .0) 7 0 refl twice-first
+wrote-first : HostWrites one (firstIn writtenTwice) 56
+wrote-first = wrote-56 (firstIn writtenTwice) 0 (twice-pass .0) 7 0 refl twice-first
 
-wrote-second : HostWrites two (worldFor Second writtenTwice) 56
-wrote-second = wrote-56 Second writtenTwice 28 (twice-pass .1) 9 0 refl twice-second
+wrote-second : HostWrites two (secondIn writtenTwice) 56
+wrote-second = wrote-56 (secondIn writtenTwice) 28 (twice-pass .1) 9 0 refl twice-second
 
 units-apart : NoUnitInCommon one two writtenTwice
-units-apart = no-unit (twice-first .footprint) (twice-second .footprint) differ
+units-apart = no-unit writtenTwice (twice-first .footprint) (twice-second .footprint) differ
 
 reads-apart : NoByteReadByOther one two writtenTwice
-reads-apart = none-read (twice-first .footprint) (twice-second .footprint) (omega arith) (omega arith)
+reads-apart = none-read writtenTwice (twice-first .footprint) (twice-second .footprint) (omega arith) (omega arith)
 
 twice-differs : EitherWay one two writtenTwice → ⊥
 twice-differs e =
     let s = writtenTwice in
-    let by-one : getD (runOf First one .left s .host) 56 0 ≡ 7 =
-    ap (λ w. getD (w .host) 56 0) (leaves 0 (worldFor First s) (twice-pass .0) refl) ∙
-    left-56 First s 0 (twice-pass .0) 7 0 refl twice-first (λ among. omega arith) (omega arith) in
-    let by-two : getD (runOf Second two .left s .host) 56 0 ≡ 9 =
-    ap (λ w. getD (w .host) 56 0) (leaves 28 (worldFor Second s) (twice-pass .1) refl) ∙
-    left-56 Second s 28 (twice-pass .1) 9 0 refl twice-second (λ among. omega arith) (omega arith) in
+    let by-one : getD (runOf First one .left s .host1) 56 0 ≡ 7 =
+    ap (λ w. getD (w .host) 56 0) (leaves 0 (firstIn s) (twice-pass .0) refl) ∙
+    left-56 (firstIn s) 0 (twice-pass .0) 7 0 refl twice-first (λ among. omega arith) (omega arith) in
+    let by-two : getD (runOf Second two .left s .host1) 56 0 ≡ 9 =
+    ap (λ w. getD (w .host) 56 0) (leaves 28 (secondIn s) (twice-pass .1) refl) ∙
+    left-56 (secondIn s) 28 (twice-pass .1) 9 0 refl twice-second (λ among. omega arith) (omega arith) in
     omega (
       arith,
       by-one,
       by-two,
-      as-alone s units-apart reads-apart .stored (hostByte 56) wrote-second,
-      e .by-first (hostByte 56) wrote-first,
+      as-alone s units-apart reads-apart .stored (hostByte FirstController 56) (refl, wrote-second),
+      e .by-first (hostByte FirstController 56) (refl, wrote-first),
     )
 
 -- ---- a unit in common
@@ -353,57 +325,57 @@ twice-differs e =
 within-tiny : Within tiny
 within-tiny = counts 0 (omega arith) .within
 
-shared-pass : Passes 0 1 (worldFor First sharedUnit) × Passes 28 1 (worldFor Second sharedUnit)
+shared-pass : Passes 0 1 (firstIn sharedUnit) × Passes 28 1 (secondIn sharedUnit)
 shared-pass = both-pass sharedUnit refl refl (omega arith)
 
 shared-initialize : verdictOf (first-of sharedUnit) ≡ Verdict.Do (only (Leaving.Fresh tiny))
 unfolding word taskOf
 shared-initialize =
-    rw (shapeAt-inside (sharedUnit .host) 32 (omega arith))
-    (own _ _ _ _ never ∙ shape-given (newDrive .unit) 0 (sharedUnit .host) tiny within-tiny)
+    rw (shapeAt-inside (sharedUnit .host1) 32 (omega arith))
+    (own _ _ _ _ _ never refl ∙ shape-given FirstController (newDrive .unit) 0 (sharedUnit .host1) tiny within-tiny)
 
 shared-restore : verdictOf (second-of sharedUnit) ≡ Verdict.Refused Refusal.NotInitialized
 unfolding word taskOf
-shared-restore = own _ _ _ _ never ∙ restore-refused (newDrive .unit) 0 (sharedUnit .host) not-ready
+shared-restore = own _ _ _ _ _ never refl ∙ restore-refused FirstController (newDrive .unit) 0 (sharedUnit .host1) not-ready
 
-shared-first : Alone First 0 sharedUnit Zero ((0, 28) ∷ (32, 18) ∷ []) ((2, 2) ∷ [])
+shared-first : Alone 0 (firstIn sharedUnit) Zero ((0, 28) ∷ (32, 18) ∷ []) ((2, 2) ∷ [])
 unfolding word taskOf
-shared-first = initialized First sharedUnit 0 (shared-pass .0) _ shared-initialize refl refl 32 refl (λ m is. impossible cc)
+shared-first = initialized (firstIn sharedUnit) 0 (shared-pass .0) _ shared-initialize refl refl 32 refl (λ m is. impossible cc)
 
-shared-second : Alone Second 28 sharedUnit Zero ((28, 28) ∷ []) ((30, 2) ∷ [])
+shared-second : Alone 28 (secondIn sharedUnit) Zero ((28, 28) ∷ []) ((30, 2) ∷ [])
 unfolding word taskOf
-shared-second = idle Second sharedUnit 28 (shared-pass .1) _ shared-restore refl refl (λ s is. impossible cc) (λ m is. impossible cc)
+shared-second = idle (secondIn sharedUnit) 28 (shared-pass .1) _ shared-restore refl refl (λ s is. impossible cc) (λ m is. impossible cc)
 
 -- What the initialize leaves, and the restore after it.
 abbrev initialized-world : World
 initialized-world =
-    let w = worldFor First sharedUnit in
+    let w = firstIn sharedUnit in
     changed w Zero (after (begun 0 ++ finish (blockAt (w .host) 0) 0 0 Ended (pos 0)) (buffersOf w Zero)) (fresh tiny)
 
-initialize-leaves : runOf First one .left sharedUnit ≡ leaving First sharedUnit initialized-world
+initialize-leaves : runOf First one .left sharedUnit ≡ leaving First FirstController sharedUnit initialized-world
 unfolding worldAfter bytesFrom dataOn progress upTo
 initialize-leaves =
-    ap (leaving First sharedUnit)
-    (leaves 0 (worldFor First sharedUnit) (shared-pass .0) refl ∙ rw (effect-is (first-of sharedUnit), shared-initialize))
+    ap (leaving First FirstController sharedUnit) {y = initialized-world}
+    (leaves 0 (firstIn sharedUnit) (shared-pass .0) refl ∙ rw (effect-is (first-of sharedUnit), shared-initialize))
 
 abbrev then-shared : Both
-then-shared = leaving First sharedUnit initialized-world
+then-shared = leaving First FirstController sharedUnit initialized-world
 
-then-passes : Passes 28 1 (worldFor Second then-shared)
+then-passes : Passes 28 1 (secondIn then-shared)
 unfolding after bytesFrom
-then-passes = passes-at Second then-shared 28 refl refl (omega arith)
+then-passes = passes-at (secondIn then-shared) 28 refl refl (omega arith)
 
 then-restore : verdictOf (second-of then-shared) ≡ Verdict.Do (only (Leaving.HeadsAt 0))
 unfolding word taskOf after bytesFrom
-then-restore = own _ _ _ _ never ∙ restore-done (unit 0) 0 (then-shared .host) (counts 0 (omega arith))
+then-restore = own _ _ _ _ _ never refl ∙ restore-done FirstController (unit 0) 0 (then-shared .host1) (counts 0 (omega arith))
 
 then-comes : ofSecond then-shared ≡ come RunAnswer.Done 0 0
 unfolding after bytesFrom
-then-comes = second-done then-shared then-passes refl _ then-restore refl
+then-comes = comes-done (secondIn then-shared) 28 then-passes refl _ then-restore refl
 
 shared-differs : EitherWay one two sharedUnit → ⊥
 shared-differs =
-    fails-otherwise sharedUnit then-shared _ _ initialize-leaves then-comes (second-refused sharedUnit (shared-pass .1) _ shared-restore)
+    fails-otherwise FirstController FirstController sharedUnit then-shared _ _ initialize-leaves then-comes (comes-refused (secondIn sharedUnit) 28 (shared-pass .1) _ shared-restore)
     (λ same. omega arith)
 
 shared-unit :
@@ -412,69 +384,69 @@ shared-unit :
 shared-unit = (
   λ none. none Zero (by-block 0 _ (shared-pass .0) (λ v. names v ≡ Zero) refl) (by-block 28 _ (shared-pass .1) (λ v. names v ≡ Zero) refl),
   (
-    none-twice shared-first shared-second (omega arith),
-    (none-read shared-first shared-second (omega arith) (omega arith), shared-differs),
+    none-twice sharedUnit shared-first shared-second (omega arith),
+    (none-read sharedUnit shared-first shared-second (omega arith) (omega arith), shared-differs),
   ),
 )
 
 -- ---- a written byte that the other reads
 
-read-pass : Passes 0 1 (worldFor First readByOther) × Passes 28 1 (worldFor Second readByOther)
+read-pass : Passes 0 1 (firstIn readByOther) × Passes 28 1 (secondIn readByOther)
 read-pass = both-pass readByOther refl refl (omega arith)
 
 read-report : verdictOf (first-of readByOther) ≡ Verdict.Do (plan Moving.Nothing Report.Identity Leaving.AsItWas)
 unfolding word taskOf
-read-report = handshake (unit 0) 130 (readByOther .host)
+read-report = handshake FirstController (unit 0) 130 (readByOther .host1)
 
 read-initialize : verdictOf (second-of readByOther) ≡ Verdict.Do (only (Leaving.Fresh tiny))
 unfolding word taskOf
 read-initialize =
-    rw (shapeAt-inside (readByOther .host) 4 (omega arith))
-    (own _ _ _ _ never ∙ shape-given (newDrive .unit) 0 (readByOther .host) tiny within-tiny)
+    rw (shapeAt-inside (readByOther .host1) 4 (omega arith))
+    (own _ _ _ _ _ never refl ∙ shape-given FirstController (newDrive .unit) 0 (readByOther .host1) tiny within-tiny)
 
-read-first : Alone First 0 readByOther Zero ((0, 28) ∷ []) ((2, 2) ∷ (4, 12) ∷ [])
+read-first : Alone 0 (firstIn readByOther) Zero ((0, 28) ∷ []) ((2, 2) ∷ (4, 12) ∷ [])
 unfolding word taskOf
 read-first =
-    alone First readByOther 0 (read-pass .0) [] ((4, 12) ∷ [])
+    alone (firstIn readByOther) 0 (read-pass .0) [] ((4, 12) ∷ [])
     (λ x j. ⊎-elim (λ uib. absurd (no-uib _ _ _ x (λ s is. impossible cc) uib)) (λ list. absurd (no-list _ x (λ m is. impossible cc) list)) j)
-    (still First readByOther 0 (read-pass .0) _ read-report refl false)
+    (still (firstIn readByOther) 0 (read-pass .0) _ read-report refl false)
     (λ x among. inl (subst (λ (verd : Verdict). Among (0 + wordsOf (reportOf verd) .from) (length (wordsOf (reportOf verd) .bytes)) x) read-report among))
-    (λ x d. absurd (still First readByOther 0 (read-pass .0) _ read-report refl true x d))
+    (λ x d. absurd (still (firstIn readByOther) 0 (read-pass .0) _ read-report refl true x d))
 
-read-second : Alone Second 28 readByOther One ((28, 28) ∷ (4, 18) ∷ []) ((30, 2) ∷ [])
+read-second : Alone 28 (secondIn readByOther) One ((28, 28) ∷ (4, 18) ∷ []) ((30, 2) ∷ [])
 unfolding word taskOf
-read-second = initialized Second readByOther 28 (read-pass .1) _ read-initialize refl refl 4 refl (λ m is. impossible cc)
+read-second = initialized (secondIn readByOther) 28 (read-pass .1) _ read-initialize refl refl 4 refl (λ m is. impossible cc)
 
 abbrev reported-world : World
 reported-world =
-    let w = worldFor First readByOther in
+    let w = firstIn readByOther in
     changed w Zero (after (begun 0 ++ bytesFrom Stores.hostByte 4 identityBytes ++ finish (blockAt (w .host) 0) 0 0 Ended (pos 0)) (buffersOf w Zero)) (unit 0)
 
-report-leaves : runOf First one .left readByOther ≡ leaving First readByOther reported-world
+report-leaves : runOf First one .left readByOther ≡ leaving First FirstController readByOther reported-world
 unfolding worldAfter bytesFrom dataOn progress upTo
 report-leaves =
-    ap (leaving First readByOther)
-    (leaves 0 (worldFor First readByOther) (read-pass .0) refl ∙ rw (effect-is (first-of readByOther), read-report))
+    ap (leaving First FirstController readByOther) {y = reported-world}
+    (leaves 0 (firstIn readByOther) (read-pass .0) refl ∙ rw (effect-is (first-of readByOther), read-report))
 
 abbrev then-read : Both
-then-read = leaving First readByOther reported-world
+then-read = leaving First FirstController readByOther reported-world
 
-then-read-passes : Passes 28 1 (worldFor Second then-read)
+then-read-passes : Passes 28 1 (secondIn then-read)
 unfolding after bytesFrom
-then-read-passes = passes-at Second then-read 28 refl refl (omega arith)
+then-read-passes = passes-at (secondIn then-read) 28 refl refl (omega arith)
 
 -- The UIB now says that volume 0 has no heads.
 then-outside : verdictOf (second-of then-read) ≡ Verdict.Refused Refusal.UibOutsideLimits
 unfolding word taskOf after bytesFrom Present
 then-outside =
-    rw (shapeAt-inside (then-read .host) 4 (omega arith))
-    (own _ _ _ _ never ∙ shape-outside (newDrive .unit) 0 (then-read .host) (uibAt (then-read .host) 4)
+    rw (shapeAt-inside (then-read .host1) 4 (omega arith))
+    (own _ _ _ _ _ never refl ∙ shape-outside FirstController (newDrive .unit) 0 (then-read .host1) (uibAt (then-read .host1) 4)
     (λ within. let one-head : 0 < 0 = within .volumes .one-head in omega arith))
 
 read-differs : EitherWay one two readByOther → ⊥
 read-differs =
-    fails-otherwise readByOther then-read _ _ report-leaves (second-refused then-read then-read-passes _ then-outside)
-    (second-done readByOther (read-pass .1) refl _ read-initialize refl) (λ same. omega arith)
+    fails-otherwise FirstController FirstController readByOther then-read _ _ report-leaves (comes-refused (secondIn then-read) 28 then-read-passes _ then-outside)
+    (comes-done (secondIn readByOther) 28 (read-pass .1) refl _ read-initialize refl) (λ same. omega arith)
 
 read-by-other :
     (NoByteReadByOther one two readByOther → ⊥) ×
@@ -482,22 +454,22 @@ read-by-other :
 unfolding word taskOf None
 read-by-other = (
   λ none.
-      none 4 .0 (by-block 0 _ (read-pass .0) (λ v. WritesHost v 4) (report (rw read-report (omega arith, omega arith))))
+      none refl 4 .0 (by-block 0 _ (read-pass .0) (λ v. WritesHost v 4) (report (rw read-report (omega arith, omega arith))))
       (by-block 28 _ (read-pass .1) (λ v. ReadsHost v 4)
       (its-uib
-      (placed-uib-read _ _ _ _ _ refl (passes-first (askedOf (second-of readByOther)) never) (λ bad. rw (shapeAt-inside (readByOther .host) 4 (omega arith)) at bad)
+      (placed-uib-read _ _ _ _ _ refl (passes-first (askedOf (second-of readByOther)) never never) (λ bad. rw (shapeAt-inside (readByOther .host1) 4 (omega arith)) at bad)
       (omega arith)))),
-  (no-unit read-first read-second differ, (none-twice read-first read-second (omega arith), read-differs)),
+  (no-unit readByOther read-first read-second differ, (none-twice readByOther read-first read-second (omega arith), read-differs)),
 )
 
 -- ---- what a format reports, read by the other
 
-format-pass : Passes 0 1 (worldFor First formatRead) × Passes 28 1 (worldFor Second formatRead)
+format-pass : Passes 0 1 (firstIn formatRead) × Passes 28 1 (secondIn formatRead)
 format-pass = both-pass formatRead refl refl (omega arith)
 
-format-first : Alone First 0 formatRead Zero ((0, 28) ∷ (256, 64) ∷ []) ((2, 2) ∷ (7, 3) ∷ [])
+format-first : Alone 0 (firstIn formatRead) Zero ((0, 28) ∷ (256, 64) ∷ []) ((2, 2) ∷ (7, 3) ∷ [])
 unfolding word taskOf
-format-first = format-alone formatRead (format-pass .0) 7 0 refl refl (omega arith)
+format-first = format-alone (firstIn formatRead) (format-pass .0) 7 0 refl refl (omega arith)
 
 abbrev format-plan : ℕ → Plan
 format-plan c = let p = planOf (unit 0) (Task.Format track) in plan (p .moving) (p .report) (Leaving.HeadsAt c)
@@ -505,53 +477,53 @@ format-plan c = let p = planOf (unit 0) (Task.Format track) in plan (p .moving) 
 format-judged : verdictOf (first-of formatRead) ≡ Verdict.Do (format-plan 0)
 unfolding word taskOf
 format-judged =
-    format-judged-so formatRead (format-pass .0) 7 0 refl refl (omega arith) ∙ ap (λ c. Verdict.Do (format-plan c)) heads-there
+    format-judged-so (firstIn formatRead) (format-pass .0) 7 0 refl refl (omega arith) ∙ ap (λ c. Verdict.Do (format-plan c)) heads-there
 
 -- Alone the UIB says that volume 0 has no heads.
 format-outside : verdictOf (second-of formatRead) ≡ Verdict.Refused Refusal.UibOutsideLimits
 unfolding word taskOf Present
 format-outside =
-    rw (shapeAt-inside (formatRead .host) 8 (omega arith))
-    (own _ _ _ _ never ∙ shape-outside (newDrive .unit) 0 (formatRead .host) (uibAt (formatRead .host) 8)
+    rw (shapeAt-inside (formatRead .host1) 8 (omega arith))
+    (own _ _ _ _ _ never refl ∙ shape-outside FirstController (newDrive .unit) 0 (formatRead .host1) (uibAt (formatRead .host1) 8)
     (λ within. let one-head : 0 < 0 = within .volumes .one-head in omega arith))
 
-format-second : Alone Second 28 formatRead One ((28, 28) ∷ (8, 18) ∷ []) ((30, 2) ∷ [])
+format-second : Alone 28 (secondIn formatRead) One ((28, 28) ∷ (8, 18) ∷ []) ((30, 2) ∷ [])
 unfolding word taskOf
-format-second = initialized Second formatRead 28 (format-pass .1) _ format-outside refl refl 8 refl (λ m is. impossible cc)
+format-second = initialized (secondIn formatRead) 28 (format-pass .1) _ format-outside refl refl 8 refl (λ m is. impossible cc)
 
 -- What the format leaves, and the initialize after it: the volume has as many heads as sectors were formatted, which is 1.
 abbrev formatted-world : World
 formatted-world =
-    let w = worldFor First formatRead in
+    let w = firstIn formatRead in
     let data-stores = dataOn (driveWith 7 0 .image) (transferOf (w .host) (unit 0) (planOf (unit 0) (Task.Format track) .moving)) in
     changed w Zero (after (begun 0 ++ data-stores ++ bytesFrom Stores.hostByte 7 (0 ∷ 0 ∷ 1 ∷ []) ++ finish (blockAt (w .host) 0) 0 0 Ended (pos 0)) (buffersOf w Zero)) (unit 0)
 
-format-leaves : runOf First one .left formatRead ≡ leaving First formatRead formatted-world
+format-leaves : runOf First one .left formatRead ≡ leaving First FirstController formatRead formatted-world
 unfolding worldAfter bytesFrom dataOn progress upTo stopsAt
 format-leaves =
-    ap (leaving First formatRead)
-    (leaves 0 (worldFor First formatRead) (format-pass .0) refl ∙ rw (effect-is (first-of formatRead), format-judged))
+    ap (leaving First FirstController formatRead) {y = formatted-world}
+    (leaves 0 (firstIn formatRead) (format-pass .0) refl ∙ rw (effect-is (first-of formatRead), format-judged))
 
 abbrev then-format : Both
-then-format = leaving First formatRead formatted-world
+then-format = leaving First FirstController formatRead formatted-world
 
-then-format-passes : Passes 28 1 (worldFor Second then-format)
+then-format-passes : Passes 28 1 (secondIn then-format)
 unfolding after bytesFrom dataOn progress upTo stopsAt
-then-format-passes = passes-at Second then-format 28 refl refl (omega arith)
+then-format-passes = passes-at (secondIn then-format) 28 refl refl (omega arith)
 
 then-within : verdictOf (second-of then-format) ≡ Verdict.Do (only (Leaving.Fresh tiny))
 unfolding word taskOf after bytesFrom dataOn progress upTo stopsAt
 then-within =
-    rw (shapeAt-inside (then-format .host) 8 (omega arith))
-    (own _ _ _ _ never ∙ shape-given (newDrive .unit) 0 (then-format .host) tiny within-tiny)
+    rw (shapeAt-inside (then-format .host1) 8 (omega arith))
+    (own _ _ _ _ _ never refl ∙ shape-given FirstController (newDrive .unit) 0 (then-format .host1) tiny within-tiny)
 
 then-format-comes : ofSecond then-format ≡ come RunAnswer.Done 0 0
 unfolding after bytesFrom dataOn progress upTo stopsAt
-then-format-comes = second-done then-format then-format-passes refl _ then-within refl
+then-format-comes = comes-done (secondIn then-format) 28 then-format-passes refl _ then-within refl
 
 format-differs : EitherWay one two formatRead → ⊥
 format-differs =
-    fails-otherwise formatRead then-format _ _ format-leaves then-format-comes (second-refused formatRead (format-pass .1) _ format-outside)
+    fails-otherwise FirstController FirstController formatRead then-format _ _ format-leaves then-format-comes (comes-refused (secondIn formatRead) 28 (format-pass .1) _ format-outside)
     (λ same. omega arith)
 
 format-read :
@@ -560,12 +532,12 @@ format-read :
 unfolding word taskOf None
 format-read = (
   λ none.
-      none 9 .0 (format-wrote formatRead (format-pass .0) 7 0 refl refl (omega arith) 9 (omega arith))
+      none refl 9 .0 (format-wrote (firstIn formatRead) (format-pass .0) 7 0 refl refl (omega arith) 9 (omega arith))
       (by-block 28 _ (format-pass .1) (λ v. ReadsHost v 9)
       (its-uib
-      (placed-uib-read _ _ _ _ _ refl (passes-first (askedOf (second-of formatRead)) never) (λ bad. rw (shapeAt-inside (formatRead .host) 8 (omega arith)) at bad)
+      (placed-uib-read _ _ _ _ _ refl (passes-first (askedOf (second-of formatRead)) never never) (λ bad. rw (shapeAt-inside (formatRead .host1) 8 (omega arith)) at bad)
       (omega arith)))),
-  (no-unit format-first format-second differ, (none-twice format-first format-second (omega arith), format-differs)),
+  (no-unit formatRead format-first format-second differ, (none-twice formatRead format-first format-second (omega arith), format-differs)),
 )
 
 pub failing-pairs : Fails
@@ -575,5 +547,5 @@ failing-pairs =
       read-by-other = read-by-other;
       format-read = format-read;
       written-twice =
-          (λ none. none 56 wrote-first wrote-second, (units-apart, (reads-apart, twice-differs)));
+          (λ none. none refl 56 wrote-first wrote-second, (units-apart, (reads-apart, twice-differs)));
     }

@@ -1,2 +1,3 @@
 pub mod SmallDrive
 pub mod TwoChains
+pub mod TwoControllers

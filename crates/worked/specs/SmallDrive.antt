@@ -21,6 +21,7 @@ use Rattle.request.specs.declared.Start.{Start}
 use Rattle.request.specs.declared.Task.{Task}
 use Rattle.spares.specs.Tracks.{trackNumber}
 use Rattle.unit.specs.Landing.{OnSpare, Reaches, spotOf}
+use Rattle.unit.specs.declared.Controller.the-variants.{First}
 use Rattle.unit.specs.Standing.{UnitRecord, fresh, mapped}
 
 -- "C = 10, S = 4, B = 64, volume 0 heads 0 and 1, volume 1 head 2"
@@ -56,7 +57,7 @@ move n count buffer =
     }
 
 abbrev pub asking : Move → ℕ → Asked
-asking m image = record { task = Task.Move m; unit = unit; image = image; host = host }
+asking m image = record { task = Task.Move m; controller = First; unit = unit; image = image; host = host }
 
 pub data Says : Type 0 where
   passes : Says

@@ -1,5 +1,6 @@
--- Pairs of chains for demand 3 (00): what its condition lets through, and what goes wrong where one part of it fails. In every pair the
--- first chain is the block at 0 and the second the block at 28, each with an allowance of 1.
+-- Pairs of chains for demand 3 (00; 02, K10): what its condition lets through, and what goes wrong where one part of it fails. In every pair the
+-- first chain is the block at 0 and the second the block at 28, each with an allowance of 1. Both are run by the first controller; TwoControllers has
+-- the others.
 use Prim.Native.Nat.{ℕ}
 use mathlib.Core.Bool.{false}
 use mathlib.Core.List.{List, [], _∷_, _++_}
@@ -8,9 +9,11 @@ use mathlib.Core.Path.{_≡_}
 use lib.ListN.{replicate}
 use Rattle.wire.specs.Memory.{Among}
 use Rattle.answers.specs.declared.RunAnswer.{RunAnswer}
-use Rattle.block.specs.World.{Drive}
+use Rattle.block.specs.World.{Drive, World}
 use Rattle.geometry.specs.declared.Geometry.{Geometry}
 use Rattle.geometry.specs.Drive.{geometryOf, volumeOf}
+use Rattle.unit.specs.declared.Controller.{Controller}
+use Rattle.unit.specs.declared.Controller.the-variants.{First as FirstController}
 use Rattle.unit.specs.Standing.{fresh, noTracks, recordOf}
 use Rattle.independence.specs.Chains.{Both, Chain, First, HostReads, HostWrites, Second, Told, runOf, worldFor}
 use Rattle.independence.specs.Demand3.{EitherWay, Independent, NoUnitInCommon, NoByteReadByOther, NoByteWrittenByBoth}
@@ -50,18 +53,32 @@ formatOverUib =
 abbrev pub starting : List ℕ → List ℕ → Drive → Drive → Both
 starting one two drive0 drive1 =
     record {
-      host = one ++ two ++ replicate 264 0;
+      host1 = one ++ two ++ replicate 264 0;
+      host2 = [];
       drive0 = drive0;
       drive1 = drive1;
       events1 = replicate 512 0;
       events2 = replicate 512 0;
     }
 
+abbrev pub oneBy : Controller → Chain
+oneBy c = record { controller = c; first = 0; allowance = 1 }
+
+abbrev pub twoBy : Controller → Chain
+twoBy c = record { controller = c; first = 28; allowance = 1 }
+
 abbrev pub one : Chain
-one = record { first = 0; allowance = 1 }
+one = oneBy FirstController
 
 abbrev pub two : Chain
-two = record { first = 28; allowance = 1 }
+two = twoBy FirstController
+
+-- What each of them finds.
+abbrev pub firstIn : Both → World
+firstIn s = worldFor First FirstController s
+
+abbrev pub secondIn : Both → World
+secondIn s = worldFor Second FirstController s
 
 -- What a chain of a pair comes to, alone.
 abbrev pub ofFirst : Both → Told
@@ -102,20 +119,20 @@ pub record Met : Type 0 where
   pub both-move : (ofFirst adjacent ≡ come RunAnswer.Done 0 1) × (ofSecond adjacent ≡ come RunAnswer.Done 0 1)
   pub refused-block : Independent one two refusedData
   -- byte 30, which the second writes, lies in the data that it asked for
-  pub data-not-read : (ofFirst refusedData ≡ come RunAnswer.BlockFailed 11 0) × (Among 28 64 30 × HostWrites two (worldFor Second refusedData) 30)
+  pub data-not-read : (ofFirst refusedData ≡ come RunAnswer.BlockFailed 11 0) × (Among 28 64 30 × HostWrites two (secondIn refusedData) 30)
   pub stopped-read : Independent one two stoppedRead
   -- byte 120, which the second reads, lies in the buffer that it asked for
-  pub rest-not-written : (ofFirst stoppedRead ≡ come RunAnswer.BlockFailed 20 1) × (Among 56 128 120 × HostReads two (worldFor Second stoppedRead) 120)
+  pub rest-not-written : (ofFirst stoppedRead ≡ come RunAnswer.BlockFailed 20 1) × (Among 56 128 120 × HostReads two (secondIn stoppedRead) 120)
   pub beside-format : Independent one two besideFormat
   -- beside word 1 the format writes bytes 7 to 9 and no other: not byte 6, its head, nor byte 10, which the second reads
   pub three-bytes-written :
       (ofFirst besideFormat ≡ come RunAnswer.Done 0 1) ×
-      (((x : ℕ) → HostWrites one (worldFor First besideFormat) x ↔ (Among 2 2 x ⊎ Among 7 3 x)) ×
-      HostReads two (worldFor Second besideFormat) 10)
+      (((x : ℕ) → HostWrites one (firstIn besideFormat) x ↔ (Among 2 2 x ⊎ Among 7 3 x)) ×
+      HostReads two (secondIn besideFormat) 10)
   pub refused-format : Independent one two refusedFormat
   -- bytes 7 to 9, which an accepted format writes, are among those that the second reads
   pub words-not-written :
-      (ofFirst refusedFormat ≡ come RunAnswer.BlockFailed 11 0) × ((x : ℕ) → Among 7 3 x → HostReads two (worldFor Second refusedFormat) x)
+      (ofFirst refusedFormat ≡ come RunAnswer.BlockFailed 11 0) × ((x : ℕ) → Among 7 3 x → HostReads two (secondIn refusedFormat) x)
 
 -- ---- one part of it fails, and the orders differ
 

@@ -1,6 +1,6 @@
 //! A case: all that is handed to a run, and what is asked of it afterwards.
 
-use model::{Geometry, Pair, Record, Table, Track, Volume};
+use model::{Controller, Geometry, Holder, Pair, Record, Table, Track, Volume};
 
 pub const RECORD_LEN: usize = 276;
 
@@ -18,6 +18,8 @@ pub struct Inspection {
 
 #[derive(Clone)]
 pub struct Case {
+    /// Who runs it. Host memory and events are that controller's.
+    pub controller: Controller,
     pub host: Vec<u8>,
     pub images: [Vec<u8>; 2],
     pub events: Vec<u8>,
@@ -30,8 +32,9 @@ pub struct Case {
 /// The bytes with which the record of an initialized unit opens: version 2, the flag, length 276.
 pub const OPENING: [u8; 4] = [0x02, 0x01, 0x01, 0x14];
 
-/// Order and holder, which are 0 where a unit is initialized.
-pub const ORDER_AND_HOLDER: std::ops::Range<usize> = 16..18;
+/// Where the order stands, which is 0 where a unit is initialized, and where the holder does.
+pub const ORDER_AT: usize = 16;
+pub const HOLDER_AT: usize = 17;
 
 /// Where the number of pairs stands, and where the pairs begin.
 pub const PAIRS_AT: usize = 18;
@@ -56,7 +59,9 @@ pub fn record_in(bytes: &RecordBytes) -> Record {
         last: bytes[at + 3],
     };
     Record {
-        initialized: bytes[..4] == OPENING && bytes[ORDER_AND_HOLDER] == [0, 0],
+        initialized: bytes[..4] == OPENING
+            && bytes[ORDER_AT] == 0
+            && Holder::is_one(bytes[HOLDER_AT]),
         geometry: Geometry {
             cylinders: word(4),
             sectors_a_track: word(6),
@@ -68,6 +73,7 @@ pub fn record_in(bytes: &RecordBytes) -> Record {
             bad: track(TABLE_AT + 8 * k),
             spare: track(TABLE_AT + 8 * k + 4),
         }),
+        holder: Holder::said([bytes[0], bytes[1], bytes[2], bytes[3]], bytes[HOLDER_AT]),
     }
 }
 
@@ -90,7 +96,8 @@ fn stored(before: &RecordBytes, record: &Record) -> RecordBytes {
         bytes[11 + 2 * k] = volume.heads;
     }
     bytes[14..16].copy_from_slice(&record.cylinder.to_be_bytes());
-    bytes[ORDER_AND_HOLDER].fill(0);
+    bytes[ORDER_AT] = 0;
+    bytes[HOLDER_AT] = record.holder.number();
     bytes[PAIRS_AT..TABLE_AT].copy_from_slice(&record.table.count().to_be_bytes());
     for (k, pair) in record.table.pairs().iter().enumerate() {
         put_track(&mut bytes, TABLE_AT + 8 * k, &pair.bad);

@@ -1,9 +1,10 @@
 //! What a set of worlds has walked into, counted from the model's traces.
 
-use crate::case::{record_in, Case, RecordBytes, ORDER_AND_HOLDER};
+use crate::case::{record_in, Case, RecordBytes, HOLDER_AT, ORDER_AT};
 use crate::sides::Left;
 use crate::worlds::{TableWay, Theme, Way};
-use model::{Outcome, Pair, Record, Table, Taken, Trace, Track, Visit, CHECKS, COMMANDS, STOPS};
+use model::{Holder, Outcome, Pair, Record, Table, Taken, Trace, Track, Visit};
+use model::{CHECKS, COMMANDS, STOPS};
 use std::collections::BTreeMap;
 
 /// How often each thing has to have occurred.
@@ -120,8 +121,8 @@ fn added(visit: &Visit) -> bool {
     visit.command == 0x85 && visit.answer == 0
 }
 
-/// The answers that only worlds with tables give.
-const TABLE_ANSWERS: [u8; 2] = [22, 23];
+/// The answers that worlds without tables do not give; 24 is asked where two controllers run in turn.
+const OTHER_ANSWERS: [u8; 3] = [22, 23, 24];
 
 pub struct Coverage {
     theme: Theme,
@@ -300,7 +301,7 @@ impl Coverage {
             things.push((format!("run answer {}", number), *count));
         }
         let answers = CHECKS.iter().chain(&STOPS);
-        for number in answers.filter(|number| !TABLE_ANSWERS.contains(number)) {
+        for number in answers.filter(|number| !OTHER_ANSWERS.contains(number)) {
             things.push((format!("block answer {}", number), self.answered(number)));
         }
         for (command, count) in COMMANDS.iter().zip(self.ended) {
@@ -351,20 +352,7 @@ impl Coverage {
 
     /// The counts, two things a line.
     pub fn table(&self) -> String {
-        let cells: Vec<String> = self
-            .things()
-            .iter()
-            .map(|(name, count)| format!("{:<44}{:>9}", name, count))
-            .collect();
-        let half = cells.len().div_ceil(2);
-        let (left, right) = cells.split_at(half);
-        let mut table = String::new();
-        for (k, cell) in left.iter().enumerate() {
-            let other = right.get(k).map_or("", |cell| cell.as_str());
-            table.push_str(format!("{}    {}", cell, other).trim_end());
-            table.push('\n');
-        }
-        table
+        table(&self.things())
     }
 
     fn answered(&self, number: &u8) -> u64 {
@@ -373,12 +361,7 @@ impl Coverage {
 
     /// What occurred too seldom, and what is no answer at all.
     pub fn missing(&self) -> Vec<String> {
-        let mut missing: Vec<String> = self
-            .things()
-            .into_iter()
-            .filter(|(_, count)| *count < LEAST)
-            .map(|(name, count)| format!("{}: {} times, and {} are asked", name, count, LEAST))
-            .collect();
+        let mut missing = too_seldom(&self.things());
         for number in self.block_answers.keys() {
             if *number != 0 && !CHECKS.contains(number) && !STOPS.contains(number) {
                 missing.push(format!("the model gave answer {}", number));
@@ -388,7 +371,32 @@ impl Coverage {
     }
 }
 
-fn add_all(counts: &mut [u64], others: &[u64]) {
+/// Things with their counts, two a line.
+pub fn table(things: &[(String, u64)]) -> String {
+    let cells: Vec<String> = things
+        .iter()
+        .map(|(name, count)| format!("{:<44}{:>9}", name, count))
+        .collect();
+    let half = cells.len().div_ceil(2);
+    let (left, right) = cells.split_at(half);
+    let mut table = String::new();
+    for (k, cell) in left.iter().enumerate() {
+        let other = right.get(k).map_or("", |cell| cell.as_str());
+        table.push_str(format!("{}    {}", cell, other).trim_end());
+        table.push('\n');
+    }
+    table
+}
+
+/// Those of them that did not occur often enough.
+pub fn too_seldom(things: &[(String, u64)]) -> Vec<String> {
+    let seldom = things.iter().filter(|(_, count)| *count < LEAST);
+    seldom
+        .map(|(name, count)| format!("{}: {} times, and {} are asked", name, count, LEAST))
+        .collect()
+}
+
+pub fn add_all(counts: &mut [u64], others: &[u64]) {
     for (count, other) in counts.iter_mut().zip(others) {
         *count += other;
     }
@@ -421,11 +429,11 @@ fn has_place(record: &Record, track: Track, place: u64) -> bool {
     s > 0 && place / s == number
 }
 
-/// In which ways a record is bad that would be good without a table, order and holder.
+/// In which ways a record is bad that would be good without a table, with order and holder 0.
 fn table_ways(bytes: &RecordBytes) -> Vec<TableWay> {
-    let [order, holder] = [bytes[16], bytes[17]];
+    let [order, holder] = [bytes[ORDER_AT], bytes[HOLDER_AT]];
     let mut mended = *bytes;
-    mended[ORDER_AND_HOLDER].fill(0);
+    mended[ORDER_AT..=HOLDER_AT].fill(0);
     let record = record_in(&mended);
     let free = Record {
         table: Table::NONE,
@@ -452,7 +460,7 @@ fn table_ways(bytes: &RecordBytes) -> Vec<TableWay> {
         TableWay::SpareTwice => spare > 0,
         TableWay::BadAndSpare => all > bad + spare + equal,
         TableWay::Order => order != 0,
-        TableWay::Holder => holder != 0,
+        TableWay::Holder => !Holder::is_one(holder),
     };
     TableWay::ALL.into_iter().filter(so).collect()
 }

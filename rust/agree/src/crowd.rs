@@ -45,7 +45,12 @@ pub fn one_world(crowd: &Crowd, index: u64, coverage: &mut Coverage) -> Vec<Stri
     let Ok((model, trace)) = judged else {
         return vec!["the model panics".to_string()];
     };
-    coverage.add(&case, &model.outcome, &trace, &model);
+    // records are read there once more, by the same rules
+    let mut count = || coverage.add(&case, &model.outcome, &trace, &model);
+    match crowd.seeded {
+        Some(fault) => with_fault(fault, count),
+        None => count(),
+    }
     let library = match (crowd.opponent, crowd.seeded) {
         (Opponent::Itself, Some(fault)) => with_fault(fault, || crowd.opponent.run(&case)),
         (opponent, _) => opponent.run(&case),

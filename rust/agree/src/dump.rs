@@ -2,7 +2,7 @@
 
 use crate::case::{record_in, Case, TABLE_AT};
 use crate::sides::{memory_at_fetch, model_side};
-use model::{Block, Element, Geometry, Record, Track, Visit};
+use model::{Block, Controller, Element, Geometry, Holder, Record, Track, Visit};
 use std::fmt::Write;
 
 /// The blocks shown at most.
@@ -13,7 +13,8 @@ pub fn dump(case: &Case) -> String {
     let mut text = String::new();
     let _ = writeln!(
         text,
-        "host {} bytes, images {} and {}, events {}, first {:#x}, allowance {}",
+        "{}: host {} bytes, images {} and {}, events {}, first {:#x}, allowance {}",
+        controller_words(case.controller),
         case.host.len(),
         case.images[0].len(),
         case.images[1].len(),
@@ -41,6 +42,21 @@ pub fn dump(case: &Case) -> String {
     text
 }
 
+pub fn controller_words(controller: Controller) -> &'static str {
+    match controller {
+        Controller::First => "the first controller",
+        Controller::Second => "the second controller",
+    }
+}
+
+fn holder_words(holder: Holder) -> &'static str {
+    match holder {
+        Holder::Nobody => "held by nobody",
+        Holder::First => "held by the first",
+        Holder::Second => "held by the second",
+    }
+}
+
 pub fn geometry_words(g: &Geometry) -> String {
     format!(
         "C {} S {} B {} volumes {}+{} and {}+{}",
@@ -56,12 +72,13 @@ pub fn geometry_words(g: &Geometry) -> String {
 
 fn record_line(record: &Record, bytes: &[u8]) -> String {
     format!(
-        "{}, {}, on cylinder {}, needs {} bytes; record {}",
+        "{}, {}, {}, on cylinder {}, needs {} bytes; record {}",
         if record.counts_as_initialized() {
             "initialized"
         } else {
             "counts as not initialized"
         },
+        holder_words(record.holder),
         geometry_words(&record.geometry),
         record.cylinder,
         record.geometry.need(),
@@ -104,12 +121,13 @@ fn block_lines(text: &mut String, k: usize, visit: &Visit, host: &[u8]) {
     );
     let _ = writeln!(
         text,
-        "  {:02x} unit {} volume {}{}{}{}{}, {}, count {}, buffer {:#x}, link {:#x}",
+        "  {:02x} unit {} volume {}{}{}{}{}{}, {}, count {}, buffer {:#x}, link {:#x}",
         block.command,
         block.unit(),
         block.volume(),
         if block.link() { " LK" } else { "" },
         if block.logical() { " XL" } else { "" },
+        if block.reserve() { " RV" } else { "" },
         if block.disable_read_data_errors() {
             " DE"
         } else {
@@ -128,8 +146,12 @@ fn block_lines(text: &mut String, k: usize, visit: &Visit, host: &[u8]) {
     }
     let _ = writeln!(
         text,
-        "  the model: answer {}, sectors {}, travel {}",
-        visit.answer, visit.sectors, visit.travel
+        "  the model: answer {}, sectors {}, travel {}, {} and then {}",
+        visit.answer,
+        visit.sectors,
+        visit.travel,
+        holder_words(visit.holder),
+        holder_words(visit.held_after)
     );
 }
 

@@ -2,22 +2,24 @@
 //! and memories. Each is run on both sides. What a case expects is the world it hands in with the
 //! changes that it names, so that every other byte has to stay.
 
+mod holders;
 mod spares;
 
 use crate::case::{record_bytes, Case, Inspection, RecordBytes, RECORD_LEN, TABLE_AT};
 use crate::sides::{model_side, Left, Opponent};
-use model::{Block, Geometry, Outcome, Part, Record, Table, Volume};
+use model::{Block, Controller, Geometry, Holder, Outcome, Part, Record, Table, Volume};
 
 const UN: u8 = 0x80;
 const VO: u8 = 0x40;
 const LK: u8 = 0x20;
 const XL: u8 = 0x10;
+const RV: u8 = 0x08;
 const DE: u8 = 0x04;
 const IE: u8 = 0x02;
 
 /// The error byte of each block answer from 10 on, as docs/ERROR-BYTES.md has them; 21 is no answer.
-const ERRORS: [u8; 14] = [
-    0x14, 0x40, 0x62, 0x51, 0x21, 0xff, 0x16, 0xff, 0xff, 0x62, 0x13, 0xff, 0xff, 0xff,
+const ERRORS: [u8; 15] = [
+    0x14, 0x40, 0x62, 0x51, 0x21, 0xff, 0x16, 0xff, 0xff, 0x62, 0x13, 0xff, 0xff, 0xff, 0x2e,
 ];
 
 const SMALL_UIB: [u8; 18] = [
@@ -96,9 +98,11 @@ fn image(sectors: usize, b: usize) -> Vec<u8> {
     image
 }
 
-/// The small drive as unit 0 with its heads on cylinder 0; unit 1 is not initialized.
+/// The small drive as unit 0 with its heads on cylinder 0; unit 1 is not initialized. The first controller
+/// runs.
 fn small(host_len: usize) -> Case {
     Case {
+        controller: Controller::First,
         host: vec![0xee; host_len],
         images: [image(120, 64), Vec::new()],
         events: vec![0xdd; 520],
@@ -244,6 +248,7 @@ pub fn run(opponent: Opponent) -> Sheet {
     records(&mut sheet);
     inspections(&mut sheet);
     spares::all(&mut sheet);
+    holders::all(&mut sheet);
     sheet
 }
 
@@ -475,6 +480,7 @@ fn initialize(sheet: &mut Sheet) {
             geometry: Geometry::from_uib(&uib),
             cylinder: 0,
             table: Table::NONE,
+            holder: Holder::Nobody,
         });
         put(&mut want.records[1], 0, &record[..TABLE_AT]);
         want.ended(1, 0, 0x80, 0x00, 0);
@@ -814,6 +820,7 @@ fn inspections(sheet: &mut Sheet) {
         geometry: most,
         cylinder: 4095,
         table: Table::NONE,
+        holder: Holder::Nobody,
     });
     let lens = |len| Inspection {
         image_lens: Some([len, 0]),

@@ -3,11 +3,12 @@
 //! The library is proved to do what its definitions say; the model was written from the paper
 //! alone. Where they leave different bytes of the same world, one of them has misread the paper.
 //! Pairs of chains are for demand 3: the model says which may be run in either order, and the library
-//! runs them in both. Places are for the rule that no two sectors stand in one: the library alone writes
-//! every sector and reads it back.
+//! runs them in both. Contests are for two machines that run in turn on the same drives. Places are for
+//! the rule that no two sectors stand in one: the library alone writes every sector and reads it back.
 
 mod case;
 mod compare;
+mod contests;
 mod coverage;
 mod crowd;
 mod draw;
@@ -15,6 +16,7 @@ mod dump;
 mod exact;
 #[cfg(feature = "library")]
 mod giants;
+mod holding;
 mod pairs;
 mod places;
 mod sessions;
@@ -23,6 +25,7 @@ mod worlds;
 
 use coverage::Coverage;
 use crowd::{one_world, Catches, Crowd};
+use holding::Holding;
 use model::Fault;
 use sides::Opponent;
 use std::process::ExitCode;
@@ -32,7 +35,7 @@ use worlds::Theme;
 const USAGE: &str = "\
 agree [--worlds N] [--seed S] [--threads N] [--itself]   compare on generated worlds
 agree --world I [--seed S] [--itself]                    one of these worlds, and show it
-agree --worlds N --seeded WORDS                          the same with one of these faults in the model
+agree --worlds N --seeded WORDS                          the same with one of these faults in the model; and so of pairs and contests
 agree --faults [--worlds N] [--seed S] [--itself]        faults seeded in the model: is each caught?
 agree --exact [--itself]                                 the paper's worked examples and the limits
 agree --tables N [--seed S] [--threads N] [--itself]     compare on worlds with bad tracks and spares
@@ -42,12 +45,16 @@ agree --table-sessions N PROGRAM WORD..                  the same on sessions wi
 agree --pairs N [--seed S] [--itself]                    N pairs of chains that demand 3 lets run in either order
 agree --pair I [--seed S] [--itself]                     one of these pairs, and show it
 agree --table-pairs N, agree --table-pair I              the same of pairs with bad tracks and spares
+agree --machine-pairs N, agree --machine-pair I          the same on one controller and on two, with drives that are held
+agree --machines N [--seed S] [--threads N] [--itself]   N contests of two machines that run in turn on the same drives
+agree --machine I [--seed S] [--itself]                  one of these contests, and show it
 agree --places N [--seed S] [--itself]                   N drives: does every sector that is on no spare come back as itself?
 agree --place I [--seed S] [--itself]                    one of these drives, and show it
 --itself puts the model in the library's place.";
 
-/// Coverage is asked from so many worlds on.
+/// Coverage is asked from so many worlds on, and from so many contests.
 const COVERAGE_FROM: u64 = 50_000;
+const HOLDING_FROM: u64 = 10_000;
 
 struct Asked {
     crowd: Crowd,
@@ -59,6 +66,8 @@ struct Asked {
     pair: Option<u64>,
     places: Option<u64>,
     place: Option<u64>,
+    contests: Option<u64>,
+    contest: Option<u64>,
 }
 
 fn asked() -> Option<Asked> {
@@ -80,6 +89,8 @@ fn asked() -> Option<Asked> {
         pair: None,
         places: None,
         place: None,
+        contests: None,
+        contest: None,
     };
     let mut words = std::env::args().skip(1);
     while let Some(word) = words.next() {
@@ -97,6 +108,17 @@ fn asked() -> Option<Asked> {
             "--pair" => asked.pair = Some(number()?),
             "--places" => asked.places = Some(number()?),
             "--place" => asked.place = Some(number()?),
+            "--machines" => asked.contests = Some(number()?),
+            "--machine" => asked.contest = Some(number()?),
+            "--machine-pairs" | "--machine-pair" => {
+                asked.crowd.theme = Theme::Held;
+                let number = Some(number()?);
+                if word == "--machine-pairs" {
+                    asked.pairs = number;
+                } else {
+                    asked.pair = number;
+                }
+            }
             "--tables" | "--table" | "--table-pairs" | "--table-pair" => {
                 asked.crowd.theme = Theme::Tables;
                 let number = Some(number()?);
@@ -122,7 +144,7 @@ fn asked() -> Option<Asked> {
 
 /// The fault in the rules that says so.
 fn fault(says: &str) -> Option<Fault> {
-    let mut faults = Fault::IN_RULES.into_iter();
+    let mut faults = Fault::IN_RULES.into_iter().chain(Fault::IN_HOLDERS);
     faults.find(|fault| fault.says() == says)
 }
 
@@ -152,6 +174,10 @@ fn main() -> ExitCode {
         show_drive(&asked.crowd, index)
     } else if let Some(count) = asked.places {
         places(&asked.crowd, count)
+    } else if let Some(index) = asked.contest {
+        show_contest(&asked.crowd, index)
+    } else if let Some(count) = asked.contests {
+        contests(&asked.crowd, count)
     } else {
         worlds(&asked.crowd)
     };
@@ -179,7 +205,7 @@ fn sessions(crowd: &Crowd, count: u64, command: &[String]) -> bool {
     println!(
         "agree: {} sessions{}, {} lines, {} sessions refused, no difference, {:.1} s",
         count,
-        with_tables(crowd),
+        about(crowd),
         heard.lines,
         heard.refused,
         start.elapsed().as_secs_f64()
@@ -241,23 +267,20 @@ fn worlds(crowd: &Crowd) -> bool {
     println!(
         "agree: {} worlds{}, {} blocks, no difference, {:.1} s{}",
         crowd.worlds,
-        with_tables(crowd),
+        about(crowd),
         coverage.blocks(),
         start.elapsed().as_secs_f64(),
-        match (asked, missing.is_empty()) {
-            (true, true) => "",
-            (true, false) => "; but not everything was covered",
-            (false, _) => "; too few worlds to ask what they cover",
-        }
+        coverage_words("worlds", asked, missing.is_empty())
     );
     !asked || missing.is_empty()
 }
 
-fn with_tables(crowd: &Crowd) -> &'static str {
-    if crowd.theme.tables() {
-        " with tables"
-    } else {
-        ""
+/// What worlds, sessions or pairs are about.
+fn about(crowd: &Crowd) -> &'static str {
+    match crowd.theme {
+        Theme::Plain => "",
+        Theme::Tables | Theme::FreshTables => " with tables",
+        Theme::Held => " on one controller or two",
     }
 }
 
@@ -273,10 +296,10 @@ fn pairs(crowd: &Crowd, count: u64) -> bool {
             println!(
                 "agree: the orders differ though the condition is met; again with --seed {} --{} {}",
                 crowd.seed,
-                if crowd.theme.tables() {
-                    "table-pair"
-                } else {
-                    "pair"
+                match crowd.theme {
+                    Theme::Plain => "pair",
+                    Theme::Tables | Theme::FreshTables => "table-pair",
+                    Theme::Held => "machine-pair",
                 },
                 found.index
             );
@@ -287,7 +310,7 @@ fn pairs(crowd: &Crowd, count: u64) -> bool {
     for line in &missing {
         println!("not covered: {}", line);
     }
-    let [met, broken] = tally.lines(with_tables(crowd));
+    let [met, broken] = tally.lines(about(crowd));
     println!("agree: {}", met);
     println!("agree: {}, {:.1} s", broken, start.elapsed().as_secs_f64());
     missing.is_empty()
@@ -312,6 +335,72 @@ fn show_pair(crowd: &Crowd, index: u64) -> bool {
         }
     );
     lines.is_empty() || !meets
+}
+
+fn contests(crowd: &Crowd, count: u64) -> bool {
+    let start = Instant::now();
+    let holding = match contests::run(crowd, count) {
+        Ok(holding) => holding,
+        Err(found) => {
+            print!("{}", contests::words(crowd, found.index, found.turn));
+            for line in &found.lines {
+                println!("differs: {}", line);
+            }
+            println!(
+                "agree: the library and the model differ after turn {}; again with --seed {} --machine {}",
+                found.turn + 1,
+                crowd.seed,
+                found.index
+            );
+            return false;
+        }
+    };
+    print!("{}", holding.table());
+    let missing = holding.missing();
+    let asked = count >= HOLDING_FROM;
+    if asked {
+        for line in &missing {
+            println!("not covered: {}", line);
+        }
+    }
+    println!(
+        "agree: {} contests of two machines, {} runs, {} blocks, no difference, {:.1} s{}",
+        count,
+        holding.runs(),
+        holding.blocks(),
+        start.elapsed().as_secs_f64(),
+        coverage_words("contests", asked, missing.is_empty())
+    );
+    !asked || missing.is_empty()
+}
+
+/// One contest, shown whether or not the two agree.
+fn show_contest(crowd: &Crowd, index: u64) -> bool {
+    let found = contests::one_contest(crowd, index, &mut Holding::default());
+    let last = found.as_ref().map_or(usize::MAX, |found| found.turn);
+    print!("{}", contests::words(crowd, index, last));
+    for line in found.iter().flat_map(|found| &found.lines) {
+        println!("differs: {}", line);
+    }
+    println!(
+        "agree: seed {} contest {}: {}",
+        crowd.seed,
+        index,
+        match &found {
+            None => "no difference".to_string(),
+            Some(found) => format!("different after turn {}", found.turn + 1),
+        }
+    );
+    found.is_none()
+}
+
+/// What is to be said of what was covered, where something is.
+fn coverage_words(what: &str, asked: bool, all: bool) -> String {
+    match (asked, all) {
+        (true, true) => String::new(),
+        (true, false) => "; but not everything was covered".to_string(),
+        (false, _) => format!("; too few {} to ask what they cover", what),
+    }
 }
 
 fn places(crowd: &Crowd, count: u64) -> bool {
@@ -395,7 +484,9 @@ fn faults(crowd: &Crowd) -> bool {
     let rules = faults_in(crowd, "worlds", &Fault::IN_RULES, Crowd::catches);
     let footprints = faults_in(crowd, "pairs", &Fault::IN_FOOTPRINTS, pairs::sees);
     let places = faults_in(crowd, "drives", &Fault::IN_PLACES, places::catches);
-    rules && footprints && places
+    let holders = faults_in(crowd, "contests", &Fault::IN_HOLDERS, contests::catches);
+    let held = faults_in(crowd, "pairs", &Fault::IN_HELD_FOOTPRINTS, pairs::sees_held);
+    rules && footprints && places && holders && held
 }
 
 /// Each of some faults, with the number of worlds or pairs that it took.

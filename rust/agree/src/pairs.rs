@@ -1,6 +1,7 @@
-//! Demand 3 on pairs of chains. Where the model's footprints meet its condition, the library has to
-//! leave the same in either order. Where they break it nothing is asked, but it is counted how often
-//! the orders differ: a condition that could be broken without harm would say little.
+//! Demand 3 on pairs of chains, of one controller or of two. Where the model's footprints meet its
+//! condition, the library has to leave the same in either order. Where they break it nothing is asked,
+//! but it is counted how often the orders differ: a condition that could be broken without harm would
+//! say little.
 
 use crate::case::{Case, RecordBytes};
 use crate::compare::bytes;
@@ -8,7 +9,7 @@ use crate::crowd::{Crowd, Disagreement};
 use crate::dump;
 use crate::sides::{model_side, Opponent};
 use crate::worlds::{pair, Theme};
-use model::{with_fault, Common, Fault, Outcome, Trace, Visit};
+use model::{with_fault, Common, Fault, Holder, Outcome, Trace, Visit};
 
 /// Two chains over one starting state, each followed alone by the model.
 struct Followed {
@@ -19,7 +20,8 @@ struct Followed {
 
 /// What two runs leave, one after the other: outcomes and events by chain, whichever came first.
 struct Ends {
-    host: Vec<u8>,
+    /// The memory of each chain's controller; where both have one, it is the same twice.
+    hosts: [Vec<u8>; 2],
     images: [Vec<u8>; 2],
     records: [RecordBytes; 2],
     outcomes: [Outcome; 2],
@@ -52,16 +54,24 @@ impl Followed {
         self.common().nothing()
     }
 
+    fn on_two_controllers(&self) -> bool {
+        self.cases[0].controller != self.cases[1].controller
+    }
+
     fn meets_with(&self, fault: Fault) -> bool {
         with_fault(fault, || self.meets())
     }
 
-    /// One chain from the starting state, and then the other from what it left.
+    /// One chain from the starting state, and then the other from what it left. A controller that has
+    /// not run yet has its memory as it was.
     fn run(&self, opponent: Opponent, first: usize) -> Ends {
         let one = opponent.run(&self.cases[first]);
         let second = &self.cases[1 - first];
+        let two = self.on_two_controllers();
+        let found = if two { &second.host } else { &one.host };
         let other = opponent.run(&Case {
-            host: one.host,
+            controller: second.controller,
+            host: found.clone(),
             images: one.images,
             records: one.records,
             events: second.events.clone(),
@@ -69,14 +79,17 @@ impl Followed {
             allowance: second.allowance,
             inspections: Vec::new(),
         });
+        let left = if two { one.host } else { other.host.clone() };
+        let mut hosts = [left, other.host];
         let mut outcomes = [one.outcome, other.outcome];
         let mut events = [one.events, other.events];
         if first == 1 {
+            hosts.reverse();
             outcomes.reverse();
             events.reverse();
         }
         Ends {
-            host: other.host,
+            hosts,
             images: other.images,
             records: other.records,
             outcomes,
@@ -108,9 +121,10 @@ impl Followed {
 }
 
 impl Ends {
-    fn buffers(&self) -> [(&'static str, &[u8]); 7] {
+    fn buffers(&self) -> [(&'static str, &[u8]); 8] {
         [
-            ("host memory", &self.host),
+            ("host memory of chain 0", &self.hosts[0]),
+            ("host memory of chain 1", &self.hosts[1]),
             ("image 0", &self.images[0]),
             ("image 1", &self.images[1]),
             ("record 0", &self.records[0]),
@@ -181,20 +195,85 @@ const TABLE_FEATURES: [Feature; 4] = [
     ),
 ];
 
+/// What it can be besides where drives are held and controllers are two.
+const HELD_FEATURES: [Feature; 8] = [
+    ("two controllers", |pair| pair.on_two_controllers(), 130),
+    (
+        "data on both drives by two controllers",
+        |pair| {
+            let data = pair.outcomes.iter().all(|outcome| outcome.sectors > 0);
+            data && pair.on_two_controllers()
+        },
+        24,
+    ),
+    (
+        "a block refused by 24",
+        |pair| any_block(pair, |visit| visit.answer == 24),
+        95,
+    ),
+    (
+        "a drive taken",
+        |pair| {
+            any_block(pair, |visit| {
+                changes_to(visit, visit.controller.as_holder())
+            })
+        },
+        135,
+    ),
+    (
+        "a drive given up",
+        |pair| any_block(pair, |visit| changes_to(visit, Holder::Nobody)),
+        85,
+    ),
+    (
+        "a byte in common but for two memories",
+        |pair| !pair.meets_with(Fault::OneMemoryForBoth),
+        18,
+    ),
+    (
+        "the other's data over a UIB that 24 leaves unread",
+        |pair| !pair.meets_with(Fault::HeldUibRead),
+        3,
+    ),
+    (
+        "the other's data over a list that 24 leaves unread",
+        |pair| !pair.meets_with(Fault::HeldListRead),
+        3,
+    ),
+];
+
+/// Whether a block left its drive with another holder, and this one.
+fn changes_to(visit: &Visit, holder: Holder) -> bool {
+    visit.holder != holder && visit.held_after == holder
+}
+
 /// What a pair can break the condition by, and how many that differ there have to be for a
 /// thousand that meet it.
-const BREAKS: [(&str, u64); 4] = [
+type Break = (&'static str, u64);
+
+const BREAKS: [Break; 4] = [
     ("a unit alone", 30),
     ("a byte written and read alone", 30),
     ("a byte written by both alone", 12),
     ("several", 0),
 ];
 
+/// The same where controllers may be two: then it can be nothing but a unit.
+const HELD_BREAKS: [Break; 5] = [
+    ("a unit alone, on one controller", 12),
+    ("a byte written and read alone", 9),
+    ("a byte written by both alone", 1),
+    ("several", 0),
+    ("a unit, on two controllers", 16),
+];
+
 /// Which of them it is; None where the condition is met.
-fn breaks(common: &Common) -> Option<usize> {
+fn breaks(pair: &Followed) -> Option<usize> {
+    let common: Common = pair.common();
     let parts = [common.unit, common.written_and_read, common.written_by_both];
     match parts.iter().filter(|part| **part).count() {
         0 => None,
+        1 if pair.on_two_controllers() => Some(4),
         1 => parts.iter().position(|part| *part),
         _ => Some(3),
     }
@@ -208,9 +287,10 @@ pub struct Tally {
     met: u64,
     /// How many have each of the features.
     having: Vec<u64>,
-    broken: [u64; BREAKS.len()],
+    breaks: Vec<Break>,
+    broken: Vec<u64>,
     /// How many of these differ.
-    differ: [u64; BREAKS.len()],
+    differ: Vec<u64>,
 }
 
 impl Tally {
@@ -219,19 +299,30 @@ impl Tally {
         if theme.tables() {
             features.extend(TABLE_FEATURES);
         }
+        let breaks = if theme == Theme::Held {
+            // where a block is refused by 24 the rest of its chain is not run
+            for (_, _, least) in &mut features {
+                *least /= 3;
+            }
+            features.extend(HELD_FEATURES);
+            HELD_BREAKS.to_vec()
+        } else {
+            BREAKS.to_vec()
+        };
         Tally {
             having: vec![0; features.len()],
             features,
             met: 0,
-            broken: [0; BREAKS.len()],
-            differ: [0; BREAKS.len()],
+            broken: vec![0; breaks.len()],
+            differ: vec![0; breaks.len()],
+            breaks,
         }
     }
 
     /// Counts a pair. What differs though the condition is met.
     fn add(&mut self, pair: &Followed, opponent: Opponent) -> Vec<String> {
         let lines = pair.differences(opponent);
-        if let Some(part) = breaks(&pair.common()) {
+        if let Some(part) = breaks(pair) {
             self.broken[part] += 1;
             self.differ[part] += !lines.is_empty() as u64;
             return Vec::new();
@@ -249,8 +340,11 @@ impl Tally {
         let features: Vec<String> = features
             .map(|((name, _, _), count)| format!("{} with {}", count, name))
             .collect();
-        let breaks = BREAKS.iter().zip(self.differ.iter().zip(self.broken));
-        let breaks: Vec<String> = breaks
+        let counts = self.differ.iter().zip(&self.broken);
+        let breaks: Vec<String> = self
+            .breaks
+            .iter()
+            .zip(counts)
             .map(|((name, _), (differ, pairs))| format!("{} of {} by {}", differ, pairs, name))
             .collect();
         [
@@ -272,8 +366,8 @@ impl Tally {
     pub fn missing(&self) -> Vec<String> {
         let features = self.features.iter().zip(&self.having);
         let features = features.map(|((name, _, least), count)| ("with", name, *count, least));
-        let breaks = BREAKS.iter().zip(self.differ);
-        let breaks = breaks.map(|((name, least), count)| ("different by", name, count, least));
+        let breaks = self.breaks.iter().zip(&self.differ);
+        let breaks = breaks.map(|((name, least), count)| ("different by", name, *count, least));
         let mut missing = Vec::new();
         for (how, name, count, least) in features.chain(breaks) {
             let least = least * self.met / 1_000;
@@ -288,8 +382,16 @@ impl Tally {
     }
 }
 
-/// Pairs, until so many of them meet the condition; or the first of those that differs.
+/// Pairs, until so many of them meet the condition; or the first of those that differs. A fault that is
+/// to be in the model is in all of it.
 pub fn run(crowd: &Crowd, pairs: u64) -> Result<Tally, Disagreement> {
+    match crowd.seeded {
+        Some(fault) => with_fault(fault, || count(crowd, pairs)),
+        None => count(crowd, pairs),
+    }
+}
+
+fn count(crowd: &Crowd, pairs: u64) -> Result<Tally, Disagreement> {
     let mut tally = Tally::new(crowd.theme);
     let mut index = 0;
     while tally.met < pairs {
@@ -314,6 +416,11 @@ pub fn one_pair(crowd: &Crowd, index: u64) -> (bool, Vec<String>) {
 pub fn sees(crowd: &Crowd, fault: Fault, index: u64) -> bool {
     let mut themes = [Theme::Plain, Theme::Tables].into_iter();
     themes.any(|theme| sees_in(theme, crowd, fault, index))
+}
+
+/// The same on the pair with an index whose drives are held, by one controller or by two.
+pub fn sees_held(crowd: &Crowd, fault: Fault, index: u64) -> bool {
+    sees_in(Theme::Held, crowd, fault, index)
 }
 
 /// Footprints that lack something let

@@ -8,7 +8,7 @@ use crate::draw::Draw;
 use crate::dump::geometry_words;
 use crate::sides::{model_side, Left};
 use crate::worlds::{name_pair, named_drive, NamedDrive};
-use model::{with_fault, Block, Fault, Geometry, Pair, Table, Track, BLOCK_BYTES};
+use model::{with_fault, Block, Controller, Fault, Geometry, Pair, Table, Track, BLOCK_BYTES};
 use std::panic::{catch_unwind, AssertUnwindSafe};
 
 const VO: u8 = 0x40;
@@ -83,6 +83,7 @@ impl Board<'_> {
             }
         }
         let left = (self.run)(&Case {
+            controller: Controller::First,
             host,
             images: [std::mem::take(&mut self.image), Vec::new()],
             events: vec![0; 512],

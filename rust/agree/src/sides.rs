@@ -1,7 +1,7 @@
 //! The two that are compared: the library, and the model.
 
-use crate::case::{record_in, record_left, Case, RecordBytes};
-use model::{Outcome, Part, Trace, World};
+use crate::case::{record_in, record_left, Case, RecordBytes, HOLDER_AT};
+use model::{Holder, Outcome, Part, Trace, World};
 
 /// All that a side leaves of a case.
 pub struct Left {
@@ -30,10 +30,30 @@ impl Opponent {
             Opponent::Itself => model_side(case).0,
         }
     }
+
+    /// The record of a drive that is released, and whether somebody held it.
+    pub fn release(self, bytes: &RecordBytes) -> (RecordBytes, bool) {
+        match self {
+            Opponent::Library => library::release(bytes),
+            Opponent::Itself => released(bytes),
+        }
+    }
+}
+
+/// The same as it should be: byte 17 of a record that names a holder becomes 0, and no other byte
+/// changes.
+pub fn released(bytes: &RecordBytes) -> (RecordBytes, bool) {
+    let mut left = *bytes;
+    let held = record_in(bytes).holder != Holder::Nobody;
+    if held {
+        left[HOLDER_AT] = 0;
+    }
+    (left, held)
 }
 
 fn world(case: &Case) -> World {
     World {
+        controller: case.controller,
         host: case.host.clone(),
         images: case.images.clone(),
         records: [record_in(&case.records[0]), record_in(&case.records[1])],
@@ -77,18 +97,22 @@ pub fn memory_at_fetch(case: &Case, k: u32) -> Vec<u8> {
 
 #[cfg(not(feature = "library"))]
 mod library {
-    use super::{Case, Left};
+    use super::{Case, Left, RecordBytes};
 
     pub fn run(_: &Case) -> Left {
+        unreachable!("refused at the command line")
+    }
+
+    pub fn release(_: &RecordBytes) -> (RecordBytes, bool) {
         unreachable!("refused at the command line")
     }
 }
 
 #[cfg(feature = "library")]
 mod library {
-    use super::{Case, Left};
+    use super::{Case, Left, RecordBytes};
     use crate::case::Inspection;
-    use model::{Outcome, Part};
+    use model::{Controller, Outcome, Part};
     use vsmd3200::Record;
 
     const GUARD: u8 = 0xa5;
@@ -137,14 +161,10 @@ mod library {
         let mut image1 = Guarded::new(&case.images[1], 34 + shift);
         let mut events = Guarded::new(&case.events, 35 + shift);
         let mut records = case.records.map(Record::from_bytes);
-        let outcome = vsmd3200::run(
-            host.lent(),
-            image0.lent(),
-            image1.lent(),
-            events.lent(),
+        let outcome = call(
+            case,
+            [host.lent(), image0.lent(), image1.lent(), events.lent()],
             &mut records,
-            case.first,
-            case.allowance,
         );
         let named = [
             ("host memory", &host),
@@ -176,6 +196,34 @@ mod library {
             parts,
             outside,
         }
+    }
+
+    /// The run by the call that is for its controller. The first has two: which of them is made goes by
+    /// whether host memory has an odd length, so that both are tried.
+    fn call(case: &Case, lent: [&mut [u8]; 4], records: &mut [Record; 2]) -> vsmd3200::Outcome {
+        let Case {
+            first, allowance, ..
+        } = *case;
+        let [host, image0, image1, events] = lent;
+        let controller = match case.controller {
+            Controller::First => vsmd3200::Controller::First,
+            Controller::Second => vsmd3200::Controller::Second,
+        };
+        if case.controller == Controller::First && host.len() % 2 == 0 {
+            vsmd3200::run(host, image0, image1, events, records, first, allowance)
+        } else {
+            vsmd3200::run_as(
+                host, image0, image1, events, records, first, allowance, controller,
+            )
+        }
+    }
+
+    /// What the wrapper makes of a record when its drive is released, and whether it says that somebody
+    /// held it.
+    pub fn release(bytes: &RecordBytes) -> (RecordBytes, bool) {
+        let mut record = Record::from_bytes(*bytes);
+        let held = record.release();
+        (*record.as_bytes(), held)
     }
 
     fn part(images: &[Vec<u8>; 2], records: &[Record; 2], asked: &Inspection) -> Part {

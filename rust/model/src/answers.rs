@@ -2,7 +2,7 @@
 //! nothing of its place in that order; whoever asks whether a check was passed asks here.
 
 /// The checks on a block, in the order in which they are made.
-pub const CHECKS: [u8; 12] = [10, 11, 12, 13, 14, 15, 16, 17, 18, 19, 22, 23];
+pub const CHECKS: [u8; 13] = [10, 24, 11, 12, 13, 14, 15, 16, 17, 18, 19, 22, 23];
 
 /// What stops a transfer that the checks let through.
 pub const STOPS: [u8; 1] = [20];

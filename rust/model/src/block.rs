@@ -167,8 +167,12 @@ impl Block {
         self.options & 0x10 != 0
     }
 
-    /// RV, read and not judged
+    /// RV, by which a block that ends 80 takes or keeps its drive
     pub fn reserve(&self) -> bool {
+        if seeded(Fault::ReserveMisplaced) {
+            // the bit of EC
+            return self.options & 0x01 != 0;
+        }
         self.options & 0x08 != 0
     }
 

@@ -1,7 +1,9 @@
 //! The error byte that each block answer stores.
 
+use crate::faults::{seeded, Fault};
+
 /// "The error bytes are one constant table." An answer first, then its byte.
-pub const ERROR_BYTES: [(u8, u8); 11] = [
+pub const ERROR_BYTES: [(u8, u8); 12] = [
     (10, 0x14),
     (11, 0x40),
     (12, 0x62),
@@ -13,6 +15,7 @@ pub const ERROR_BYTES: [(u8, u8); 11] = [
     (18, 0xff),
     (19, 0x62),
     (20, 0x13),
+    (24, 0x2e),
 ];
 
 /// The error byte of a block's answer: 00 at status 80, which is answer 0 here; "an answer with
@@ -20,6 +23,10 @@ pub const ERROR_BYTES: [(u8, u8); 11] = [
 pub fn error_byte(answer: u8) -> u8 {
     if answer == 0 {
         return 0x00;
+    }
+    if seeded(Fault::HeldWithoutByte) && answer == 24 {
+        // as if no line spoke of it
+        return 0xff;
     }
     for (number, byte) in ERROR_BYTES {
         if number == answer {

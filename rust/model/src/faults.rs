@@ -102,6 +102,37 @@ pub enum Fault {
     RefusedFormatWordsWritten,
     WordAfterFormatWords,
     RemapWordsWritten,
+    HeldBefore10,
+    HeldAfter11,
+    HandshakeRefused,
+    InitializeExempt,
+    OwnHolderRefused,
+    HeldWithoutByte,
+    ReserveMisplaced,
+    ReserveAfterTransfer,
+    ReserveOfTransfersAlone,
+    RefusedBlockTakes,
+    RefusedBlockGivesUp,
+    StoppedReadTakes,
+    StoppedReadGivesUp,
+    HandshakeTakes,
+    HandshakeGivesUp,
+    DriveKept,
+    InitializeLeavesHolder,
+    HolderAlwaysFirst,
+    HolderOfOtherUnit,
+    HolderOfAnyVersion,
+    HolderOfAnyLength,
+    HolderWithFlagAlone,
+    HolderOf3,
+    HolderOver2Accepted,
+    InspectionAsksHolder,
+    HoldersUnknown,
+    HeldUibRead,
+    HeldListRead,
+    HeldUnitForgotten,
+    DrivesOfEachController,
+    OneMemoryForBoth,
 }
 
 impl Fault {
@@ -192,6 +223,36 @@ impl Fault {
         Fault::LastSectorFolded,
     ];
 
+    /// In the rules about holders: seen where two controllers run in turn.
+    pub const IN_HOLDERS: [Fault; 26] = [
+        Fault::HeldBefore10,
+        Fault::HeldAfter11,
+        Fault::HandshakeRefused,
+        Fault::InitializeExempt,
+        Fault::OwnHolderRefused,
+        Fault::HeldWithoutByte,
+        Fault::ReserveMisplaced,
+        Fault::ReserveAfterTransfer,
+        Fault::ReserveOfTransfersAlone,
+        Fault::RefusedBlockTakes,
+        Fault::RefusedBlockGivesUp,
+        Fault::StoppedReadTakes,
+        Fault::StoppedReadGivesUp,
+        Fault::HandshakeTakes,
+        Fault::HandshakeGivesUp,
+        Fault::DriveKept,
+        Fault::InitializeLeavesHolder,
+        Fault::HolderAlwaysFirst,
+        Fault::HolderOfOtherUnit,
+        Fault::HolderOfAnyVersion,
+        Fault::HolderOfAnyLength,
+        Fault::HolderWithFlagAlone,
+        Fault::HolderOf3,
+        Fault::HolderOver2Accepted,
+        Fault::InspectionAsksHolder,
+        Fault::HoldersUnknown,
+    ];
+
     /// In footprints, which have too little or too much; every run is right.
     pub const IN_FOOTPRINTS: [Fault; 22] = [
         Fault::BlockNotRead,
@@ -216,6 +277,15 @@ impl Fault {
         Fault::RefusedFormatWordsWritten,
         Fault::WordAfterFormatWords,
         Fault::RemapWordsWritten,
+    ];
+
+    /// The same of drives that are held and of controllers that are two: seen on pairs that have them.
+    pub const IN_HELD_FOOTPRINTS: [Fault; 5] = [
+        Fault::HeldUibRead,
+        Fault::HeldListRead,
+        Fault::HeldUnitForgotten,
+        Fault::DrivesOfEachController,
+        Fault::OneMemoryForBoth,
     ];
 
     /// The fault in words.
@@ -316,6 +386,37 @@ impl Fault {
             Fault::RefusedFormatWordsWritten => "footprint with the words of a refused 8C",
             Fault::WordAfterFormatWords => "footprint with the word after those of 8C",
             Fault::RemapWordsWritten => "footprint with words 2 to 5 of 85",
+            Fault::HeldBefore10 => "24 before 10",
+            Fault::HeldAfter11 => "24 after 11",
+            Fault::HandshakeRefused => "24 for 86 too",
+            Fault::InitializeExempt => "24 not for 87",
+            Fault::OwnHolderRefused => "24 for the holder too",
+            Fault::HeldWithoutByte => "24 with the error byte FF",
+            Fault::ReserveMisplaced => "RV taken from EC's bit",
+            Fault::ReserveAfterTransfer => "RV read after the transfer, from host memory",
+            Fault::ReserveOfTransfersAlone => "RV of 81, 82, A1 and A2 alone heeded",
+            Fault::RefusedBlockTakes => "refused block with RV takes the drive",
+            Fault::RefusedBlockGivesUp => "refused block without RV gives the drive up",
+            Fault::StoppedReadTakes => "stopped read with RV takes the drive",
+            Fault::StoppedReadGivesUp => "stopped read without RV gives the drive up",
+            Fault::HandshakeTakes => "86 with RV takes the drive",
+            Fault::HandshakeGivesUp => "86 without RV gives the drive up",
+            Fault::DriveKept => "drive kept by a block without RV",
+            Fault::InitializeLeavesHolder => "87 leaves the holder as it was",
+            Fault::HolderAlwaysFirst => "drive taken for the first controller, whoever takes it",
+            Fault::HolderOfOtherUnit => "holder of the other unit changed",
+            Fault::HolderOfAnyVersion => "holder of a record of another version believed",
+            Fault::HolderOfAnyLength => "holder of a record of another length believed",
+            Fault::HolderWithFlagAlone => "holder of a record whose flag is not 01 ignored",
+            Fault::HolderOf3 => "holder 3 taken for the second controller",
+            Fault::HolderOver2Accepted => "record with a holder over 2 taken",
+            Fault::InspectionAsksHolder => "inspection of a held drive finds nothing",
+            Fault::HoldersUnknown => "no holder known",
+            Fault::HeldUibRead => "footprint with the UIB of an 87 refused by 24",
+            Fault::HeldListRead => "footprint with the list of a block refused by 24",
+            Fault::HeldUnitForgotten => "footprint without the unit of a block refused by 24",
+            Fault::DrivesOfEachController => "footprint with drives for each controller",
+            Fault::OneMemoryForBoth => "footprint with one memory for both controllers",
         }
     }
 }
@@ -324,19 +425,19 @@ thread_local! {
     static SEEDED: Cell<Option<Fault>> = const { Cell::new(None) };
 }
 
-/// Takes the fault out again, also where the model panics under it.
-struct Seed;
+/// Takes the fault out again, also where the model panics under it: what was seeded before it is so
+/// again.
+struct Seed(Option<Fault>);
 
 impl Drop for Seed {
     fn drop(&mut self) {
-        SEEDED.with(|seeded| seeded.set(None));
+        SEEDED.with(|seeded| seeded.set(self.0));
     }
 }
 
-/// What a function gives with a fault seeded, in this thread and no longer than it runs.
+/// What a function gives with a fault seeded, and no other, in this thread and no longer than it runs.
 pub fn with_fault<R>(fault: Fault, f: impl FnOnce() -> R) -> R {
-    let _seed = Seed;
-    SEEDED.with(|seeded| seeded.set(Some(fault)));
+    let _seed = Seed(SEEDED.with(|seeded| seeded.replace(Some(fault))));
     f()
 }
 

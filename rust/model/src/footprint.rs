@@ -1,19 +1,23 @@
 //! What a chain has to do with, for demand 3: the units that its blocks name, the host bytes that
-//! it reads and those that it writes. The paper lists them by the block; here the list is marked,
-//! byte by byte, over the blocks that were fetched. Nothing here has a part in what a run does.
+//! it reads and those that it writes, in the memory of the controller that runs it. The paper lists
+//! them by the block; here the list is marked, byte by byte, over the blocks that were fetched.
+//! Nothing here has a part in what a run does.
 
 use crate::answers::{let_through, passed};
 use crate::block::{Block, BLOCK_BYTES};
 use crate::faults::{seeded, Fault};
 use crate::geometry::UIB_BYTES;
+use crate::holders::Controller;
 use crate::judge::{data_bytes, list_bytes, list_was_read, Accepted, Piece};
 use crate::run::{Done, World};
 use crate::trace::filled;
 use std::ops::Range;
 
-/// The units named, and for each byte of host memory whether it is read and whether it is written.
+/// The units named, and for each byte of the controller's memory whether it is read and whether it is
+/// written.
 #[derive(Clone, Debug, PartialEq, Eq)]
 pub struct Footprint {
+    pub controller: Controller,
     pub units: [bool; 2],
     pub read: Vec<bool>,
     pub written: Vec<bool>,
@@ -39,15 +43,18 @@ impl Common {
 
 impl Footprint {
     /// The footprint of the blocks that were fetched; a refused run has fetched none.
-    pub(crate) fn of(fetched: &[Fetched], host: &[u8]) -> Footprint {
+    pub(crate) fn of(controller: Controller, fetched: &[Fetched], host: &[u8]) -> Footprint {
         let mut footprint = Footprint {
+            controller,
             units: [false; 2],
             read: vec![false; host.len()],
             written: vec![false; host.len()],
         };
         for each in fetched {
-            // the fault looks at the units of accepted blocks alone
-            if !(seeded(Fault::RefusedUnitForgotten) && each.refused()) {
+            // the faults look at the units of accepted blocks alone, or at all but held ones
+            let forgotten = seeded(Fault::RefusedUnitForgotten) && each.refused()
+                || seeded(Fault::HeldUnitForgotten) && each.answer == 24;
+            if !forgotten {
                 footprint.units[each.block.unit() as usize] = true;
             }
             mark(&mut footprint.read, each, each.read(host));
@@ -57,12 +64,18 @@ impl Footprint {
     }
 
     /// "If the blocks they fetch name no unit in common, ... and no host byte that one writes is
-    /// read or written by the other": what there is against it.
+    /// read or written by the other": what there is against it. Drives are the same "whichever
+    /// controller runs them"; a host byte is one controller's.
     pub fn common(&self, other: &Footprint) -> Common {
+        let one_controller = self.controller == other.controller;
+        // one fault has drives for each controller, the other one memory for both
+        let one_drive = one_controller || !seeded(Fault::DrivesOfEachController);
+        let one_memory = one_controller || seeded(Fault::OneMemoryForBoth);
+        let written_and_read = both(&self.written, &other.read) || both(&self.read, &other.written);
         Common {
-            unit: both(&self.units, &other.units),
-            written_and_read: both(&self.written, &other.read) || both(&self.read, &other.written),
-            written_by_both: both(&self.written, &other.written),
+            unit: one_drive && both(&self.units, &other.units),
+            written_and_read: one_memory && written_and_read,
+            written_by_both: one_memory && both(&self.written, &other.written),
         }
     }
 }
@@ -198,12 +211,17 @@ impl Fetched {
         let block = &self.block;
         let address = block.buffer_address;
         let takes = matches!(block.command, 0x82 | 0x8c);
+        let lists = matches!(block.command, 0xa1 | 0xa2);
         let (line, bytes) = if seeded(Fault::RefusedDataRead) && takes && self.refused() {
             (Line::DataTaken, self.asked)
         } else if seeded(Fault::UnreadListRead) && self.answer == 18 {
             (Line::List, list_bytes(block))
         } else if seeded(Fault::MisplacedUibRead) && self.answer == 12 {
             (Line::Uib, UIB_BYTES as u64)
+        } else if seeded(Fault::HeldUibRead) && self.answer == 24 && block.command == 0x87 {
+            (Line::Uib, UIB_BYTES as u64)
+        } else if seeded(Fault::HeldListRead) && self.answer == 24 && lists {
+            (Line::List, list_bytes(block))
         } else {
             return Vec::new();
         };

@@ -4,6 +4,7 @@
 //! function divides by a number that can be zero.
 
 use crate::faults::{seeded, Fault};
+use crate::holders::Holder;
 use crate::spares::{Table, Track};
 
 /// The heads of one volume: the first one and how many.
@@ -21,14 +22,15 @@ pub struct Geometry {
     pub volumes: [Volume; 2],
 }
 
-/// "A unit record holds whether the unit is initialized, its geometry and its cylinder", and since
-/// K5 a table of bad tracks and their spares.
+/// "A unit record holds whether the unit is initialized, its geometry and its cylinder", since K5 a
+/// table of bad tracks and their spares, and since K10 who holds the drive.
 #[derive(Clone, Copy, Debug, PartialEq, Eq)]
 pub struct Record {
     pub initialized: bool,
     pub geometry: Geometry,
     pub cylinder: u16,
     pub table: Table,
+    pub holder: Holder,
 }
 
 /// A sector of a volume by its parts; the head is counted from the volume's start head.

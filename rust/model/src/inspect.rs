@@ -2,6 +2,7 @@
 
 use crate::faults::{seeded, Fault};
 use crate::geometry::Record;
+use crate::holders::Holder;
 use crate::spares::Track;
 
 /// A part of a unit's image.
@@ -20,13 +21,18 @@ const NOTHING: Part = Part {
 };
 
 /// Which part of which image holds the sector at a place. "The inspection call still goes by place
-/// in the image": no track gives way to its spare.
+/// in the image": no track gives way to its spare. It is no block of a chain, so that it asks nobody
+/// who holds the drive.
 pub fn inspect(records: &[Record; 2], image_lengths: [u64; 2], unit: u32, place: u64) -> Part {
     if unit > 1 {
         return NOTHING;
     }
     let record = records[unit as usize];
     if !record.counts_as_initialized() {
+        return NOTHING;
+    }
+    if seeded(Fault::InspectionAsksHolder) && record.holder != Holder::Nobody {
+        // as if somebody might be at it
         return NOTHING;
     }
     let sectors = if seeded(Fault::InspectedOnePlaceMore) {

@@ -1,5 +1,5 @@
-//! The checks 10 to 19, 22 and 23 on a block that has been copied out. Nothing is stored here: a list and a
-//! UIB are read as they stand before the block's word 1 changes.
+//! The checks 10 to 19 and 22 to 24 on a block that has been copied out. Nothing is stored here: a list and
+//! a UIB are read as they stand before the block's word 1 changes.
 
 use crate::answers::passed;
 use crate::block::{in_memory, odd, Block, Element, ELEMENT_BYTES};
@@ -11,7 +11,9 @@ use crate::spares::{Pair, Track};
 /// The commands that are included, that of paper 02 among them.
 pub const COMMANDS: [u8; 10] = [0x81, 0x82, 0x85, 0x86, 0x87, 0x89, 0x8a, 0x8c, 0xa1, 0xa2];
 
-// The column "Commands" of the table of block answers, a line each; "for 85 the checks 11 and 16".
+// The column "Commands" of the table of block answers, a line each; "for 85 the checks 11 and 16", and 24
+// "not for 86".
+const ASKED_24: [u8; 9] = [0x81, 0x82, 0x85, 0x87, 0x89, 0x8a, 0x8c, 0xa1, 0xa2];
 const ASKED_11: [u8; 8] = [0x81, 0x82, 0x85, 0x89, 0x8a, 0x8c, 0xa1, 0xa2];
 const ASKED_12_AND_13: [u8; 1] = [0x87];
 const ASKED_14: [u8; 5] = [0x81, 0x82, 0x8a, 0xa1, 0xa2];
@@ -55,14 +57,7 @@ pub(crate) fn judge(world: &World, block: &Block) -> Result<Accepted, u8> {
         pair: None,
     };
 
-    // the fault is the board before 85 came
-    let left_out = seeded(Fault::RemapUnlisted) && command == 0x85;
-    if !COMMANDS.contains(&command) || left_out {
-        return Err(10);
-    }
-    if ASKED_11.contains(&command) && !record.counts_as_initialized() {
-        return Err(11);
-    }
+    first_checks(world, block, &record)?;
     if ASKED_12_AND_13.contains(&command) {
         let uib = match read_uib(&world.host, block.buffer_address) {
             Some(uib) => Geometry::from_uib(&uib),
@@ -110,6 +105,45 @@ pub(crate) fn judge(world: &World, block: &Block) -> Result<Accepted, u8> {
         accepted.pair = Some(pair);
     }
     Ok(accepted)
+}
+
+/// Checks 10, 24 and 11. "24 drive held, directly after 10 .., not for 86": a record that counts as not
+/// initialized has a holder too.
+fn first_checks(world: &World, block: &Block, record: &Record) -> Result<(), u8> {
+    let command = block.command;
+    let held = record.holder.is_other_than(world.controller);
+    // the fault looks at the drive before it looks at the command
+    if seeded(Fault::HeldBefore10) && held && command != 0x86 {
+        return Err(24);
+    }
+    // the fault is the board before 85 came
+    let left_out = seeded(Fault::RemapUnlisted) && command == 0x85;
+    if !COMMANDS.contains(&command) || left_out {
+        return Err(10);
+    }
+    if held && asked_24(command) && !seeded(Fault::HeldAfter11) {
+        return Err(24);
+    }
+    if ASKED_11.contains(&command) && !record.counts_as_initialized() {
+        return Err(11);
+    }
+    // where the fault comes to it: of an 87, and of units that are initialized
+    if held && asked_24(command) {
+        return Err(24);
+    }
+    Ok(())
+}
+
+fn asked_24(command: u8) -> bool {
+    if seeded(Fault::HandshakeRefused) && command == 0x86 {
+        // every command
+        return true;
+    }
+    if seeded(Fault::InitializeExempt) && command == 0x87 {
+        // as it is exempt from 11
+        return false;
+    }
+    ASKED_24.contains(&command)
 }
 
 /// Checks 18 and 19: the ranges of host memory that the data come from or go to. Only a list has

@@ -5,13 +5,16 @@ use crate::errors::error_byte;
 use crate::faults::{seeded, Fault};
 use crate::footprint::Fetched;
 use crate::geometry::{Found, Geometry, Record};
+use crate::holders::{Controller, Holder};
 use crate::judge::{judge, Accepted, Piece};
 use crate::spares::{Table, Track};
 use crate::trace::{visit_after, visit_before, Past, Trace, Visit};
 
-/// Everything a run is handed and hands back.
+/// Everything a run is handed and hands back: the controller that runs it, with a host memory and events
+/// of its own, and the drives, which two controllers can share.
 #[derive(Clone, Debug, PartialEq, Eq)]
 pub struct World {
+    pub controller: Controller,
     pub host: Vec<u8>,
     pub images: [Vec<u8>; 2],
     pub records: [Record; 2],
@@ -102,7 +105,7 @@ fn run_chain(
         tables: [world.records[0].table, world.records[1].table],
         world,
     };
-    let mut trace = Trace::default();
+    let mut trace = Trace::of(chain.world.controller);
     let mut outcome = Outcome {
         answer: 0,
         failed: 0,
@@ -214,7 +217,31 @@ impl Chain<'_> {
         self.store_word_1(at, status, error);
         self.store_event(k, status, error, block, done.travel);
         let fetched = Fetched::new(self.world, at, block, &judged, &done);
+        self.hold(at, block, done.answer);
+        let visit = Visit {
+            held_after: self.world.records[block.unit() as usize].holder,
+            ..visit
+        };
         (visit, fetched)
+    }
+
+    /// Who holds the drive once the block has ended, by the 28 bytes that were copied out.
+    fn hold(&mut self, at: u32, block: &Block, answer: u8) {
+        let mut asked = *block;
+        if seeded(Fault::ReserveAfterTransfer) {
+            // its data may lie over its options
+            asked.options = self.world.host[at as usize + 1];
+        }
+        let Some(holder) = holder_after(self.world.controller, &asked, answer) else {
+            return;
+        };
+        let unit = if seeded(Fault::HolderOfOtherUnit) {
+            // one drive for the other
+            1 - block.unit()
+        } else {
+            block.unit()
+        };
+        self.world.records[unit as usize].holder = holder;
     }
 
     fn perform(&mut self, at: u32, block: &Block, accepted: &Accepted) -> Done {
@@ -309,6 +336,8 @@ impl Chain<'_> {
                     } else {
                         Table::NONE
                     },
+                    // that is told when the block has ended
+                    holder: record.holder,
                 };
             }
         }
@@ -566,6 +595,44 @@ impl Chain<'_> {
             self.world.events[at + byte] = entry[byte];
         }
     }
+}
+
+/// The holder that a block leaves its drive with; None where it leaves the one that there was. "RV on a
+/// successful block takes or keeps the drive; a successful block without RV gives it up; 86 does
+/// neither. A failed block leaves the holder as it was."
+fn holder_after(controller: Controller, block: &Block, answer: u8) -> Option<Holder> {
+    if left_alone(block, answer) || seeded(Fault::HoldersUnknown) {
+        return None;
+    }
+    let transfer = matches!(block.command, 0x81 | 0x82 | 0xa1 | 0xa2);
+    // the fault looks for RV where data are moved, and nowhere else
+    let heeded = transfer || !seeded(Fault::ReserveOfTransfersAlone);
+    if !block.reserve() || !heeded {
+        return Some(Holder::Nobody);
+    }
+    if seeded(Fault::HolderAlwaysFirst) {
+        // one name for all
+        return Some(Holder::First);
+    }
+    Some(controller.as_holder())
+}
+
+/// Whether a block has no say in who holds its drive; each fault lets one have it, or one more be
+/// without.
+fn left_alone(block: &Block, answer: u8) -> bool {
+    let reserve = block.reserve();
+    let by_fault = |takes: Fault, gives_up: Fault| seeded(if reserve { takes } else { gives_up });
+    if block.command == 0x86 {
+        return !by_fault(Fault::HandshakeTakes, Fault::HandshakeGivesUp);
+    }
+    if answer == 20 {
+        return !by_fault(Fault::StoppedReadTakes, Fault::StoppedReadGivesUp);
+    }
+    if answer != 0 {
+        return !by_fault(Fault::RefusedBlockTakes, Fault::RefusedBlockGivesUp);
+    }
+    seeded(Fault::DriveKept) && !reserve
+        || seeded(Fault::InitializeLeavesHolder) && block.command == 0x87
 }
 
 /// The address of the k-th byte, k from 0, of the pieces joined in order. None past their end,

@@ -1,6 +1,7 @@
 //! The session program, as a function from the bytes it reads to the bytes it prints.
 
 use crate::geometry::{Geometry, Record, Volume};
+use crate::holders::{Controller, Holder};
 use crate::run::{run, World, LEAST_EVENT_BYTES};
 use crate::spares::Table;
 
@@ -38,7 +39,8 @@ pub fn session(input: &[u8]) -> Vec<u8> {
     printed.into_bytes()
 }
 
-/// Memory and images are "empty until given. Units start uninitialized."
+/// Memory and images are "empty until given. Units start uninitialized." A session has one controller,
+/// and that is the first.
 fn empty_world() -> World {
     let volume = Volume {
         start_head: 0,
@@ -55,8 +57,10 @@ fn empty_world() -> World {
         geometry,
         cylinder: 0,
         table: Table::NONE,
+        holder: Holder::Nobody,
     };
     World {
+        controller: Controller::First,
         host: Vec::new(),
         images: [Vec::new(), Vec::new()],
         records: [record, record],

@@ -4,6 +4,7 @@
 use crate::block::{Block, BLOCK_BYTES};
 use crate::footprint::{Fetched, Footprint};
 use crate::geometry::{Found, Record};
+use crate::holders::{Controller, Holder};
 use crate::judge::{list_bytes, list_was_read, Accepted, Piece};
 use crate::run::{Done, World};
 use crate::spares::{Taken, Track};
@@ -14,12 +15,21 @@ pub struct Trace {
     pub blocks: Vec<Visit>,
     /// The same blocks, with what a footprint wants to know of each.
     pub(crate) fetched: Vec<Fetched>,
+    /// Who ran them.
+    controller: Controller,
 }
 
 impl Trace {
+    pub(crate) fn of(controller: Controller) -> Trace {
+        Trace {
+            controller,
+            ..Trace::default()
+        }
+    }
+
     /// The chain's footprint in host memory, of which only the length counts.
     pub fn footprint(&self, host: &[u8]) -> Footprint {
-        Footprint::of(&self.fetched, host)
+        Footprint::of(self.controller, &self.fetched, host)
     }
 }
 
@@ -66,6 +76,13 @@ pub struct Visit {
     pub taken: Option<Taken>,
     /// What the table of the unit had to do with it.
     pub landing: Landing,
+    /// Who ran it.
+    pub controller: Controller,
+    /// Who held the drive when the block was judged, and who did when it had ended.
+    pub holder: Holder,
+    pub held_after: Holder,
+    /// Refused by 24, on a unit whose record counts as not initialized besides.
+    pub held_and_not_ready: bool,
 }
 
 /// How an accepted 81, 82, 8A, 8C, A1 or A2 landed, over the sectors that it tried.
@@ -192,7 +209,8 @@ pub(crate) fn visit_before(
         Ok(_) => 0,
         Err(answer) => *answer,
     };
-    let geometry = world.records[block.unit() as usize].geometry;
+    let record = &world.records[block.unit() as usize];
+    let geometry = record.geometry;
     let word_1 = at as u64 + 2;
     let accepted = judged.is_ok();
     let transfer = matches!(block.command, 0x81 | 0x82 | 0xa1 | 0xa2);
@@ -228,11 +246,15 @@ pub(crate) fn visit_before(
         elements_overlap: two_share(pieces),
         overwritten: past.overwritten(at),
         overwritten_with_other_bytes: past.overwritten_with_other_bytes(&world.host, at),
-        taken: taken(&world.records[block.unit() as usize], block, answer),
+        taken: taken(record, block, answer),
         landing: Landing {
-            pairs: world.records[block.unit() as usize].table.count(),
+            pairs: record.table.count(),
             ..Landing::default()
         },
+        controller: world.controller,
+        holder: record.holder,
+        held_after: record.holder,
+        held_and_not_ready: answer == 24 && !record.counts_as_initialized(),
     }
 }
 

@@ -33,6 +33,14 @@ impl Draw {
     }
 }
 
+fn any_holder(draw: &mut Draw) -> Holder {
+    match draw.below(8) {
+        0 => Holder::First,
+        1 => Holder::Second,
+        _ => Holder::Nobody,
+    }
+}
+
 fn record(draw: &mut Draw) -> Record {
     if draw.one_in(6) {
         // Any numbers at all.
@@ -57,11 +65,13 @@ fn record(draw: &mut Draw) -> Record {
             },
             cylinder: word(10),
             table: any_table(draw, 0),
+            holder: any_holder(draw),
         };
     }
     let mut record = Record {
         initialized: !draw.one_in(8),
         cylinder: draw.below(11) as u16,
+        holder: any_holder(draw),
         ..ready()
     };
     if draw.one_in(6) {
@@ -201,6 +211,7 @@ fn any_world(draw: &mut Draw) -> World {
         512 + draw.below(40)
     };
     World {
+        controller: Controller::BOTH[draw.below(2) as usize],
         host,
         images,
         records: [record(draw), record(draw)],
@@ -228,7 +239,11 @@ fn holds(before: &World, after: &World, outcome: &Outcome, trace: &Trace, allowa
         let length = before.images[unit].len();
         assert_eq!(length, after.images[unit].len());
         // "No command changes a mark", and bytes after the marks are never touched.
-        if before.records[unit] == ready() && length >= 7680 {
+        let free = Record {
+            holder: Holder::Nobody,
+            ..before.records[unit]
+        };
+        if free == ready() && length >= 7680 {
             assert_eq!(before.images[unit][7680..], after.images[unit][7680..]);
         }
     }
@@ -236,7 +251,26 @@ fn holds(before: &World, after: &World, outcome: &Outcome, trace: &Trace, allowa
         let known =
             visit.answer == 0 || CHECKS.contains(&visit.answer) || STOPS.contains(&visit.answer);
         assert!(known);
+        held(visit);
     }
+}
+
+/// Who is refused by 24, and who holds the drive afterwards.
+fn held(visit: &Visit) {
+    let other = match visit.controller {
+        Controller::First => Holder::Second,
+        Controller::Second => Holder::First,
+    };
+    let asked = COMMANDS.contains(&visit.command) && visit.command != 0x86;
+    assert_eq!(visit.answer == 24, asked && visit.holder == other);
+    let after = if visit.answer != 0 || visit.command == 0x86 {
+        visit.holder
+    } else if visit.options & RV != 0 {
+        visit.controller.as_holder()
+    } else {
+        Holder::Nobody
+    };
+    assert_eq!(visit.held_after, after);
 }
 
 /// A run's footprint says enough: no byte outside what is written is stored, and no byte outside
@@ -263,7 +297,7 @@ fn local(before: &World, after: &World, outcome: &Outcome, trace: &Trace, first:
     assert_eq!(left, *after);
 }
 
-fn traps(visit: &Visit) -> [bool; 9] {
+fn traps(visit: &Visit) -> [bool; 12] {
     [
         visit.landing.on_spare,
         visit.landing.in_part,
@@ -274,6 +308,9 @@ fn traps(visit: &Visit) -> [bool; 9] {
         visit.stored_over_own_status,
         visit.took_own_status,
         visit.overwritten_with_other_bytes,
+        visit.holder == Holder::Nobody && visit.held_after != Holder::Nobody,
+        visit.holder != Holder::Nobody && visit.held_after == Holder::Nobody,
+        visit.held_and_not_ready,
     ]
 }
 
@@ -282,8 +319,8 @@ fn any_world_at_all() {
     let mut draw = Draw(0x2545_f491_4f6c_dd1d);
     let mut answers = [0u32; 7];
     let mut failed = [0u32; 256];
-    let mut met = [0u32; 9];
-    for _ in 0..5_000 {
+    let mut met = [0u32; 12];
+    for _ in 0..8_000 {
         let mut w = any_world(&mut draw);
         let first = if draw.one_in(12) {
             draw.address(w.host.len())

@@ -315,3 +315,44 @@ fn unit_in_common() {
     assert_eq!(in_common(&block(0x86, 0), &block(0x89, 0)), shared);
     assert_eq!(in_common(&block(0x86, 0), &block(0x89, UN)), NOTHING);
 }
+
+/// A block refused by 24 reads its 28 bytes: no UIB, no list and no data.
+#[test]
+fn held_by_the_other() {
+    let blocks = [
+        initialize(100),
+        listed(0xa1, 1, 100, 1),
+        listed(0xa2, 1, 100, 1),
+        logical(0x82, 0, 0, 2, 100),
+        logical(0x81, 0, 0, 2, 100),
+        physical(0x8c, 0, (3, 2, 0), 7, 100),
+        remap(0, (1, 0), (9, 2)),
+    ];
+    for block in blocks {
+        let mut w = with(300, &block);
+        put(&mut w.host, 100, &SMALL_UIB);
+        w.records[0].holder = Holder::Second;
+        touches(&w, 24, &[OWN_READ], &[WORD_1]);
+        let (footprint, _) = followed(&w, 0, 1);
+        assert_eq!(footprint.units, [true, false]);
+    }
+}
+
+/// A drive is the same one for both controllers; a memory is one controller's.
+#[test]
+fn two_controllers_have_drives_in_common() {
+    let mut w = with(300, &logical(0x81, 0, 0, 2, 100));
+    let (one, _) = followed(&w, 0, 1);
+    w.controller = Controller::Second;
+    let (other, _) = followed(&w, 0, 1);
+    let common = one.common(&other);
+    assert!(common.unit && !common.written_and_read && !common.written_by_both);
+    put_block(&mut w, 0, &block(0x89, UN));
+    w.records[1] = ready();
+    let (other, _) = followed(&w, 0, 1);
+    assert!(one.common(&other).nothing());
+    w.controller = Controller::First;
+    let (other, _) = followed(&w, 0, 1);
+    let common = one.common(&other);
+    assert!(!common.unit && common.written_and_read && common.written_by_both);
+}

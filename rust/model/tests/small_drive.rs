@@ -236,7 +236,8 @@ fn table_11() {
             initialized: true,
             geometry: g,
             cylinder: 0,
-            table: Table::NONE
+            table: Table::NONE,
+            holder: Holder::Nobody
         }
     );
     assert_eq!(travel(&w, 1), 0);

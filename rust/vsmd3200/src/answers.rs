@@ -51,6 +51,8 @@ pub enum BlockAnswer {
     TracksTaken = 22,
     /// The table has 32 pairs.
     TableFull = 23,
+    /// The other controller holds the drive. Asked before [`BlockAnswer::NotInitialized`].
+    DriveHeld = 24,
 }
 
 impl RunAnswer {
@@ -78,7 +80,7 @@ impl RunAnswer {
 
 impl BlockAnswer {
     /// All of them, by number.
-    pub const ALL: [BlockAnswer; 13] = [
+    pub const ALL: [BlockAnswer; 14] = [
         BlockAnswer::CommandUnknown,
         BlockAnswer::NotInitialized,
         BlockAnswer::UibMisplaced,
@@ -92,15 +94,16 @@ impl BlockAnswer {
         BlockAnswer::Unreadable,
         BlockAnswer::TracksTaken,
         BlockAnswer::TableFull,
+        BlockAnswer::DriveHeld,
     ];
 
-    /// The answer with a number, 10 to 20, 22 or 23.
+    /// The answer with a number, 10 to 20 or 22 to 24.
     pub fn from_number(number: u8) -> Option<BlockAnswer> {
         let mut all = BlockAnswer::ALL.into_iter();
         all.find(|answer| answer.number() == number)
     }
 
-    /// Whether the block was refused before transfer, which 10 to 19, 22 and 23 say: it changed nothing
+    /// Whether the block was refused before transfer, which 10 to 19 and 22 to 24 say: it changed nothing
     /// but its own status word and its event entry.
     pub const fn before_transfer(self) -> bool {
         !matches!(self, BlockAnswer::Unreadable)

@@ -1,6 +1,6 @@
 //! The foreign calls, and the safe functions around them.
 
-use crate::layouts::{Outcome, Record, LAYOUT_VERSION, OUTCOME_LEN, RECORD_LEN};
+use crate::layouts::{Controller, Outcome, Record, LAYOUT_VERSION, OUTCOME_LEN, RECORD_LEN};
 
 /// The functions of the archive, as `include/vsmd3200.h` declares them. Each lent slice crosses
 /// as a pointer and a length.
@@ -26,6 +26,25 @@ mod foreign {
             outcome_len: usize,
             first: u32,
             allowance: u32,
+        ) -> u32;
+        pub fn vsmd_run_as(
+            host: *mut u8,
+            host_len: usize,
+            image0: *mut u8,
+            image0_len: usize,
+            image1: *mut u8,
+            image1_len: usize,
+            events: *mut u8,
+            events_len: usize,
+            record0: *mut u8,
+            record0_len: usize,
+            record1: *mut u8,
+            record1_len: usize,
+            outcome: *mut u8,
+            outcome_len: usize,
+            first: u32,
+            allowance: u32,
+            controller: u32,
         ) -> u32;
         pub fn vsmd_inspect(
             record0: *const u8,
@@ -71,13 +90,13 @@ fn assert_layouts() {
 }
 
 /// Runs the chain of blocks that begins at the address `first` of host memory, fetching at most
-/// `allowance` blocks.
+/// `allowance` blocks. The run is the first controller's; [`run_as`] is for either.
 ///
 /// `image0`, `image1` and `records` are the two units' images and records. The k-th block run
 /// leaves its entry in the 8 bytes of `events` from 8(k − 1) on. What the blocks wrote stands
 /// in host memory and the images afterwards; a record is another where a block changed it (an
-/// initialize, heads that stand elsewhere, a pair more in its table). With the answers 1, 2 and 3
-/// nothing is changed.
+/// initialize, heads that stand elsewhere, a pair more in its table, another holder of the drive).
+/// With the answers 1, 2 and 3 nothing is changed.
 ///
 /// # Panics
 ///
@@ -119,9 +138,71 @@ pub fn run(
             allowance,
         )
     };
-    match Outcome::from_bytes(&outcome) {
+    told(&outcome, answer)
+}
+
+/// The same for one of two controllers that share the drives: their images, and their records with
+/// geometry, cylinder, bad tracks and holder. Host memory and events are the controller's own.
+///
+/// A block for a drive that the other controller holds is refused with
+/// [`BlockAnswer::DriveHeld`](crate::BlockAnswer::DriveHeld), whatever its command, an initialize too;
+/// only a handshake is let through. A block other than a handshake that succeeds takes or keeps the
+/// drive where its option RV is set, and gives it up where it is not; one that fails leaves the holder
+/// as it was.
+///
+/// The images and records are borrowed for the whole call, so that two calls never work on one drive
+/// at once.
+///
+/// # Panics
+///
+/// Where the linked library has other layouts than this crate.
+#[allow(clippy::too_many_arguments)] // those of `run`, in their order, and one
+pub fn run_as(
+    host: &mut [u8],
+    image0: &mut [u8],
+    image1: &mut [u8],
+    events: &mut [u8],
+    records: &mut [Record; 2],
+    first: u32,
+    allowance: u32,
+    controller: Controller,
+) -> Outcome {
+    assert_layouts();
+    let [record0, record1] = records;
+    let record0 = record0.as_mut_bytes();
+    let record1 = record1.as_mut_bytes();
+    let mut outcome = [0; OUTCOME_LEN];
+    // SAFETY: as in `run`; the number of a controller is one that the library knows, and it would
+    // only refuse another.
+    let answer = unsafe {
+        foreign::vsmd_run_as(
+            host.as_mut_ptr(),
+            host.len(),
+            image0.as_mut_ptr(),
+            image0.len(),
+            image1.as_mut_ptr(),
+            image1.len(),
+            events.as_mut_ptr(),
+            events.len(),
+            record0.as_mut_ptr(),
+            record0.len(),
+            record1.as_mut_ptr(),
+            record1.len(),
+            outcome.as_mut_ptr(),
+            outcome.len(),
+            first,
+            allowance,
+            controller.number(),
+        )
+    };
+    told(&outcome, answer)
+}
+
+/// The outcome that a run left. The buffers of the layouts are as long as the library asks, and the
+/// controller is one of the two, so it refuses nothing.
+fn told(outcome: &[u8; OUTCOME_LEN], answer: u32) -> Outcome {
+    match Outcome::from_bytes(outcome) {
         Some(outcome) if u32::from(outcome.answer.number()) == answer => outcome,
-        // The buffers of the layouts are as long as the library asks, so it refuses none.
         _ => panic!("the linked library left no outcome of this crate's layout"),
     }
 }
@@ -129,9 +210,9 @@ pub fn run(
 /// Which part of which image the sector at a place of a unit is, for images of these lengths.
 ///
 /// The place counts sectors from the start of the image; no table has a say in it, so a bad track and
-/// its spare are each seen where they stand. Where there is no such sector (unit over
-/// 1, unit not initialized, place too large, image too short) it is a part of length 0 at the
-/// start of unit 0's image.
+/// its spare are each seen where they stand. Nor is it asked who holds the drive. Where there is no
+/// such sector (unit over 1, unit not initialized, place too large, image too short) it is a part of
+/// length 0 at the start of unit 0's image.
 ///
 /// # Panics
 ///

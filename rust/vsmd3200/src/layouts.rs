@@ -35,6 +35,31 @@ const AT_TABLE: usize = 20;
 const PAIR_LEN: usize = 8;
 const TRACK_LEN: usize = 4;
 
+/// Who holds the drive, by the number in a record.
+const HOLDER_NONE: u8 = 0x00;
+const HOLDER_FIRST: u8 = 0x01;
+const HOLDER_SECOND: u8 = 0x02;
+
+/// One of the two controllers that can share the drives. Unit n of both is drive n.
+#[derive(Clone, Copy, Debug, PartialEq, Eq, Hash)]
+#[repr(u8)]
+pub enum Controller {
+    /// Number 0, which [`run`](crate::run) is for.
+    First = 0,
+    /// Number 1.
+    Second = 1,
+}
+
+impl Controller {
+    /// Both of them, by number.
+    pub const ALL: [Controller; 2] = [Controller::First, Controller::Second];
+
+    /// The controller's number.
+    pub const fn number(self) -> u32 {
+        self as u32
+    }
+}
+
 /// The heads of a volume: the first one, and how many. Volume 1 is absent when it has none.
 #[derive(Clone, Copy, Debug, Default, PartialEq, Eq, Hash)]
 pub struct Volume {
@@ -90,7 +115,7 @@ impl Record {
     /// A unit that no initialize has reached yet.
     pub const UNINITIALIZED: Record = Record([0; RECORD_LEN]);
 
-    /// The record with these parts and no pairs.
+    /// The record with these parts and no pairs, of a drive that nobody holds.
     pub const fn from_parts(initialized: bool, geometry: Geometry, cylinder: u16) -> Record {
         let mut bytes = [0; RECORD_LEN];
         bytes[0] = OPENING[0];
@@ -125,7 +150,7 @@ impl Record {
     }
 
     /// The record of version 2 for one of version 1 that a board has kept: the same unit without
-    /// pairs. Any bytes that are not the record of an initialized unit there give
+    /// pairs, held by nobody. Any bytes that are not the record of an initialized unit there give
     /// [`Record::UNINITIALIZED`].
     pub fn upgrade(old: &[u8; RECORD_LEN_V1]) -> Record {
         if old[..4] != OPENING_V1 {
@@ -155,7 +180,34 @@ impl Record {
     /// cylinder that the geometry does not have, or a table that the drive cannot have makes it
     /// count as not initialized all the same.
     pub fn initialized(&self) -> bool {
-        self.0[..4] == OPENING && self.0[AT_ORDER] == 0 && self.0[AT_HOLDER] == 0
+        self.0[..4] == OPENING && self.0[AT_ORDER] == 0 && self.0[AT_HOLDER] <= HOLDER_SECOND
+    }
+
+    /// Which controller holds the drive, if one does. A record that is not of this layout, by its
+    /// version or its length, is held by nobody, and so is one that has any other number there;
+    /// whether it says that its unit is initialized does not matter.
+    pub fn holder(&self) -> Option<Controller> {
+        match self.0[AT_HOLDER] {
+            HOLDER_FIRST if self.of_this_layout() => Some(Controller::First),
+            HOLDER_SECOND if self.of_this_layout() => Some(Controller::Second),
+            _ => None,
+        }
+    }
+
+    /// Gives the drive up, whoever holds it: for a board that knows that the machine with the
+    /// holder's controller is gone. Whether there was a holder; where there was none the record
+    /// stays as it is. So one with a number there that is no holder's goes on counting as not
+    /// initialized, and either controller's initialize mends it.
+    pub fn release(&mut self) -> bool {
+        let held = self.holder().is_some();
+        if held {
+            self.0[AT_HOLDER] = HOLDER_NONE;
+        }
+        held
+    }
+
+    fn of_this_layout(&self) -> bool {
+        self.0[0] == OPENING[0] && self.0[2..4] == OPENING[2..]
     }
 
     /// The geometry.

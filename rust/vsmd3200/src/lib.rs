@@ -5,8 +5,8 @@
 //! through C. This crate is the Rust side of that boundary and no more: it lends slices, keeps
 //! records and outcomes in the bytes of their layouts, and gives the numbers names.
 //!
-//! [`run`] runs a chain of blocks on host memory, two images and two unit records. [`inspect`]
-//! lends one sector of an image.
+//! [`run`] runs a chain of blocks on host memory, two images and two unit records, and [`run_as`]
+//! does so for either of two controllers. [`inspect`] lends one sector of an image.
 //!
 //! ```
 //! use vsmd3200::{run, Record, RunAnswer};
@@ -40,6 +40,32 @@
 //! on a track that serves as a spare, share neither a byte of the image nor a mark. A spare that is
 //! named itself is where the sectors of its bad track are.
 //!
+//! Two controllers may share the drives. Each runs its chains by [`run_as`] on a host memory and an
+//! event buffer of its own; images and records are those of both. The first takes drive 0 here, and
+//! the second is refused until the drive is given up:
+//!
+//! ```
+//! use vsmd3200::{run_as, BlockAnswer, Controller, Geometry, Record, Volume};
+//!
+//! # let volumes = [Volume { start_head: 0, heads: 1 }, Volume::default()];
+//! # let geometry = Geometry { cylinders: 2, sectors_a_track: 1, bytes_a_sector: 64, volumes };
+//! let mut records = [Record::from_parts(true, geometry, 0), Record::UNINITIALIZED];
+//! let mut restore = |options, controller| {
+//!     let (mut host, mut events) = ([0u8; 28], [0u8; 512]);
+//!     host[..2].copy_from_slice(&[0x89, options]);
+//!     let outcome = run_as(
+//!         &mut host, &mut [], &mut [], &mut events, &mut records, 0, 1, controller,
+//!     );
+//!     (outcome.failed, records[0].holder())
+//! };
+//! const RV: u8 = 0x08;
+//! let (first, second) = (Controller::First, Controller::Second);
+//! assert_eq!(restore(RV, first), (None, Some(first)));
+//! assert_eq!(restore(RV, second), (Some(BlockAnswer::DriveHeld), Some(first)));
+//! assert_eq!(restore(0, first), (None, None));
+//! assert_eq!(restore(RV, second), (None, Some(second)));
+//! ```
+//!
 //! Nothing is kept between calls, nothing is allocated, and two calls may be made at the same
 //! time: the borrows see to it that they work on different buffers.
 
@@ -51,10 +77,10 @@ mod calls;
 mod layouts;
 
 pub use answers::{BlockAnswer, RunAnswer};
-pub use calls::{inspect, part_of, run, Part};
+pub use calls::{inspect, part_of, run, run_as, Part};
 pub use layouts::{
-    Geometry, Outcome, Pair, Record, Track, Volume, LAYOUT_VERSION, OUTCOME_LEN, PAIRS_MOST,
-    RECORD_LEN, RECORD_LEN_V1,
+    Controller, Geometry, Outcome, Pair, Record, Track, Volume, LAYOUT_VERSION, OUTCOME_LEN,
+    PAIRS_MOST, RECORD_LEN, RECORD_LEN_V1,
 };
 
 /// The fewest bytes of an event buffer that a run takes: 64 entries of [`EVENT_LEN`].

@@ -1,8 +1,8 @@
 //! The paper's session example through the wrapper, and the typed views of records and answers.
 
 use vsmd3200::{
-    inspect, part_of, run, BlockAnswer, Geometry, Outcome, Pair, Part, Record, RunAnswer, Track,
-    Volume, EVENTS_LEN_LEAST, PAIRS_MOST, RECORD_LEN,
+    inspect, part_of, run, run_as, BlockAnswer, Controller, Geometry, Outcome, Pair, Part, Record,
+    RunAnswer, Track, Volume, EVENTS_LEN_LEAST, PAIRS_MOST, RECORD_LEN,
 };
 
 const UIB: [u8; 18] = [
@@ -209,7 +209,7 @@ fn records_are_their_bytes() {
         Record::from_parts(true, geometry, cylinder).as_bytes(),
         &bytes(&OPEN)
     );
-    // version, flag, length, order and holder
+    // version, flag, length, order, and a holder that is none of the three
     for at in [0, 1, 2, 3, 16, 17] {
         let mut other = bytes(&OPEN);
         other[at] ^= 0x40;
@@ -285,6 +285,146 @@ fn go(block: &[u8], image: &mut [u8], records: &mut [Record; 2]) -> (Outcome, Ve
     (outcome, host)
 }
 
+/// The same by a controller.
+fn go_as(
+    controller: Controller,
+    block: &[u8],
+    image: &mut [u8],
+    records: &mut [Record; 2],
+) -> (Outcome, Vec<u8>) {
+    let mut host = vec![0x33; 300];
+    host[..28].fill(0);
+    host[..block.len()].copy_from_slice(block);
+    let mut events = [0; EVENTS_LEN_LEAST];
+    let outcome = run_as(
+        &mut host,
+        image,
+        &mut [],
+        &mut events,
+        records,
+        0,
+        1,
+        controller,
+    );
+    (outcome, host)
+}
+
+/// The small drive with a number where its holder stands.
+fn held(number: u8) -> Record {
+    let mut bytes = *Record::from_parts(true, SMALL, 4).as_bytes();
+    bytes[17] = number;
+    Record::from_bytes(bytes)
+}
+
+#[test]
+fn a_drive_goes_from_one_controller_to_the_other() {
+    let (first, second) = (Controller::First, Controller::Second);
+    let (mut image, before) = (image(), image());
+    let mut records = [held(0), Record::UNINITIALIZED];
+    // RV and XL: one sector to logical 0, and the same read back
+    let write = [0x82, 0x18, 0, 0, 0, 0, 0, 0, 0, 1, 0, 0, 0, 100];
+    let read = [0x81, 0x10, 0, 0, 0, 0, 0, 0, 0, 1, 0, 0, 0, 100];
+    let (outcome, _) = go_as(second, &write, &mut image, &mut records);
+    assert_eq!((outcome.answer, outcome.sectors), (RunAnswer::Done, 1));
+    let mut taken = *Record::from_parts(true, SMALL, 0).as_bytes();
+    taken[17] = 0x02;
+    assert_eq!(records[0].as_bytes(), &taken);
+    assert_eq!(records[0].holder(), Some(second));
+    assert!(records[0].initialized());
+
+    // The first is refused, by either of its names, and nothing is changed but word 1.
+    for (outcome, host) in [
+        go_as(first, &read, &mut image, &mut records),
+        go(&read, &mut image, &mut records),
+    ] {
+        assert_eq!(outcome.failed, Some(BlockAnswer::DriveHeld));
+        assert_eq!(outcome.failed.map(BlockAnswer::before_transfer), Some(true));
+        assert_eq!(host[2..4], [0x82, 0x2e]);
+        assert_eq!(host[100..164], [0x33; 64]);
+        assert_eq!(records[0].as_bytes(), &taken);
+    }
+    // A handshake is not, and leaves the drive to its holder.
+    let (outcome, _) = go(&[0x86, 0x08], &mut image, &mut records);
+    assert_eq!(outcome.answer, RunAnswer::Done);
+    assert_eq!(records[0].holder(), Some(second));
+
+    // The second gives it up, and the first may read.
+    let (outcome, host) = go_as(second, &read, &mut image, &mut records);
+    assert_eq!(
+        (outcome.answer, records[0].holder()),
+        (RunAnswer::Done, None)
+    );
+    assert_eq!(host[100..164], [0x33; 64]);
+    assert_eq!(image[..64], [0x33; 64]);
+    assert_eq!(image[64..], before[64..]);
+    let (outcome, _) = go(&write, &mut image, &mut records);
+    assert_eq!(outcome.answer, RunAnswer::Done);
+    assert_eq!(records[0].holder(), Some(first));
+}
+
+#[test]
+fn who_holds_a_drive_by_its_record() {
+    assert_eq!(held(0).holder(), None);
+    assert_eq!(held(1).holder(), Some(Controller::First));
+    assert_eq!(held(2).holder(), Some(Controller::Second));
+    for number in 0..=255 {
+        assert_eq!(held(number).initialized(), number <= 2);
+        assert!(number <= 2 || held(number).holder().is_none());
+    }
+    // The flag says nothing of it; version and length say whether it is believed.
+    for (at, byte, believed) in [
+        (1, 0x00, true),
+        (0, 0x01, false),
+        (2, 0, false),
+        (3, 0, false),
+    ] {
+        let mut other = *held(2).as_bytes();
+        other[at] = byte;
+        let other = Record::from_bytes(other);
+        assert!(!other.initialized());
+        assert_eq!(other.holder().is_some(), believed);
+        // as the library sees it
+        let mut records = [other, Record::UNINITIALIZED];
+        let (outcome, _) = go(&[0x89], &mut [], &mut records);
+        let answer = if believed {
+            BlockAnswer::DriveHeld
+        } else {
+            BlockAnswer::NotInitialized
+        };
+        assert_eq!(outcome.failed, Some(answer));
+        assert_eq!(records[0], other);
+    }
+}
+
+#[test]
+fn a_drive_is_released_for_a_machine_that_is_gone() {
+    for number in 0..=255 {
+        let mut record = held(number);
+        assert_eq!(record.release(), matches!(number, 1 | 2));
+        let left = if matches!(number, 1 | 2) { 0 } else { number };
+        assert_eq!(record, held(left));
+        assert!(!record.release());
+    }
+    // A record of another layout is left alone, and one that is not initialized is not.
+    let mut version_1 = *held(1).as_bytes();
+    version_1[..4].copy_from_slice(&[0x01, 0x01, 0x00, 0x10]);
+    let mut record = Record::from_bytes(version_1);
+    assert!(!record.release());
+    assert_eq!(record.as_bytes(), &version_1);
+    let mut not_initialized = *held(1).as_bytes();
+    not_initialized[1] = 0x00;
+    let mut record = Record::from_bytes(not_initialized);
+    assert!(record.release());
+    assert_eq!(record.as_bytes()[17], 0x00);
+
+    let mut records = [held(2), Record::UNINITIALIZED];
+    let (outcome, _) = go(&[0x89], &mut [], &mut records);
+    assert_eq!(outcome.failed, Some(BlockAnswer::DriveHeld));
+    assert!(records[0].release());
+    let (outcome, _) = go(&[0x89], &mut [], &mut records);
+    assert_eq!(outcome.answer, RunAnswer::Done);
+}
+
 /// Cylinder 1, head 0 is bad; cylinder 9, head 2 serves it. A write of logical 8 goes there.
 #[test]
 fn a_bad_track_and_its_spare() {
@@ -350,7 +490,7 @@ fn answers_are_their_numbers() {
         assert_eq!(run.is_some(), number <= 6);
         assert!(run.is_none_or(|answer| answer.number() == number));
         let block = BlockAnswer::from_number(number);
-        let given = (10..=20).contains(&number) || matches!(number, 22 | 23);
+        let given = (10..=20).contains(&number) || (22..=24).contains(&number);
         assert_eq!(block.is_some(), given);
         assert!(block.is_none_or(|answer| answer.number() == number));
     }
@@ -366,7 +506,7 @@ fn answers_are_their_numbers() {
         (4, 7),
         (5, 9),
         (5, 21),
-        (5, 24),
+        (5, 25),
         (6, 1),
         (7, 1),
     ] {

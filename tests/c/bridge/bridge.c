@@ -197,22 +197,42 @@ size_t vsmd_outcome_len(void)
     return (size_t)layouts()->bytes;
 }
 
-uint32_t vsmd_run(uint8_t *host, size_t host_len, uint8_t *image0, size_t image0_len, uint8_t *image1, size_t image1_len,
-                  uint8_t *events, size_t events_len, uint8_t *record0, size_t record0_len, uint8_t *record1, size_t record1_len,
-                  uint8_t *outcome, size_t outcome_len, uint32_t first, uint32_t allowance)
+/* A call that was begun, with its numbers: the buffers are lent, it is made, and they are taken back. */
+static uint32_t run_with(uint8_t *const bytes[MOST_BUFFERS], const size_t lens[MOST_BUFFERS])
 {
-    uint8_t *bytes[MOST_BUFFERS] = {host, image0, image1, events, record0, record1, outcome};
-    size_t lens[MOST_BUFFERS] = {host_len, image0_len, image1_len, events_len, record0_len, record1_len, outcome_len};
     int k;
-    begin(CALL_RUN);
-    server.call->first = first;
-    server.call->allowance = allowance;
     for (k = 0; k < MOST_BUFFERS; k++)
         lend(k, bytes[k], lens[k]);
     make_call();
     for (k = 0; k < MOST_BUFFERS; k++)
         take_back(k, bytes[k]);
     return server.call->answer;
+}
+
+uint32_t vsmd_run(uint8_t *host, size_t host_len, uint8_t *image0, size_t image0_len, uint8_t *image1, size_t image1_len,
+                  uint8_t *events, size_t events_len, uint8_t *record0, size_t record0_len, uint8_t *record1, size_t record1_len,
+                  uint8_t *outcome, size_t outcome_len, uint32_t first, uint32_t allowance)
+{
+    uint8_t *const bytes[MOST_BUFFERS] = {host, image0, image1, events, record0, record1, outcome};
+    const size_t lens[MOST_BUFFERS] = {host_len, image0_len, image1_len, events_len, record0_len, record1_len, outcome_len};
+    begin(CALL_RUN);
+    server.call->first = first;
+    server.call->allowance = allowance;
+    return run_with(bytes, lens);
+}
+
+uint32_t vsmd_run_as(uint8_t *host, size_t host_len, uint8_t *image0, size_t image0_len, uint8_t *image1, size_t image1_len,
+                     uint8_t *events, size_t events_len, uint8_t *record0, size_t record0_len, uint8_t *record1,
+                     size_t record1_len, uint8_t *outcome, size_t outcome_len, uint32_t first, uint32_t allowance,
+                     uint32_t controller)
+{
+    uint8_t *const bytes[MOST_BUFFERS] = {host, image0, image1, events, record0, record1, outcome};
+    const size_t lens[MOST_BUFFERS] = {host_len, image0_len, image1_len, events_len, record0_len, record1_len, outcome_len};
+    begin(CALL_RUN_AS);
+    server.call->first = first;
+    server.call->allowance = allowance;
+    server.call->controller = controller;
+    return run_with(bytes, lens);
 }
 
 uint32_t vsmd_inspect(const uint8_t *record0, size_t record0_len, const uint8_t *record1, size_t record1_len, size_t image0_len,

@@ -15,7 +15,7 @@
 #define MOST_BUFFERS 7
 #define PATH_LEN 256
 
-enum { CALL_LAYOUTS = 1, CALL_RUN = 2, CALL_INSPECT = 3 };
+enum { CALL_LAYOUTS = 1, CALL_RUN = 2, CALL_INSPECT = 3, CALL_RUN_AS = 4 };
 
 struct buffer {
     uint64_t len;
@@ -27,6 +27,7 @@ struct call {
     uint32_t what;
     uint32_t answer;
     uint32_t first, allowance;
+    uint32_t controller, nothing; /* nothing: so that what follows stands at a multiple of 8 on both */
     uint32_t unit, image;
     uint64_t place;
     uint64_t image_len[2];

@@ -44,6 +44,7 @@ static struct mapped map_buffer(const struct buffer *buffer)
     return mapped;
 }
 
+/* Either run: the one as a controller has a number more. */
 static uint32_t serve_run(const struct call *call)
 {
     struct mapped m[MOST_BUFFERS];
@@ -52,9 +53,14 @@ static uint32_t serve_run(const struct call *call)
     int k;
     for (k = 0; k < MOST_BUFFERS; k++)
         m[k] = map_buffer(&b[k]);
-    answer = vsmd_run(m[0].bytes, (size_t)b[0].len, m[1].bytes, (size_t)b[1].len, m[2].bytes, (size_t)b[2].len, m[3].bytes,
-                      (size_t)b[3].len, m[4].bytes, (size_t)b[4].len, m[5].bytes, (size_t)b[5].len, m[6].bytes, (size_t)b[6].len,
-                      call->first, call->allowance);
+    if (call->what == CALL_RUN_AS)
+        answer = vsmd_run_as(m[0].bytes, (size_t)b[0].len, m[1].bytes, (size_t)b[1].len, m[2].bytes, (size_t)b[2].len, m[3].bytes,
+                             (size_t)b[3].len, m[4].bytes, (size_t)b[4].len, m[5].bytes, (size_t)b[5].len, m[6].bytes,
+                             (size_t)b[6].len, call->first, call->allowance, call->controller);
+    else
+        answer = vsmd_run(m[0].bytes, (size_t)b[0].len, m[1].bytes, (size_t)b[1].len, m[2].bytes, (size_t)b[2].len, m[3].bytes,
+                          (size_t)b[3].len, m[4].bytes, (size_t)b[4].len, m[5].bytes, (size_t)b[5].len, m[6].bytes,
+                          (size_t)b[6].len, call->first, call->allowance);
     for (k = 0; k < MOST_BUFFERS; k++)
         if (m[k].map != NULL)
             munmap(m[k].map, m[k].map_len);
@@ -78,6 +84,7 @@ static uint32_t serve(struct call *call)
 {
     switch (call->what) {
     case CALL_RUN:
+    case CALL_RUN_AS:
         return serve_run(call);
     case CALL_INSPECT:
         return serve_inspect(call);

@@ -71,7 +71,7 @@ returns c =
     let second = ran .before .before .before .before .before .before .before in
     let first = second .before .before .before .before in
     let a = first .before .before .before .before .before .before .before .before .before .before .before .before .before .before .before .args in
-    made-is (a .first) (a .allowance)
+    made-is (a .c) (a .first) (a .allowance)
     (lentOf (now (a .host)) (now (a .image0)) (now (a .image1)) (now (a .events)) (now (a .record0)) (now (a .record1)) (now (a .outcome)))
     _
     (tracks-read (now (a .record0)) (bare (first .before .before .before .before .before .before .«record» .result)) (first .before .before .before .before .before .before .«record» .ensures) (first .before .before .pairs .ensures) (first .read-tracks .ensures))

@@ -35,7 +35,7 @@ one-pair-more-requires : tie.Need-one-pair-more-requires
 one-pair-more-requires c κs = search needs
 
 returns : tie.Need-returns
-returns c = search needs
+returns c = rw (c .enum-told .given .1)
 
 returns-2 : tie.Need-returns-2
 returns-2 c = rw (c .before .before .leaving .given .1) (c .moved-to .ensures)

@@ -1,16 +1,18 @@
 -- The verdict is that on the block's request. A refused block is only finished; an accepted one is performed first.
 use mathlib.Core.Path.{_≡_, refl, sym, ap, _∙_}
 use native.Mathlib.Omega.{arith}
-use Rattle.unit.specs.Standing.{unitOf}
+use Rattle.unit.specs.Standing.{CountsAsInitialized, UnitRecord, unitOf}
+use Rattle.wire.specs.Promise.{Says}
 use Rattle.iopb.specs.Ask.{taskOf}
 use Rattle.judge.specs.declared.Verdict.{Verdict}
 use Rattle.judge.specs.Verdict.{verdict}
 use Rattle.judge.proofs.LetThrough.{plan-fits}
-use Rattle.block.specs.Block.{asking, finish, finished, judged}
+use Rattle.block.specs.Block.{asking, finish, finished, holding, judged}
 use Rattle.iopb.specs.declared.Block.{Block}
 use Rattle.block.specs.Steps.{doneOf, driveWith}
 use Rattle.block.specs.World.{Drive}
 use Rattle.block.proofs.Effects.{effect-judged, then-made, told-of-it}
+use Rattle.block.proofs.Held.{held-table, held-told, holder-keeps, performed-held}
 use borrow.Author.Needs.{needs}
 use Rattle.block.proofs.run_block.Statement.{statement}
 use Rattle.block.proofs.run_block.Tie as tie
@@ -35,7 +37,7 @@ refuse-requires c κs = search needs
 
 -- Where the block begins, the drive that it works on, and the block as it was read.
 begins : tie.After-judge → tie.Start
-begins c = c .before .before .before .before .before .before .before .before .before .before .before .before
+begins c = c .before .before .before .before .before .before .before .before .before .before .before .before .before
 
 drive : tie.After-judge → Drive
 drive c =
@@ -43,12 +45,12 @@ drive c =
     driveWith (unitOf (a .u) (a .table .now)) (a .image .now)
 
 block : tie.After-judge → Block
-block c = c .before .before .before .before .before .before .before .read .result
+block c = c .before .before .before .before .before .before .before .before .read .result
 
 -- The verdict is that on the block's request.
 judgement :
     (c : tie.After-judge) →
-    c .judge .result ≡ verdict (asking (taskOf (begins c .args .host .now) (block c)) (drive c) (begins c .args .host .now))
+    c .judge .result ≡ verdict (asking (begins c .args .c) (taskOf (begins c .args .host .now) (block c)) (drive c) (begins c .args .host .now))
 unfolding begins drive block
 judgement c = rw (c .before .before .before .request .ensures) at (c .judge .ensures)
 
@@ -67,13 +69,16 @@ unfolding begins drive block
 perform-requires c κs =
     let j = c .before .before .before .before .before .before .before in
     let host = begins j .args .host .now in
-    (begins j .pre .0 .block, plan-fits (asking (taskOf host (block j)) (drive j) host) _ (sym (judgement j) ∙ c .before .before .before .before .before .plan .given .1))
+    (begins j .pre .0 .block, plan-fits (asking (begins j .args .c) (taskOf host (block j)) (drive j) host) _ (sym (judgement j) ∙ c .before .before .before .before .before .plan .given .1))
+
+hold-requires : tie.Need-hold-requires
+hold-requires c κs = search needs
 
 finish-requires-2 : tie.Need-finish-requires-2
 unfolding begins
 finish-requires-2 c κs =
-    let room = begins (c .before .before .before .before .before .before .before .before .before .before .before .before .before .before) .pre .0 in
-    record { block = omega (arith, room .block, c .before .before .before .before .before .before .perform .kept .0); entry = room .entry }
+    let room = begins (c .before .before .before .before .before .before .before .before .before .before .before .before .before .before .before) .pre .0 in
+    record { block = omega (arith, room .block, c .before .before .before .before .before .before .before .perform .kept .0); entry = room .entry }
 
 same-length : tie.Need-same-length
 same-length c = search needs
@@ -86,13 +91,13 @@ unfolding begins drive block
 returns c =
     let j = c .before .before .before .before .before .before .before .before .before .before .before in
     let a = begins j .args in
-    let read = j .before .before .before .before .before .before .before .read .ensures in
+    let read = j .before .before .before .before .before .before .before .before .read .ensures in
     let met = c .before .before .before .before .before .before .before .before .before .r .given in
-    let p = judged (a .host .now) (drive j) (a .at) (Verdict.Refused (met .0 .0)) in
+    let p = holding (a .c) (block j .options .reserve) (Verdict.Refused (met .0 .0)) (judged (a .host .now) (drive j) (a .at) (Verdict.Refused (met .0 .0))) in
     let e = finished (block j) (a .at) (a .i) p in
     let f = c .before .before .before .before .finish in
     let is = c .before .before .before .before .before .refuse .ensures in
-    rw (effect-judged (a .host .now) (drive j) (a .at) (a .i) (block j) (Verdict.Refused (met .0 .0)) read (sym (judgement j) ∙ met .1))
+    rw (effect-judged (a .c) (a .host .now) (drive j) (a .at) (a .i) (block j) (Verdict.Refused (met .0 .0)) read (sym (judgement j) ∙ met .1))
     (record {
       result =
           told-of-it (block j) e _ _ (rw is at (f .ensures .0)) (j .before .before .before .before .before .settled .ensures)
@@ -113,25 +118,30 @@ same-length-5 c = search needs
 returns-2 : tie.Need-returns-2
 unfolding begins drive block
 returns-2 c =
-    let j = c .before .before .before .before .before .before .before .before .before .before .before .before .before .before .before .before .before .before .before in
+    let j = c .before .before .before .before .before .before .before .before .before .before .before .before .before .before .before .before .before .before .before .before in
     let a = begins j .args in
-    let read = j .before .before .before .before .before .before .before .read .ensures in
-    let met = c .before .before .before .before .before .before .before .before .before .before .before .before .before .before .before .before .before .plan .given in
+    let read = j .before .before .before .before .before .before .before .before .read .ensures in
+    let met = c .before .before .before .before .before .before .before .before .before .before .before .before .before .before .before .before .before .before .plan .given in
     let d = drive j in
-    let q = judged (a .host .now) d (a .at) (Verdict.Do (met .0 .0)) in
+    let reserve = block j .options .reserve in
+    let made = judged (a .host .now) d (a .at) (Verdict.Do (met .0 .0)) in
+    let q = holding (a .c) reserve (Verdict.Do (met .0 .0)) made in
     let e = finished (block j) (a .at) (a .i) q in
     let is-plan = sym (judgement j) ∙ met .1 in
     let f = c .before .before .before .before .finish2 in
-    let p = c .before .before .before .before .before .before .before .before .before .before .before .perform in
-    let is = p .ensures .result in
-    rw (effect-judged (a .host .now) d (a .at) (a .i) (block j) (Verdict.Do (met .0 .0)) read is-plan)
+    let p = c .before .before .before .before .before .before .before .before .before .before .before .before .perform in
+    let h = c .before .before .before .before .before .before .before .hold in
+    let then = c .before .before .before .before .before .before .before .before .before .before .before .before .before .before .before .before .counts-then in
+    let is = h .ensures ∙ performed-held (a .c) reserve (met .0 .0 .leaving) (p .result) made (p .ensures .result) in
+    rw (effect-judged (a .c) (a .host .now) d (a .at) (a .i) (block j) (Verdict.Do (met .0 .0)) read is-plan)
     (record {
       result =
           told-of-it (block j) e _ _ (rw is at (f .ensures .0))
-          (c .before .before .before .before .before .before .before .before .before .before .before .before .before .before .before .counts-then .ensures (d .unit) _ (j .before .before .before .before .before .settled .ensures)
-          (plan-fits (asking (taskOf (a .host .now) (block j)) d (a .host .now)) (met .0 .0) is-plan .leaving))
+          (holder-keeps (a .c) reserve (λ (u : UnitRecord). Says (then .result) (CountsAsInitialized u)) (held-told (then .result)) (met .0 .0 .leaving) (made .answer) (made .unit)
+          (then .ensures (d .unit) (made .sectors) (j .before .before .before .before .before .settled .ensures)
+          (plan-fits (asking (a .c) (taskOf (a .host .now) (block j)) d (a .host .now)) (met .0 .0) is-plan .leaving)))
           ∙ ap (λ (x : Block). doneOf x e) read;
-      table = p .ensures .table;
+      table = p .ensures .table ∙ held-table (a .c) reserve (met .0 .0 .leaving) (made .answer) (made .unit);
       stored =
           then-made (q .stores) (finish (block j) (a .at) (a .i) (q .answer) (q .travel)) _ _ _ (p .ensures .stored (a .events .now))
           (rw is at (f .ensures .1 (p .last .1 .0)));
@@ -151,6 +161,7 @@ run-block-spec =
     enum-known-plan
     counts-then-requires
     perform-requires
+    hold-requires
     finish-requires-2
     same-length
     same-length-2

@@ -1,101 +1,25 @@
--- The task's kind decides which function judges it.
--- Each promises the verdict by its kind's own checks, and a listed command passes what all are asked first.
-use mathlib.Core.Path.{sym, _∙_}
+-- Who holds the drive decides which of two functions judges the task.
+-- Each promises the verdict where the answer is the one that it is called for.
+use mathlib.Core.Path.{refl, sym, _∙_}
 use borrow.Author.Needs.{needs}
-use Rattle.judge.proofs.First.{never}
-use Rattle.judge.proofs.Tasks.{handshake, own, unknown}
 use Rattle.judge.proofs.judge.Statement.{statement}
 use Rattle.judge.proofs.judge.Tie as tie
 
-enum-told : tie.Need-enum-told
-enum-told c = search needs
+is-held-requires : tie.Need-is-held-requires
+is-held-requires c κs = search needs
 
-enum-known-task : tie.Need-enum-known-task
-enum-known-task c = search needs
-
-judge-move-requires : tie.Need-judge-move-requires
-judge-move-requires c κs = search needs
-
-enum-told-2 : tie.Need-enum-told-2
-enum-told-2 c = search needs
-
-enum-known-task-2 : tie.Need-enum-known-task-2
-enum-known-task-2 c = search needs
-
-judge-shape-requires : tie.Need-judge-shape-requires
-judge-shape-requires c κs = search needs
-
-enum-told-3 : tie.Need-enum-told-3
-enum-told-3 c = search needs
-
-judge-restore-requires : tie.Need-judge-restore-requires
-judge-restore-requires c κs = search needs
-
-enum-known-task-3 : tie.Need-enum-known-task-3
-enum-known-task-3 c = search needs
-
-judge-seek-requires : tie.Need-judge-seek-requires
-judge-seek-requires c κs = search needs
-
-enum-known-task-4 : tie.Need-enum-known-task-4
-enum-known-task-4 c = search needs
-
-judge-format-requires : tie.Need-judge-format-requires
-judge-format-requires c κs = search needs
-
-enum-known-task-5 : tie.Need-enum-known-task-5
-enum-known-task-5 c = search needs
-
-judge-map-requires : tie.Need-judge-map-requires
-judge-map-requires c κs = search needs
+judge-held-requires : tie.Need-judge-held-requires
+judge-held-requires c κs = search needs
 
 returns : tie.Need-returns
-returns c = rw (c .enum-told .given .1) (sym (unknown _ _ _))
+returns c = c .judge-held .ensures _ refl (sym (c .before .before .is-held .ensures) ∙ c .before .if1 .taken)
+
+judge-free-requires : tie.Need-judge-free-requires
+judge-free-requires c κs = (c .before .before .before .pre, sym (c .before .is-held .ensures) ∙ c .if1 .left)
 
 returns-2 : tie.Need-returns-2
-returns-2 c = rw (c .before .before .task .given .1) (c .judge-move .ensures ∙ sym (own _ _ _ _ never))
-
-returns-3 : tie.Need-returns-3
-returns-3 c = rw (c .enum-told2 .given .1) (sym (handshake _ _ _))
-
-returns-4 : tie.Need-returns-4
-returns-4 c = rw (c .before .before .task2 .given .1) (c .judge-shape .ensures _ _ _ ∙ sym (own _ _ _ _ never))
-
-returns-5 : tie.Need-returns-5
-returns-5 c = rw (c .before .enum-told3 .given .1) (c .judge-restore .ensures _ _ (c .before .before .before .before .pre) ∙ sym (own _ _ _ _ never))
-
-returns-6 : tie.Need-returns-6
-returns-6 c = rw (c .before .before .task3 .given .1) (c .judge-seek .ensures _ ∙ sym (own _ _ _ _ never))
-
-returns-7 : tie.Need-returns-7
-returns-7 c = rw (c .before .before .task4 .given .1) (c .judge-format .ensures ∙ sym (own _ _ _ _ never))
-
-returns-8 : tie.Need-returns-8
-returns-8 c = rw (c .before .before .task5 .given .1) (c .judge-map .ensures _ ∙ sym (own _ _ _ _ never))
+returns-2 c = search needs
 
 pub judge-spec : {M : Type 1} → statement M
 judge-spec =
-    tie.close
-    (tie.spec
-    enum-told
-    enum-known-task
-    judge-move-requires
-    enum-told-2
-    enum-known-task-2
-    judge-shape-requires
-    enum-told-3
-    judge-restore-requires
-    enum-known-task-3
-    judge-seek-requires
-    enum-known-task-4
-    judge-format-requires
-    enum-known-task-5
-    judge-map-requires
-    returns
-    returns-2
-    returns-3
-    returns-4
-    returns-5
-    returns-6
-    returns-7
-    returns-8)
+    tie.close (tie.spec is-held-requires judge-held-requires returns judge-free-requires returns-2)

@@ -36,17 +36,17 @@ returns c host =
     let spot = b .before .spot .given in
     let landed = at-landing _ _ _ _ (sym (b .before .before .before .land .ensures) ∙ spot .1) in
     (rw (landed .1) at (c .only .ensures))
-    ∙ sym (address-done _ _ host _ _ (sym (b .before .before .before .before .before .before .before .number .ensures) ∙ n .1) (omega (arith, landed)))
+    ∙ sym (address-done _ _ _ host _ _ (sym (b .before .before .before .before .before .before .before .number .ensures) ∙ n .1) (omega (arith, landed)))
 
 returns-2 : tie.Need-returns-2
 returns-2 c host =
     let n = c .before .before .before .before .n .given in
     let past = no-landing _ _ _ (sym (c .before .before .land .ensures) ∙ c .enum-told .given .1) in
-    sym (address-past _ _ host _ _ (sym (c .before .before .before .before .before .before .number .ensures) ∙ n .1) past)
+    sym (address-past _ _ _ host _ _ (sym (c .before .before .before .before .before .before .number .ensures) ∙ n .1) past)
 
 returns-3 : tie.Need-returns-3
 returns-3 c host =
-    sym (address-nowhere _ _ host _ (sym (c .before .before .number .ensures) ∙ c .enum-told2 .given .1))
+    sym (address-nowhere _ _ _ host _ (sym (c .before .before .number .ensures) ∙ c .enum-told2 .given .1))
 
 pub judge-address-spec : {M : Type 1} → statement M
 judge-address-spec =

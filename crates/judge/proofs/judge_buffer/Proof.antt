@@ -31,7 +31,7 @@ returns c =
     let is = c .before .before .before .buffer .given in
     let held = c .before .holds in
     sym
-    (piece-19 (unitOf (a .standing .record) (a .table .now)) (a .standing .image) (a .host .now) (a .m) (is .0 .0) (is .1)
+    (piece-19 (a .standing .controller) (unitOf (a .standing .record) (a .table .now)) (a .standing .image) (a .host .now) (a .m) (is .0 .0) (is .1)
     (denied (held .result) _ (c .if1 .taken) (rw (c .before .before .before .before .before .sector-bytes .ensures .0) at (held .ensures))))
 
 accepted-requires : tie.Need-accepted-requires
@@ -62,7 +62,7 @@ returns-2 c =
     let held = c .before .before .holds in
     c .accepted .ensures
     ∙ sym
-    (piece-done (unitOf (a .standing .record) (a .table .now)) (a .standing .image) (a .host .now) (a .m) (is .0 .0) (is .1) (a .n) (c .before .before .before .before .before .before .before .before .before .before .pre .starts)
+    (piece-done (a .standing .controller) (unitOf (a .standing .record) (a .table .now)) (a .standing .image) (a .host .now) (a .m) (is .0 .0) (is .1) (a .n) (c .before .before .before .before .before .before .before .before .before .before .pre .starts)
     (granted (held .result) _ (c .before .if1 .left) (rw (c .before .before .before .before .before .before .sector-bytes .ensures .0) at (held .ensures))))
 
 returns-3 : tie.Need-returns-3
@@ -72,21 +72,21 @@ returns-3 c =
     let found = rw (c .before .before .before .before .before .before .before .sector-bytes .ensures .0, c .before .enum-told .given .1) at (c .before .before .before .list .ensures) in
     c .accepted2 .ensures
     ∙ sym
-    (list-done (unitOf (a .standing .record) (a .table .now)) (a .standing .image) (a .host .now) (a .m) (is .0 .0) (is .0 .1 .0) (is .1) (found .0) (a .n) (c .before .before .before .before .before .before .before .before .before .before .before .pre .starts) (found .1))
+    (list-done (a .standing .controller) (unitOf (a .standing .record) (a .table .now)) (a .standing .image) (a .host .now) (a .m) (is .0 .0) (is .0 .1 .0) (is .1) (found .0) (a .n) (c .before .before .before .before .before .before .before .before .before .before .before .pre .starts) (found .1))
 
 returns-4 : tie.Need-returns-4
 returns-4 c =
     let a = c .before .before .before .before .before .before .before .before .before .before .args in
     let is = c .before .before .before .before .buffer2 .given in
     let found = rw (c .before .before .before .before .before .before .sector-bytes .ensures .0, c .enum-told2 .given .1) at (c .before .before .list .ensures) in
-    sym (list-18 (unitOf (a .standing .record) (a .table .now)) (a .standing .image) (a .host .now) (a .m) (is .0 .0) (is .0 .1 .0) (is .1) found)
+    sym (list-18 (a .standing .controller) (unitOf (a .standing .record) (a .table .now)) (a .standing .image) (a .host .now) (a .m) (is .0 .0) (is .0 .1 .0) (is .1) found)
 
 returns-5 : tie.Need-returns-5
 returns-5 c =
     let a = c .before .before .before .before .before .before .before .before .before .before .args in
     let is = c .before .before .before .before .buffer2 .given in
     let found = rw (c .before .before .before .before .before .before .sector-bytes .ensures .0, c .enum-told3 .given .1) at (c .before .before .list .ensures) in
-    sym (list-19 (unitOf (a .standing .record) (a .table .now)) (a .standing .image) (a .host .now) (a .m) (is .0 .0) (is .0 .1 .0) (is .1) (found .0) (found .1))
+    sym (list-19 (a .standing .controller) (unitOf (a .standing .record) (a .table .now)) (a .standing .image) (a .host .now) (a .m) (is .0 .0) (is .0 .1 .0) (is .1) (found .0) (found .1))
 
 pub judge-buffer-spec : {M : Type 1} → statement M
 judge-buffer-spec =

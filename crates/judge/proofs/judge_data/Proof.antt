@@ -16,7 +16,7 @@ holds-requires c κs = search needs
 returns : tie.Need-returns
 returns c =
     let held = c .before .holds in
-    sym (data-19 _ _ _ _ (denied (held .result) _ (c .if1 .taken) (rw (c .before .before .sector-bytes .ensures .0) at (held .ensures))))
+    sym (data-19 _ _ _ _ _ (denied (held .result) _ (c .if1 .taken) (rw (c .before .before .sector-bytes .ensures .0) at (held .ensures))))
 
 formatted-requires : tie.Need-formatted-requires
 formatted-requires c κs = search needs
@@ -24,7 +24,7 @@ formatted-requires c κs = search needs
 returns-2 : tie.Need-returns-2
 returns-2 c =
     let held = c .before .before .holds in
-    let done = data-done _ _ _ _ (granted (held .result) _ (c .before .if1 .left) (rw (c .before .before .before .sector-bytes .ensures .0) at (held .ensures))) in
+    let done = data-done _ _ _ _ _ (granted (held .result) _ (c .before .if1 .left) (rw (c .before .before .before .sector-bytes .ensures .0) at (held .ensures))) in
     c .formatted .ensures ∙ rw (c .before .before .before .before .before .before .pre) (sym done)
 
 pub judge-data-spec : {M : Type 1} → statement M

@@ -10,7 +10,7 @@ use Rattle.judge.proofs.judge_format.Statement.{statement}
 use Rattle.judge.proofs.judge_format.Tie as tie
 
 returns : tie.Need-returns
-returns c = sym (format-11 _ _ _ _ (denied (c .before .before .before .before .args .standing .counts) _ (c .if1 .taken) (c .before .before .before .before .pre)))
+returns c = sym (format-11 _ _ _ _ _ (denied (c .before .before .before .before .args .standing .counts) _ (c .if1 .taken) (c .before .before .before .before .pre)))
 
 land-track-requires : tie.Need-land-track-requires
 land-track-requires c κs = search needs
@@ -27,7 +27,7 @@ returns-2 c =
     let spot = c .before .before .before .spot .given in
     let on = at-track _ _ _ _ (sym (c .before .before .before .before .before .land-track .ensures) ∙ spot .1) in
     sym
-    (format-17 _ _ _ _ (granted (c .before .before .before .before .before .before .before .before .before .before .args .standing .counts) _ (c .before .before .before .before .before .before .if1 .left) (c .before .before .before .before .before .before .before .before .before .before .pre)) (on .0)
+    (format-17 _ _ _ _ _ (granted (c .before .before .before .before .before .before .before .before .before .before .args .standing .counts) _ (c .before .before .before .before .before .before .if1 .left) (c .before .before .before .before .before .before .before .before .before .before .pre)) (on .0)
     (says-yes (short .result) _ (c .if2 .taken) (short .ensures)))
 
 judge-data-requires : tie.Need-judge-data-requires
@@ -47,13 +47,13 @@ returns-3 c =
     let on = at-track _ _ _ _ (sym (b .before .before .before .before .before .land-track .ensures) ∙ spot .1) in
     c .judge-data .ensures
     ∙ sym
-    (format-on _ _ _ _ (granted (b .before .before .before .before .before .before .before .before .before .before .args .standing .counts) _ (b .before .before .before .before .before .before .if1 .left) (b .before .before .before .before .before .before .before .before .before .before .pre)) (on .0)
+    (format-on _ _ _ _ _ (granted (b .before .before .before .before .before .before .before .before .before .before .args .standing .counts) _ (b .before .before .before .before .before .before .if1 .left) (b .before .before .before .before .before .before .before .before .before .before .pre)) (on .0)
     (omega arith))
 
 returns-4 : tie.Need-returns-4
 returns-4 c =
     sym
-    (format-16 _ _ _ _ (granted (c .before .before .before .before .before .before .before .args .standing .counts) _ (c .before .before .before .if1 .left) (c .before .before .before .before .before .before .before .pre))
+    (format-16 _ _ _ _ _ (granted (c .before .before .before .before .before .before .before .args .standing .counts) _ (c .before .before .before .if1 .left) (c .before .before .before .before .before .before .before .pre))
     (no-track _ _ _ (sym (c .before .before .land-track .ensures) ∙ c .enum-told .given .1)))
 
 pub judge-format-spec : {M : Type 1} → statement M

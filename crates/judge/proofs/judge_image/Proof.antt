@@ -14,7 +14,7 @@ is-short-requires c κs = search needs
 returns : tie.Need-returns
 returns c =
     let short = c .before .is-short in
-    sym (image-17 _ _ _ _ (says-yes (short .result) _ (c .if1 .taken) (short .ensures)))
+    sym (image-17 _ _ _ _ _ (says-yes (short .result) _ (c .if1 .taken) (short .ensures)))
 
 judge-buffer-requires : tie.Need-judge-buffer-requires
 judge-buffer-requires c κs = search needs
@@ -23,7 +23,7 @@ returns-2 : tie.Need-returns-2
 returns-2 c =
     let short = c .before .before .is-short in
     let long = says-no (short .result) _ (c .before .if1 .left) (short .ensures) in
-    c .judge-buffer .ensures ∙ sym (image-on _ _ _ _ (omega arith))
+    c .judge-buffer .ensures ∙ sym (image-on _ _ _ _ _ (omega arith))
 
 pub judge-image-spec : {M : Type 1} → statement M
 judge-image-spec = tie.close (tie.spec is-short-requires returns judge-buffer-requires returns-2)

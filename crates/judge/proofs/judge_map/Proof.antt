@@ -8,7 +8,7 @@ use Rattle.judge.proofs.judge_map.Statement.{statement}
 use Rattle.judge.proofs.judge_map.Tie as tie
 
 returns : tie.Need-returns
-returns c host = sym (map-11 _ _ host _ (denied (c .before .before .args .standing .counts) _ (c .if1 .taken) (c .before .before .pre)))
+returns c host = sym (map-11 _ _ _ host _ (denied (c .before .before .args .standing .counts) _ (c .if1 .taken) (c .before .before .pre)))
 
 has-tracks-requires : tie.Need-has-tracks-requires
 has-tracks-requires c κs = search needs
@@ -16,7 +16,7 @@ has-tracks-requires c κs = search needs
 returns-2 : tie.Need-returns-2
 returns-2 c host =
     let has = c .before .has-tracks in
-    sym (map-16 _ _ host _ (granted (c .before .before .before .before .args .standing .counts) _ (c .before .before .if1 .left) (c .before .before .before .before .pre)) (denied (has .result) _ (c .if2 .taken) (has .ensures)))
+    sym (map-16 _ _ _ host _ (granted (c .before .before .before .before .args .standing .counts) _ (c .before .before .if1 .left) (c .before .before .before .before .pre)) (denied (has .result) _ (c .if2 .taken) (has .ensures)))
 
 judge-pair-requires : tie.Need-judge-pair-requires
 judge-pair-requires c κs = search needs
@@ -25,7 +25,7 @@ returns-3 : tie.Need-returns-3
 returns-3 c host =
     let has = c .before .before .has-tracks in
     c .judge-pair .ensures host
-    ∙ sym (map-on _ _ host _ (granted (c .before .before .before .before .before .args .standing .counts) _ (c .before .before .before .if1 .left) (c .before .before .before .before .before .pre)) (granted (has .result) _ (c .before .if2 .left) (has .ensures)))
+    ∙ sym (map-on _ _ _ host _ (granted (c .before .before .before .before .before .args .standing .counts) _ (c .before .before .before .if1 .left) (c .before .before .before .before .before .pre)) (granted (has .result) _ (c .before .if2 .left) (has .ensures)))
 
 pub judge-map-spec : {M : Type 1} → statement M
 judge-map-spec =

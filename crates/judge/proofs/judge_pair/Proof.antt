@@ -24,7 +24,7 @@ returns : tie.Need-returns
 returns c host =
     let asked = c .before in
     let free = rw (asked .before .pairs .ensures, asked .before .before .before .number .ensures, asked .before .before .number2 .ensures) at (asked .are-free .ensures) in
-    sym (table-22 _ _ host _ (denied (asked .are-free .result) _ (c .if1 .taken) free))
+    sym (table-22 _ _ _ host _ (denied (asked .are-free .result) _ (c .if1 .taken) free))
 
 pairs-requires-2 : tie.Need-pairs-requires-2
 pairs-requires-2 c κs = search needs
@@ -34,7 +34,7 @@ returns-2 c host =
     let asked = c .before .before .before in
     let free = rw (asked .before .pairs .ensures, asked .before .before .before .number .ensures, asked .before .before .number2 .ensures) at (asked .are-free .ensures) in
     sym
-    (table-23 _ _ host _ (granted (asked .are-free .result) _ (c .before .before .if1 .left) free)
+    (table-23 _ _ _ host _ (granted (asked .are-free .result) _ (c .before .before .if1 .left) free)
     (rw (c .before .pairs2 .ensures) at (c .if2 .taken)))
 
 only-requires : tie.Need-only-requires
@@ -48,7 +48,7 @@ returns-3 c host =
     let free = rw (asked .before .pairs .ensures, bad, spare) at (asked .are-free .ensures) in
     (rw (bad, spare) at (c .only .ensures))
     ∙ sym
-    (table-done _ _ host _ (granted (asked .are-free .result) _ (c .before .before .before .if1 .left) free)
+    (table-done _ _ _ host _ (granted (asked .are-free .result) _ (c .before .before .before .if1 .left) free)
     (rw (c .before .before .pairs2 .ensures) at (c .before .if2 .left)))
 
 pub judge-pair-spec : {M : Type 1} → statement M

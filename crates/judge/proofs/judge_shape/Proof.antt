@@ -21,24 +21,24 @@ only-requires : tie.Need-only-requires
 only-requires c κs = search needs
 
 returns : tie.Need-returns
-returns c u image host =
+returns c κ u image host =
     let is : c .before .before .args .s ≡ Shape.Misplaced = cc in
-    rw is (sym (shape-misplaced u image host))
+    rw is (sym (shape-misplaced κ u image host))
 
 returns-2 : tie.Need-returns-2
-returns-2 c u image host =
+returns-2 c κ u image host =
     let t = c .before in
     let g = t .before .before .before .s .given .0 .0 in
     let is : t .before .before .before .before .before .args .s ≡ Shape.Given g = cc in
     let within = t .before .is-within in
-    rw is (c .only .ensures ∙ sym (shape-given u image host g (says-yes (within .result) _ (t .if1 .taken) (within .ensures))))
+    rw is (c .only .ensures ∙ sym (shape-given κ u image host g (says-yes (within .result) _ (t .if1 .taken) (within .ensures))))
 
 returns-3 : tie.Need-returns-3
-returns-3 c u image host =
+returns-3 c κ u image host =
     let g = c .before .before .before .s .given .0 .0 in
     let is : c .before .before .before .before .before .args .s ≡ Shape.Given g = cc in
     let within = c .before .is-within in
-    rw is (sym (shape-outside u image host g (says-no (within .result) _ (c .if1 .left) (within .ensures))))
+    rw is (sym (shape-outside κ u image host g (says-no (within .result) _ (c .if1 .left) (within .ensures))))
 
 pub judge-shape-spec : {M : Type 1} → statement M
 judge-shape-spec =

@@ -14,7 +14,7 @@ sectors-of-requires c κs = search needs
 returns : tie.Need-returns
 returns c =
     let begins = c .before .before .before .before .before .pre in
-    sym (span-first _ _ _ _ _ (begins .starts) (omega arith))
+    sym (span-first _ _ _ _ _ _ (begins .starts) (omega arith))
 
 sub-if2 : tie.Need-sub-if2
 sub-if2 c = search needs
@@ -25,7 +25,7 @@ cast-if2 c = search needs
 returns-2 : tie.Need-returns-2
 returns-2 c =
     let begins = c .before .before .before .before .before .before .before .pre in
-    sym (span-last _ _ _ _ _ (begins .starts) (begins .some) (omega arith))
+    sym (span-last _ _ _ _ _ _ (begins .starts) (begins .some) (omega arith))
 
 judge-image-requires : tie.Need-judge-image-requires
 judge-image-requires c κs = search needs
@@ -34,8 +34,8 @@ returns-3 : tie.Need-returns-3
 returns-3 c =
     let a = c .before .before .before .before .before .before .before .before .args in
     let begins = c .before .before .before .before .before .before .before .before .pre in
-    let covers = span-covers (unitOf (a .standing .record) (a .table .now)) (a .standing .image) (a .host .now) (a .m) (a .n) (begins .starts) (begins .some) (omega arith) in
-    c .judge-image .ensures ∙ sym (span-inside _ _ _ _ covers)
+    let covers = span-covers (a .standing .controller) (unitOf (a .standing .record) (a .table .now)) (a .standing .image) (a .host .now) (a .m) (a .n) (begins .starts) (begins .some) (omega arith) in
+    c .judge-image .ensures ∙ sym (span-inside _ _ _ _ _ covers)
 
 pub judge-span-spec : {M : Type 1} → statement M
 judge-span-spec =

@@ -24,7 +24,7 @@ returns c = search needs
 
 returns-2 : tie.Need-returns-2
 returns-2 c =
-    sym (start-nowhere _ _ _ _ (sym (c .before .before .number .ensures) ∙ c .enum-told .given .1))
+    sym (start-nowhere _ _ _ _ _ (sym (c .before .before .number .ensures) ∙ c .enum-told .given .1))
 
 pub judge-start-spec : {M : Type 1} → statement M
 judge-start-spec =

@@ -1,18 +1,19 @@
--- Two calls of the run in a row.
--- Each is its step, on what the call before it left.
+-- Two calls in a row, each on what the one before it left.
+-- Each is its chain's step, with the event buffer of the other beside it.
+use Rattle.independence.specs.Chains.{First, Second}
 use Rattle.two_chains.proofs.Orders.{first-then-second}
-use Rattle.two_chains.specs.Orders.{chainOf}
+use Rattle.two_chains.specs.Orders.{bothOf, chainOf}
 use denote.Ref.{now}
 use mathlib.Core.Path.{_∙_}
 use borrow.Author.Needs.{needs}
 use Rattle.two_chains.proofs.in_turn.Statement.{statement}
 use Rattle.two_chains.proofs.in_turn.Tie as tie
 
-run-requires : tie.Need-run-requires
-run-requires c κs = search needs
+run-on-its-own-requires : tie.Need-run-on-its-own-requires
+run-on-its-own-requires c κs = search needs
 
-run-requires-2 : tie.Need-run-requires-2
-run-requires-2 c κs = search needs
+run-on-its-own-requires-2 : tie.Need-run-on-its-own-requires-2
+run-on-its-own-requires-2 c κs = search needs
 
 told-requires : tie.Need-told-requires
 told-requires c κs = search needs
@@ -21,32 +22,54 @@ told-requires-2 : tie.Need-told-requires-2
 told-requires-2 c κs = search needs
 
 same-length : tie.Need-same-length
-same-length c = c .before .before .before .before .before .before .before .before .before .before .before .run2 .kept .0 ∙ c .before .before .before .before .before .before .before .before .before .before .before .before .before .before .before .before .before .before .before .before .before .before .before .before .before .before .before .run .kept .0
+same-length c =
+    let second = c .before .before .before .before .before .before .before .before .before .before .before .before .before in
+    second .run-on-its-own2 .kept .0 ∙ second .before .before .before .before .before .before .before .before .before .before .before .before .before .before .before .before .before .before .before .run-on-its-own .kept .0
 
 same-length-2 : tie.Need-same-length-2
-same-length-2 c = c .before .before .before .before .before .before .before .before .before .before .before .run2 .kept .1 .0 ∙ c .before .before .before .before .before .before .before .before .before .before .before .before .before .before .before .before .before .before .before .before .before .before .before .before .before .before .before .run .kept .1 .0
+same-length-2 c =
+    let second = c .before .before .before .before .before .before .before .before .before .before .before .before .before in
+    second .run-on-its-own2 .kept .1 .0 ∙ second .before .before .before .before .before .before .before .before .before .before .before .before .before .before .before .before .before .before .before .run-on-its-own .kept .1 .0
 
 same-length-3 : tie.Need-same-length-3
-same-length-3 c = c .before .before .before .before .before .before .before .before .before .before .before .run2 .kept .1 .1 .0 ∙ c .before .before .before .before .before .before .before .before .before .before .before .before .before .before .before .before .before .before .before .before .before .before .before .before .before .before .before .run .kept .1 .1 .0
+same-length-3 c =
+    let second = c .before .before .before .before .before .before .before .before .before .before .before .before .before in
+    second .run-on-its-own2 .kept .1 .1 .0 ∙ second .before .before .before .before .before .before .before .before .before .before .before .before .before .before .before .before .before .before .before .run-on-its-own .kept .1 .1 .0
 
 same-length-4 : tie.Need-same-length-4
-same-length-4 c = c .before .before .before .before .before .before .before .before .before .before .before .before .before .before .before .before .before .before .before .before .before .before .before .before .before .before .before .run .kept .1 .1 .1 .0
+same-length-4 c =
+    let second = c .before .before .before .before .before .before .before .before .before .before .before .before .before in
+    second .run-on-its-own2 .kept .1 .1 .1 .0 ∙ second .before .before .before .before .before .before .before .before .before .before .before .before .before .before .before .before .before .before .before .run-on-its-own .kept .1 .1 .1 .0
 
 same-length-5 : tie.Need-same-length-5
-same-length-5 c = c .before .before .before .before .before .before .before .before .before .before .before .run2 .kept .1 .1 .1 .0
+same-length-5 c =
+    let second = c .before .before .before .before .before .before .before .before .before .before .before .before .before in
+    second .before .before .before .before .before .before .before .before .before .before .before .before .before .before .before .before .before .before .before .run-on-its-own .kept .1 .1 .1 .1 .0
+
+same-length-6 : tie.Need-same-length-6
+same-length-6 c = search needs
 
 returns : tie.Need-returns
 returns c =
-    let x = c .before .before .before .before .before .before .before .before .before .before .before .before .before .before .before .before .before .before .before .before .before .before .before .before .before .before .before .before .before .before .before .before .before .before .before .before .before .before .before .args in
-    first-then-second (chainOf (x .first1) (x .allowance1)) (chainOf (x .first2) (x .allowance2)) (now (x .host)) (now (x .image0)) (now (x .image1))
-    (now (x .events1)) (now (x .events2)) (now (x .map0)) (now (x .map1)) (x .units) (c .before .before .before .before .before .before .before .before .before .before .before .before .before .before .before .before .before .before .before .before .before .before .before .before .before .before .before .run .ensures) (c .before .before .before .before .before .before .before .before .before .before .before .run2 .ensures) (c .before .told .ensures) (c .told2 .ensures)
+    let second = c .before .before .before .before .before .before .before .before .before .before .before .before .before in
+    let first = second .before .before .before .before .before .before .before .before .before .before .before .before .before .before .before .before .before .before .before in
+    let a = first .before .before .before .before .before .before .before .before .before .before .before .before .before .before .args in
+    let l = first .run-on-its-own .last in
+    let m = second .run-on-its-own2 .last in
+    first-then-second (chainOf (a .one)) (chainOf (a .two))
+    (bothOf (now (a .host1)) (now (a .host2)) (now (a .image0)) (now (a .image1)) (now (a .events1)) (now (a .events2)) (now (a .map0)) (now (a .map1)) (a .units))
+    (bothOf (l .0) (l .1 .0) (l .1 .1 .0) (l .1 .1 .1 .0) (l .1 .1 .1 .1 .0) (now (a .events2)) (l .1 .1 .1 .1 .1 .0) (l .1 .1 .1 .1 .1 .1 .0) (first .run-on-its-own .result .units))
+    (bothOf (m .0) (m .1 .0) (m .1 .1 .0) (m .1 .1 .1 .0) (l .1 .1 .1 .1 .0) (m .1 .1 .1 .1 .0) (m .1 .1 .1 .1 .1 .0) (m .1 .1 .1 .1 .1 .1 .0) (second .run-on-its-own2 .result .units))
+    (first .run-on-its-own .result) (second .run-on-its-own2 .result)
+    (first .run-on-its-own .ensures First (now (a .events2))) (second .run-on-its-own2 .ensures Second (l .1 .1 .1 .1 .0))
+    (c .before .told .ensures) (c .told2 .ensures)
 
 pub in-turn-spec : {M : Type 1} → statement M
 in-turn-spec =
     tie.close
     (tie.spec
-    run-requires
-    run-requires-2
+    run-on-its-own-requires
+    run-on-its-own-requires-2
     told-requires
     told-requires-2
     same-length
@@ -54,4 +77,5 @@ in-turn-spec =
     same-length-3
     same-length-4
     same-length-5
+    same-length-6
     returns)

@@ -431,7 +431,7 @@ fn tables_that_are_bad(sheet: &mut Sheet) {
         ("a bad track that is a spare", two(28, &track_bytes(SPARE))),
         ("a pair of one track", two(32, &track_bytes((2, 0)))),
         ("order 01", two(16, &[0x01])),
-        ("holder 01", two(17, &[0x01])),
+        ("holder 03", two(17, &[0x03])),
         ("version 1", two(0, &[0x01, 0x01, 0x00, 0x10])),
     ];
     for (name, mut case) in bad {

@@ -5,7 +5,7 @@ use super::memory::Memory;
 use super::{tables, Theme};
 use crate::case::{record_bytes, RecordBytes};
 use crate::draw::Draw;
-use model::{Block, Geometry, Pair, Record, Table, COMMANDS};
+use model::{Block, Geometry, Holder, Pair, Record, Table, COMMANDS};
 
 pub const UN: u8 = 0x80;
 pub const VO: u8 = 0x40;
@@ -17,6 +17,7 @@ pub const BLOCK: u64 = 28;
 pub const UIB: usize = 18;
 
 /// What the maker knows of a unit.
+#[derive(Clone)]
 pub struct Unit {
     pub record: RecordBytes,
     /// Whether it will be initialized when the next block is run, as far as the maker can tell.
@@ -84,6 +85,7 @@ impl Unit {
             Theme::Plain => Unit::plain(draw),
             Theme::Tables => Unit::tabled(draw),
             Theme::FreshTables => Unit::fresh(draw),
+            Theme::Held => Unit::held(draw),
         }
     }
 
@@ -94,6 +96,7 @@ impl Unit {
             geometry: self.meant,
             cylinder: 0,
             table: self.table,
+            holder: Holder::Nobody,
         }
     }
 
@@ -235,11 +238,13 @@ impl Maker {
     }
 
     fn command(&mut self, k: usize, unit: usize, block: &mut Block) {
-        if self.slip() {
+        if self.slip() || self.theme == Theme::Held && self.draw.percent(3) {
             block.command = self.unlisted();
             return;
         }
-        block.command = if self.theme.tables() {
+        block.command = if self.theme == Theme::Held {
+            self.command_on_held()
+        } else if self.theme.tables() {
             self.command_with_tables(unit)
         } else if self.units[unit].wide {
             self.draw.weighted(&[
@@ -538,7 +543,10 @@ impl Maker {
     fn initialize(&mut self, k: usize, unit: usize, block: &mut Block) {
         block.command = 0x87;
         let old = self.units[unit].meant;
+        // what another controller was told of the drive is mostly to stay so
+        let same = self.theme == Theme::Held && self.draw.percent(75);
         let (new, wide) = match self.draw.below(20) {
+            _ if same => (old, self.units[unit].wide),
             0..=8 => (old, self.units[unit].wide),
             9 => (wide_geometry(&mut self.draw), true),
             10 => (Geometry::table_11(), true),

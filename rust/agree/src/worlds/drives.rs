@@ -2,7 +2,7 @@
 
 use crate::case::{record_bytes, RecordBytes, OPENING, RECORD_LEN};
 use crate::draw::Draw;
-use model::{Geometry, Record, Table, Volume};
+use model::{Geometry, Holder, Record, Table, Volume};
 
 /// The single ways in which a record can be outside: "a geometry outside the limits, or a
 /// cylinder of C or more".
@@ -228,6 +228,7 @@ pub fn ready(draw: &mut Draw, g: Geometry) -> Record {
         geometry: g,
         cylinder,
         table: Table::NONE,
+        holder: Holder::Nobody,
     }
 }
 

@@ -3,6 +3,7 @@
 
 mod chain;
 mod drives;
+mod held;
 mod lists;
 mod memory;
 mod pair;
@@ -12,8 +13,9 @@ use crate::case::{record_in, stored_end, Case, Inspection, RecordBytes};
 use crate::draw::Draw;
 use chain::{Maker, Plant, Unit, BLOCK, LK};
 pub use drives::Way;
+pub use held::{contest, Contest, Turn};
 use memory::Memory;
-use model::Block;
+use model::{Block, Controller};
 pub use pair::pair;
 pub use tables::{name as name_pair, named_drive, NamedDrive, TableWay};
 
@@ -27,6 +29,8 @@ pub enum Theme {
     Tables,
     /// The same for a session, whose units no initialize has reached.
     FreshTables,
+    /// Records with tables and with any holder, for runs by either controller.
+    Held,
 }
 
 impl Theme {
@@ -40,6 +44,7 @@ impl Theme {
             Theme::Plain => seed,
             Theme::Tables => seed ^ 0x7ab1_e500,
             Theme::FreshTables => seed ^ 0x7ab1_e50f,
+            Theme::Held => seed ^ 0x0e1d_0e1d,
         }
     }
 }
@@ -107,6 +112,7 @@ fn finish(mut maker: Maker) -> Case {
     }
     let events = event_bytes(&mut maker.draw);
     let mut case = Case {
+        controller: Controller::First,
         events: maker.draw.bytes(events),
         records: [maker.units[0].record, maker.units[1].record],
         first: first(&mut maker),

@@ -3,7 +3,7 @@
 
 use super::chain::{uib_of, Aim, Maker, Unit, UIB};
 use super::drives::{self, ready, volumes, wide_geometry};
-use crate::case::{record_bytes, RecordBytes, ORDER_AND_HOLDER, PAIRS_AT, RECORD_LEN, TABLE_AT};
+use crate::case::{record_bytes, RecordBytes, HOLDER_AT, ORDER_AT, PAIRS_AT, RECORD_LEN, TABLE_AT};
 use crate::draw::Draw;
 use model::{Block, Geometry, Pair, Record, Table, Track, MOST_PAIRS};
 
@@ -51,7 +51,7 @@ impl TableWay {
             TableWay::SpareTwice => "a spare twice",
             TableWay::BadAndSpare => "a track bad and spare",
             TableWay::Order => "the order byte not 00",
-            TableWay::Holder => "the holder byte not 00",
+            TableWay::Holder => "a holder byte that is no holder",
         }
     }
 
@@ -101,8 +101,9 @@ impl TableWay {
             TableWay::SpareTwice if pairs > 1 => same(spare[0], spare[1]),
             TableWay::BadAndSpare if pairs > 1 => same(bad[0], spare[1]),
             TableWay::BadTwice | TableWay::SpareTwice | TableWay::BadAndSpare => {}
-            TableWay::Order => bytes[ORDER_AND_HOLDER.start] = draw.pick(&[1, 2, 0x80, 0xff]),
-            TableWay::Holder => bytes[ORDER_AND_HOLDER.end - 1] = draw.pick(&[1, 2, 0x80, 0xff]),
+            TableWay::Order => bytes[ORDER_AT] = draw.pick(&[1, 2, 0x80, 0xff]),
+            // the first two are holders: with one the record is good, with the other it is 24
+            TableWay::Holder => bytes[HOLDER_AT] = draw.pick(&[1, 2, 0x80, 0xff]),
         }
     }
 }

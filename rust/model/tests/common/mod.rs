@@ -1,12 +1,13 @@
 //! The small drive of the paper, and worlds laid out by hand.
 #![allow(dead_code)]
 
-use model::{Block, Geometry, Pair, Record, Table, Track, Volume, World};
+use model::{Block, Controller, Geometry, Holder, Pair, Record, Table, Track, Volume, World};
 
 pub const UN: u8 = 0x80;
 pub const VO: u8 = 0x40;
 pub const LK: u8 = 0x20;
 pub const XL: u8 = 0x10;
+pub const RV: u8 = 0x08;
 pub const DE: u8 = 0x04;
 pub const IE: u8 = 0x02;
 
@@ -46,6 +47,7 @@ pub fn ready() -> Record {
         geometry: small(),
         cylinder: 0,
         table: Table::NONE,
+        holder: Holder::Nobody,
     }
 }
 
@@ -92,9 +94,10 @@ pub fn image() -> Vec<u8> {
     image
 }
 
-/// Unit 0 is a small drive, unit 1 is not initialized.
+/// Unit 0 is a small drive, unit 1 is not initialized; the first controller runs.
 pub fn world(host_bytes: usize) -> World {
     World {
+        controller: Controller::First,
         host: vec![0xee; host_bytes],
         images: [image(), Vec::new()],
         records: [ready(), unready()],

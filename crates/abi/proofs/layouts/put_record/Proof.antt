@@ -2,7 +2,8 @@
 -- What is stored is what the record answered, and the tracks of the pairs that count.
 use Rattle.abi.proofs.Stored.{record-stored}
 use Rattle.spares.specs.Table.{counted}
-use Rattle.unit.specs.Standing.{bare, cylinder, geometry, initialized, pairs}
+use Rattle.unit.specs.Holding.{holderNumber}
+use Rattle.unit.specs.Standing.{bare, cylinder, geometry, holder, initialized, pairs}
 use borrow.Author.Needs.{needs}
 use Rattle.abi.proofs.layouts.put_record.Statement.{statement}
 use Rattle.abi.proofs.layouts.put_record.Tie as tie
@@ -24,6 +25,12 @@ cylinder-requires c κs = search needs
 
 put16-requires : tie.Need-put16-requires
 put16-requires c κs = search needs
+
+holder-requires : tie.Need-holder-requires
+holder-requires c κs = search needs
+
+number-requires : tie.Need-number-requires
+number-requires c κs = search needs
 
 put-two-requires : tie.Need-put-two-requires
 put-two-requires c κs = search needs
@@ -48,7 +55,7 @@ returns c =
     let sixth = c .before .before in
     let fifth = sixth .before .before .before .before .before in
     let fourth = fifth .before .before .before .before .before in
-    let third = fourth .before .before .before .before in
+    let third = fourth .before .before .before .before .before .before in
     let second = third .before .before .before .before .before in
     let first = second .before .before .before .before .before in
     let a = first .before .before .before .before .args in
@@ -62,10 +69,12 @@ returns c =
       first .put-opening .ensures,
       sixth .before .pairs2 .ensures,
       fifth .before .pairs .ensures,
+      fourth .before .number .ensures,
+      fourth .before .before .holder .ensures,
       third .before .cylinder .ensures,
       second .before .geometry .ensures,
       first .before .initialized .ensures,
-    ) (record-stored (a .bytes .now) (initialized u) (geometry u) (cylinder u) (pairs u) (counted (pairs u) (a .table .now)))
+    ) (record-stored (a .bytes .now) (initialized u) (geometry u) (cylinder u) (holderNumber (holder u)) (pairs u) (counted (pairs u) (a .table .now)))
 
 pub put-record-spec : {M : Type 1} → statement M
 put-record-spec =
@@ -77,6 +86,8 @@ put-record-spec =
     put-geometry-requires
     cylinder-requires
     put16-requires
+    holder-requires
+    number-requires
     put-two-requires
     pairs-requires
     put16-requires-2

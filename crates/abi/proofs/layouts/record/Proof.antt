@@ -1,5 +1,5 @@
 -- Each part is read where the layout has it.
--- The constructor puts together what was read.
+-- The constructor puts together what was read, and the holder comes last.
 use borrow.Author.Needs.{needs}
 use Rattle.abi.proofs.layouts.record.Statement.{statement}
 use Rattle.abi.proofs.layouts.record.Tie as tie
@@ -19,14 +19,22 @@ be16-requires-2 c κs = search needs
 new-requires : tie.Need-new-requires
 new-requires c κs = search needs
 
+holder-requires : tie.Need-holder-requires
+holder-requires c κs = search needs
+
+held-by-requires : tie.Need-held-by-requires
+held-by-requires c κs = search needs
+
 returns : tie.Need-returns
 returns c =
     rw (
-      c .new .ensures,
-      c .before .before .before .before .says-initialized .ensures,
-      c .before .before .before .geometry .ensures,
-      c .before .before .be16 .ensures,
-      c .before .be162 .ensures,
+      c .held-by .ensures,
+      c .before .holder .ensures,
+      c .before .before .new .ensures,
+      c .before .before .before .before .before .before .says-initialized .ensures,
+      c .before .before .before .before .before .geometry .ensures,
+      c .before .before .before .before .be16 .ensures,
+      c .before .before .before .be162 .ensures,
     )
 
 pub record-spec : {M : Type 1} → statement M
@@ -38,4 +46,6 @@ record-spec =
     be16-requires
     be16-requires-2
     new-requires
+    holder-requires
+    held-by-requires
     returns)

@@ -1,8 +1,9 @@
--- An opening of any other four bytes says no; with this one, order and holder say the rest.
--- Both are sides of the definition's test.
+-- An opening of any other four bytes says no, and so does another order; past both the holder says the rest.
+-- Each comparison that is made is one of the definition's.
 use mathlib.Core.Path.{_∙_}
 use native.Mathlib.Omega.{arith}
 use borrow.Author.Tests.{eq-eqb, ne-eqb}
+use lib.ListN.{getD}
 use Rattle.wire.specs.Words.{be32}
 use borrow.Author.Needs.{needs}
 use Rattle.abi.proofs.layouts.says_initialized.Statement.{statement}
@@ -13,18 +14,32 @@ be32-requires c κs = search needs
 
 returns : tie.Need-returns
 returns c =
-    let a = c .before .before .before .args in
-    let other = ne-eqb (be32 (a .bytes .now) 0) 0x02010114 (λ same. c .if1 .taken (c .before .be32 .ensures ∙ same)) in
-    rw other
+    let bytes = c .before .before .before .args .bytes .now in
+    rw (ne-eqb (be32 bytes 0) 0x02010114 (λ same. c .if1 .taken (c .before .be32 .ensures ∙ same)))
 
-be16-requires : tie.Need-be16-requires
-be16-requires c κs = search needs
+shared-slice-read-if2 : tie.Need-shared-slice-read-if2
+shared-slice-read-if2 c = search needs
 
 returns-2 : tie.Need-returns-2
 returns-2 c =
-    let a = c .before .before .before .before .args in
-    let own = eq-eqb (be32 (a .bytes .now) 0) 0x02010114 (omega arith) in
-    rw (c .be16 .ensures, own)
+    let bytes = c .before .before .before .before .before .args .bytes .now in
+    rw (eq-eqb (be32 bytes 0) 0x02010114 (omega arith), ne-eqb (getD bytes 16 0) 0 (omega arith))
+
+shared-slice-read-result : tie.Need-shared-slice-read-result
+shared-slice-read-result c = search needs
+
+returns-3 : tie.Need-returns-3
+returns-3 c =
+    let bytes = c .before .before .before .before .before .before .args .bytes .now in
+    rw (eq-eqb (be32 bytes 0) 0x02010114 (omega arith), eq-eqb (getD bytes 16 0) 0 (omega arith))
 
 pub says-initialized-spec : {M : Type 1} → statement M
-says-initialized-spec = tie.close (tie.spec be32-requires returns be16-requires returns-2)
+says-initialized-spec =
+    tie.close
+    (tie.spec
+    be32-requires
+    returns
+    shared-slice-read-if2
+    returns-2
+    shared-slice-read-result
+    returns-3)

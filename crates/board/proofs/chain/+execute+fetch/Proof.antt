@@ -29,10 +29,10 @@ use Rattle.board.proofs.chain.+execute+fetch.{statement}
 use Rattle.board.proofs.chain.+execute+fetch.Tie.{close}
 
 abbrev μ-execute : Measures 8 execute-kinds.ps ℕ
-μ-execute κs a = 2 * a .1 .1 .1 .1 .1 .1 .1 .1 .1 .1 .0 + 1
+μ-execute κs a = 2 * a .1 .1 .1 .1 .1 .1 .1 .1 .1 .1 .1 .0 + 1
 
 abbrev μ-fetch : Measures 8 fetch-kinds.ps ℕ
-μ-fetch κs a = 2 * a .1 .1 .1 .1 .1 .1 .1 .1 .1 .1 .0
+μ-fetch κs a = 2 * a .1 .1 .1 .1 .1 .1 .1 .1 .1 .1 .1 .0
 
 abbrev execute-at : ℕ → In 8 execute-kinds.ps
 execute-at t = and 8 execute-kinds.ps (is 8 execute-kinds.ps μ-execute t) execute.Pre
@@ -102,8 +102,8 @@ module _ (t : ℕ) where
   execute-returns c =
       let a = c .before .before .before .before .before .before .before .before .before .before .before .before .before .before .before .before .before .before .before .before .before .before .before .before .before .before .before .before .args in
       let s = c .before .before .before .before .before .before .before .before .before .before .before .before .before .before .step in
-      let w = (worldOf (a .host .now) (a .image0 .now) (a .image1 .now) (a .events .now) (a .map0 .now) (a .map1 .now) (unitsIn (a .record0 .now) (a .record1 .now))) in
-      let w′ = (worldOf (s .last .0) (s .last .1 .0) (s .last .1 .1 .0) (s .last .1 .1 .1 .0) (s .last .1 .1 .1 .1 .0) (s .last .1 .1 .1 .1 .1 .0) (unitsIn (s .last .1 .1 .1 .1 .1 .1 .0) (s .last .1 .1 .1 .1 .1 .1 .1 .0))) in
+      let w = (worldOf (a .c) (a .host .now) (a .image0 .now) (a .image1 .now) (a .events .now) (a .map0 .now) (a .map1 .now) (unitsIn (a .record0 .now) (a .record1 .now))) in
+      let w′ = (worldOf (a .c) (s .last .0) (s .last .1 .0) (s .last .1 .1 .0) (s .last .1 .1 .1 .0) (s .last .1 .1 .1 .1 .0) (s .last .1 .1 .1 .1 .1 .0) (unitsIn (s .last .1 .1 .1 .1 .1 .1 .0) (s .last .1 .1 .1 .1 .1 .1 .1 .0))) in
       let r = c .before .before .answer .given .0 .0 in
       rw (c .failed .ensures, c .before .before .before .before .counted .ensures)
       (ended-in RunAnswer.BlockFailed (refusalNumber r) (countedOf (a .count) (s .result .told .sectors)) w′ _
@@ -125,8 +125,8 @@ module _ (t : ℕ) where
   execute-returns-2 c =
       let a = c .before .before .before .before .before .before .before .before .before .before .before .before .before .before .before .before .before .before .before .before .before .before .before .before .before .before .before .before .before .before .before .before .before .before .before .before .before .before .before .before .before .before .before .before .args in
       let s = c .before .before .before .before .before .before .before .before .before .before .before .before .before .before .before .before .before .before .before .before .before .before .before .before .before .before .before .before .before .before .step in
-      let w = (worldOf (a .host .now) (a .image0 .now) (a .image1 .now) (a .events .now) (a .map0 .now) (a .map1 .now) (unitsIn (a .record0 .now) (a .record1 .now))) in
-      let w′ = (worldOf (s .last .0) (s .last .1 .0) (s .last .1 .1 .0) (s .last .1 .1 .1 .0) (s .last .1 .1 .1 .1 .0) (s .last .1 .1 .1 .1 .1 .0) (unitsIn (s .last .1 .1 .1 .1 .1 .1 .0) (s .last .1 .1 .1 .1 .1 .1 .1 .0))) in
+      let w = (worldOf (a .c) (a .host .now) (a .image0 .now) (a .image1 .now) (a .events .now) (a .map0 .now) (a .map1 .now) (unitsIn (a .record0 .now) (a .record1 .now))) in
+      let w′ = (worldOf (a .c) (s .last .0) (s .last .1 .0) (s .last .1 .1 .0) (s .last .1 .1 .1 .0) (s .last .1 .1 .1 .1 .0) (s .last .1 .1 .1 .1 .1 .0) (unitsIn (s .last .1 .1 .1 .1 .1 .1 .0) (s .last .1 .1 .1 .1 .1 .1 .1 .0))) in
       let f = c .before .before .before .before .before .before .before .before .fetch in
       ended-the-same _ _ _ (f .result)
       (executed-on (fetched (a .left)) (a .count) (a .at) w w′ _ (s .ensures .to) (c .before .before .before .before .before .before .before .before .before .before .before .before .before .before .before .before .before .before .enum-told .given .1) (c .before .before .before .before .before .before .before .before .before .before .before .before .before .before .before .before .before .if1 .taken))
@@ -148,8 +148,8 @@ module _ (t : ℕ) where
   execute-returns-3 c =
       let a = c .before .before .before .before .before .before .before .before .before .before .before .before .before .before .before .before .before .before .before .before .before .before .before .before .before .before .before .before .args in
       let s = c .before .before .before .before .before .before .before .before .before .before .before .before .before .before .step in
-      let w = (worldOf (a .host .now) (a .image0 .now) (a .image1 .now) (a .events .now) (a .map0 .now) (a .map1 .now) (unitsIn (a .record0 .now) (a .record1 .now))) in
-      let w′ = (worldOf (s .last .0) (s .last .1 .0) (s .last .1 .1 .0) (s .last .1 .1 .1 .0) (s .last .1 .1 .1 .1 .0) (s .last .1 .1 .1 .1 .1 .0) (unitsIn (s .last .1 .1 .1 .1 .1 .1 .0) (s .last .1 .1 .1 .1 .1 .1 .1 .0))) in
+      let w = (worldOf (a .c) (a .host .now) (a .image0 .now) (a .image1 .now) (a .events .now) (a .map0 .now) (a .map1 .now) (unitsIn (a .record0 .now) (a .record1 .now))) in
+      let w′ = (worldOf (a .c) (s .last .0) (s .last .1 .0) (s .last .1 .1 .0) (s .last .1 .1 .1 .0) (s .last .1 .1 .1 .1 .0) (s .last .1 .1 .1 .1 .1 .0) (unitsIn (s .last .1 .1 .1 .1 .1 .1 .0) (s .last .1 .1 .1 .1 .1 .1 .1 .0))) in
       rw (c .ended .ensures, c .before .before .before .before .counted .ensures)
       (ended-in RunAnswer.Done 0 (countedOf (a .count) (s .result .told .sectors)) w′ _
       (executed-done (fetched (a .left)) (a .count) (a .at) w w′ _ (s .ensures .to) (c .before .before .enum-told .given .1) (c .before .if1 .left)))
@@ -160,7 +160,7 @@ module _ (t : ℕ) where
   fetch-returns : fetch-lts.Need-returns (ended-reads.Asked, ended-reads.Learnt, holds-block-reads.Asked, holds-block-reads.Learnt, execute-below t, execute.Post) (fetch-at t) fetch.Post
   fetch-returns c =
       let a = c .before .before .before .before .before .before .args in
-      let w = (worldOf (a .host .now) (a .image0 .now) (a .image1 .now) (a .events .now) (a .map0 .now) (a .map1 .now) (unitsIn (a .record0 .now) (a .record1 .now))) in
+      let w = (worldOf (a .c) (a .host .now) (a .image0 .now) (a .image1 .now) (a .events .now) (a .map0 .now) (a .map1 .now) (unitsIn (a .record0 .now) (a .record1 .now))) in
       rw (c .ended .ensures)
       (ended-in RunAnswer.AllowanceSpent 0 (a .count) w _
       (fetched-spent (a .left) (tallyOf (a .count)) (a .at) w (c .before .if1 .taken)))
@@ -177,7 +177,7 @@ module _ (t : ℕ) where
   fetch-returns-2 : fetch-lts.Need-returns-2 (ended-reads.Asked, ended-reads.Learnt, holds-block-reads.Asked, holds-block-reads.Learnt, execute-below t, execute.Post) (fetch-at t) fetch.Post
   fetch-returns-2 c =
       let a = c .before .before .before .before .before .before .before .before .before .args in
-      let w = (worldOf (a .host .now) (a .image0 .now) (a .image1 .now) (a .events .now) (a .map0 .now) (a .map1 .now) (unitsIn (a .record0 .now) (a .record1 .now))) in
+      let w = (worldOf (a .c) (a .host .now) (a .image0 .now) (a .image1 .now) (a .events .now) (a .map0 .now) (a .map1 .now) (unitsIn (a .record0 .now) (a .record1 .now))) in
       let held = c .before .before .holds-block in
       rw (c .ended2 .ensures)
       (ended-in RunAnswer.LinkBad 0 (a .count) w _
@@ -209,7 +209,7 @@ module _ (t : ℕ) where
   fetch-returns-3 : fetch-lts.Need-returns-3 (ended-reads.Asked, ended-reads.Learnt, holds-block-reads.Asked, holds-block-reads.Learnt, execute-below t, execute.Post) (fetch-at t) fetch.Post
   fetch-returns-3 c =
       let a = c .before .before .before .before .before .before .before .before .before .before .before .before .before .before .before .before .before .before .before .before .before .before .before .before .before .args in
-      let w = (worldOf (a .host .now) (a .image0 .now) (a .image1 .now) (a .events .now) (a .map0 .now) (a .map1 .now) (unitsIn (a .record0 .now) (a .record1 .now))) in
+      let w = (worldOf (a .c) (a .host .now) (a .image0 .now) (a .image1 .now) (a .events .now) (a .map0 .now) (a .map1 .now) (unitsIn (a .record0 .now) (a .record1 .now))) in
       let held = c .before .before .before .before .before .before .before .before .before .before .before .before .before .before .before .before .before .before .holds-block in
       let e = c .before .before .before .before .before .before .before .before .execute in
       ended-the-same _ _ _ (e .result)

@@ -22,7 +22,7 @@ same-length c = search needs
 returns : tie.Need-returns
 returns c =
     let a = c .before .before .before .before .before .before .before .before .args in
-    let w = (worldOf (a .host .now) (a .image0 .now) (a .image1 .now) (a .events .now) (a .map0 .now) (a .map1 .now) (a .units)) in
+    let w = (worldOf (a .c) (a .host .now) (a .image0 .now) (a .image1 .now) (a .events .now) (a .map0 .now) (a .map1 .now) (a .units)) in
     let room = c .before .before .holds-entries in
     let none = denied (room .result) _ (c .before .if1 .taken) (room .ensures) in
     rw (c .refused .ensures)
@@ -40,7 +40,7 @@ same-length-2 c = search needs
 returns-2 : tie.Need-returns-2
 returns-2 c =
     let a = c .before .before .before .before .before .before .before .before .before .before .args in
-    let w = (worldOf (a .host .now) (a .image0 .now) (a .image1 .now) (a .events .now) (a .map0 .now) (a .map1 .now) (a .units)) in
+    let w = (worldOf (a .c) (a .host .now) (a .image0 .now) (a .image1 .now) (a .events .now) (a .map0 .now) (a .map1 .now) (a .units)) in
     let room = c .before .before .before .before .holds-entries in
     let allowed = c .before .before .is-allowance in
     rw (c .refused2 .ensures)
@@ -62,7 +62,7 @@ same-length-4 c = search needs
 returns-3 : tie.Need-returns-3
 returns-3 c =
     let a = c .before .before .before .before .before .before .before .before .before .before .before .before .before .args in
-    let w = (worldOf (a .host .now) (a .image0 .now) (a .image1 .now) (a .events .now) (a .map0 .now) (a .map1 .now) (a .units)) in
+    let w = (worldOf (a .c) (a .host .now) (a .image0 .now) (a .image1 .now) (a .events .now) (a .map0 .now) (a .map1 .now) (a .units)) in
     let room = c .before .before .before .before .before .before .before .holds-entries in
     let allowed = c .before .before .before .before .before .is-allowance in
     let held = c .before .before .holds-block in
@@ -114,7 +114,7 @@ same-length-8 c = search needs
 returns-4 : tie.Need-returns-4
 returns-4 c =
     let a = c .before .before .before .before .before .before .before .before .before .before .before .before .before .before .before .before .before .before .before .before .before .before .before .before .before .before .before .before .before .before .before .before .before .before .before .before .before .args in
-    let w = (worldOf (a .host .now) (a .image0 .now) (a .image1 .now) (a .events .now) (a .map0 .now) (a .map1 .now) (a .units)) in
+    let w = (worldOf (a .c) (a .host .now) (a .image0 .now) (a .image1 .now) (a .events .now) (a .map0 .now) (a .map1 .now) (a .units)) in
     let room = c .before .before .before .before .before .before .before .before .before .before .before .before .before .before .before .before .before .before .before .before .before .before .before .before .before .before .before .before .before .before .before .holds-entries in
     let allowed = c .before .before .before .before .before .before .before .before .before .before .before .before .before .before .before .before .before .before .before .before .before .before .before .before .before .before .before .before .before .is-allowance in
     let held = c .before .before .before .before .before .before .before .before .before .before .before .before .before .before .before .before .before .before .before .before .before .before .before .before .before .before .holds-block in

@@ -38,14 +38,14 @@ returns : tie.Need-returns
 returns c =
     let start = c .before .before .before .before .before .before .before .before .before .before .before .before .before .before .before .before .before .before .before .before in
     let a = start .args in
-    let w = (worldOf (a .host .now) (a .image0 .now) (a .image1 .now) (a .events .now) (a .map0 .now) (a .map1 .now) (unitsIn (a .record0 .now) (a .record1 .now))) in
+    let w = (worldOf (a .c) (a .host .now) (a .image0 .now) (a .image1 .now) (a .events .now) (a .map0 .now) (a .map1 .now) (unitsIn (a .record0 .now) (a .record1 .now))) in
     let block = c .before .before .before .before .before .before .work-on in
-    let done = doneWith (block .result) (unitIn (block .last .1 .1 .1 .0) (block .last .1 .1 .1 .1 .1 .0)) in
+    let done = doneWith (block .result) (unitIn (block .last .1 .1 .1 .1 .0) (block .last .1 .1 .1 .1 .1 .1 .0)) in
     let told = told-then _ _ _ _ _ done (block .ensures) in
     record {
       to =
           step-by w (a .at) (a .i) _ UnitNumber.Zero (c .before .before .before .before .before .before .before .before .before .before .before .before .before .before .unit-at .ensures) (c .before .before .before .before .before .before .before .before .before .before .before .before .enum-told .given .1)
-          (three (block .last .0) (block .last .1 .0) (block .last .1 .1 .0)) (block .last .1 .1 .1 .1 .1 .0) done _ (block .ensures);
+          (three (block .last .0) (block .last .1 .0) (block .last .1 .1 .0)) (block .last .1 .1 .1 .1 .1 .1 .0) done _ (block .ensures);
       knows = (told, start .pre .1 .1);
     }
 
@@ -62,14 +62,14 @@ returns-2 : tie.Need-returns-2
 returns-2 c =
     let start = c .before .before .before .before .before .before .before .before .before .before .before .before .before .before .before .before .before .before .before .before in
     let a = start .args in
-    let w = (worldOf (a .host .now) (a .image0 .now) (a .image1 .now) (a .events .now) (a .map0 .now) (a .map1 .now) (unitsIn (a .record0 .now) (a .record1 .now))) in
+    let w = (worldOf (a .c) (a .host .now) (a .image0 .now) (a .image1 .now) (a .events .now) (a .map0 .now) (a .map1 .now) (unitsIn (a .record0 .now) (a .record1 .now))) in
     let block = c .before .before .before .before .before .before .work-on2 in
-    let done = doneWith (block .result) (unitIn (block .last .1 .1 .1 .0) (block .last .1 .1 .1 .1 .1 .0)) in
+    let done = doneWith (block .result) (unitIn (block .last .1 .1 .1 .1 .0) (block .last .1 .1 .1 .1 .1 .1 .0)) in
     let told = told-then _ _ _ _ _ done (block .ensures) in
     record {
       to =
           step-by w (a .at) (a .i) _ UnitNumber.One (c .before .before .before .before .before .before .before .before .before .before .before .before .before .before .unit-at .ensures) (c .before .before .before .before .before .before .before .before .before .before .before .before .enum-told2 .given .1)
-          (three (block .last .0) (block .last .1 .0) (block .last .1 .1 .0)) (block .last .1 .1 .1 .1 .1 .0) done _ (block .ensures);
+          (three (block .last .0) (block .last .1 .0) (block .last .1 .1 .0)) (block .last .1 .1 .1 .1 .1 .1 .0) done _ (block .ensures);
       knows = (start .pre .1 .0, told);
     }
 

@@ -61,10 +61,19 @@ cylinder-requires c κs = search needs
 pairs-requires : tie.Need-pairs-requires
 pairs-requires c κs = search needs
 
+holder-requires : tie.Need-holder-requires
+holder-requires c κs = search needs
+
+number-requires : tie.Need-number-requires
+number-requires c κs = search needs
+
+wide-requires-5 : tie.Need-wide-requires-5
+wide-requires-5 c κs = search needs
+
 returns : tie.Need-returns
 returns c =
-    let start = c .before .before .before .before .before .before .before .before .before .before .before .before .before .before .before .before .before .before in
-    rw (c .pairs .ensures, c .before .cylinder .ensures, c .before .before .wide4 .ensures, c .before .before .before .heads2 .ensures, c .before .before .before .before .wide3 .ensures, c .before .before .before .before .before .start-head2 .ensures, c .before .before .before .before .before .before .wide2 .ensures, c .before .before .before .before .before .before .before .heads .ensures, c .before .before .before .before .before .before .before .before .wide .ensures, c .before .before .before .before .before .before .before .before .before .start-head .ensures, c .before .before .before .before .before .before .before .before .before .before .bytes-a-sector .ensures, c .before .before .before .before .before .before .before .before .before .before .before .sectors-a-track .ensures, c .before .before .before .before .before .before .before .before .before .before .before .before .cylinders .ensures, c .before .before .before .before .before .before .before .before .before .before .before .before .before .flag .ensures, c .before .before .before .before .before .before .before .before .before .before .before .before .before .before .initialized .ensures, c .before .before .before .before .before .before .before .before .before .before .before .before .before .before .before .volume2 .ensures, c .before .before .before .before .before .before .before .before .before .before .before .before .before .before .before .before .volume .ensures, c .before .before .before .before .before .before .before .before .before .before .before .before .before .before .before .before .before .geometry .ensures)
+    let start = c .before .before .before .before .before .before .before .before .before .before .before .before .before .before .before .before .before .before .before .before .before in
+    rw (c .wide5 .ensures, c .before .number .ensures, c .before .before .holder .ensures, c .before .before .before .pairs .ensures, c .before .before .before .before .cylinder .ensures, c .before .before .before .before .before .wide4 .ensures, c .before .before .before .before .before .before .heads2 .ensures, c .before .before .before .before .before .before .before .wide3 .ensures, c .before .before .before .before .before .before .before .before .start-head2 .ensures, c .before .before .before .before .before .before .before .before .before .wide2 .ensures, c .before .before .before .before .before .before .before .before .before .before .heads .ensures, c .before .before .before .before .before .before .before .before .before .before .before .wide .ensures, c .before .before .before .before .before .before .before .before .before .before .before .before .start-head .ensures, c .before .before .before .before .before .before .before .before .before .before .before .before .before .bytes-a-sector .ensures, c .before .before .before .before .before .before .before .before .before .before .before .before .before .before .sectors-a-track .ensures, c .before .before .before .before .before .before .before .before .before .before .before .before .before .before .before .cylinders .ensures, c .before .before .before .before .before .before .before .before .before .before .before .before .before .before .before .before .flag .ensures, c .before .before .before .before .before .before .before .before .before .before .before .before .before .before .before .before .before .initialized .ensures, c .before .before .before .before .before .before .before .before .before .before .before .before .before .before .before .before .before .before .volume2 .ensures, c .before .before .before .before .before .before .before .before .before .before .before .before .before .before .before .before .before .before .before .volume .ensures, c .before .before .before .before .before .before .before .before .before .before .before .before .before .before .before .before .before .before .before .before .geometry .ensures)
     (record-back (bare (start .args .r)) (record { start = omega arith; heads = omega arith }) (record { start = omega arith; heads = omega arith }))
 
 pub numbers-of-spec : {M : Type 1} → statement M
@@ -89,4 +98,7 @@ numbers-of-spec =
     wide-requires-4
     cylinder-requires
     pairs-requires
+    holder-requires
+    number-requires
+    wide-requires-5
     returns)

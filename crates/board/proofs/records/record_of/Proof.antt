@@ -59,9 +59,18 @@ element-copy-out-new-6 c = search needs
 new-requires-4 : tie.Need-new-requires-4
 new-requires-4 c κs = search needs
 
+element-copy-out-of : tie.Need-element-copy-out-of
+element-copy-out-of c = search needs
+
+of-requires : tie.Need-of-requires
+of-requires c κs = search needs
+
+held-by-requires : tie.Need-held-by-requires
+held-by-requires c κs = search needs
+
 returns : tie.Need-returns
 unfolding recordIn
-returns c = rw (c .new4 .ensures, c .before .before .before .before .new3 .ensures, c .before .before .before .before .before .before .before .before .new2 .ensures, c .before .before .before .before .before .before .before .before .before .low-byte4 .ensures, c .before .before .before .before .before .before .before .before .before .before .before .low-byte3 .ensures, c .before .before .before .before .before .before .before .before .before .before .before .before .before .new .ensures, c .before .before .before .before .before .before .before .before .before .before .before .before .before .before .low-byte2 .ensures, c .before .before .before .before .before .before .before .before .before .before .before .before .before .before .before .before .low-byte .ensures)
+returns c = rw (c .held-by .ensures, c .before .of .ensures, c .before .before .before .new4 .ensures, c .before .before .before .before .before .before .before .new3 .ensures, c .before .before .before .before .before .before .before .before .before .before .before .new2 .ensures, c .before .before .before .before .before .before .before .before .before .before .before .before .low-byte4 .ensures, c .before .before .before .before .before .before .before .before .before .before .before .before .before .before .low-byte3 .ensures, c .before .before .before .before .before .before .before .before .before .before .before .before .before .before .before .before .new .ensures, c .before .before .before .before .before .before .before .before .before .before .before .before .before .before .before .before .before .low-byte2 .ensures, c .before .before .before .before .before .before .before .before .before .before .before .before .before .before .before .before .before .before .before .low-byte .ensures)
 
 pub record-of-spec : {M : Type 1} → statement M
 record-of-spec =
@@ -85,4 +94,7 @@ record-of-spec =
     element-copy-out-new-5
     element-copy-out-new-6
     new-requires-4
+    element-copy-out-of
+    of-requires
+    held-by-requires
     returns)

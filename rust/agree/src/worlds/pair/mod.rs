@@ -15,7 +15,7 @@ use super::memory::Memory;
 use super::{tables, Theme};
 use crate::case::Case;
 use crate::draw::Draw;
-use model::{Block, Geometry, Record};
+use model::{Block, Controller, Geometry, Record};
 
 /// What a chain has in host memory.
 #[derive(Clone, Copy, PartialEq, Eq)]
@@ -83,6 +83,8 @@ struct Step {
 
 struct Plan {
     maker: Maker,
+    /// Who runs each chain.
+    controllers: [Controller; 2],
     things: Vec<Thing>,
     chains: [Vec<Step>; 2],
     ends: [End; 2],
@@ -92,7 +94,9 @@ struct Plan {
     over: Option<(usize, usize)>,
 }
 
-/// The pair with an index: two cases that differ in first block, allowance and event buffer alone.
+/// The pair with an index: two cases that differ in first block, allowance and event buffer, and where
+/// drives are held in the controller, and in nothing else. Two controllers begin with memories of the
+/// same bytes.
 pub fn pair(theme: Theme, seed: u64, index: u64) -> [Case; 2] {
     let mut draw = Draw::of(theme.seed(seed) ^ 0xd3, index);
     let over = draw.percent(40);
@@ -117,6 +121,9 @@ impl Plan {
     fn new(theme: Theme, mut draw: Draw) -> Plan {
         let units = [0, 1].map(|_| {
             let meant = small(theme, &mut draw);
+            if theme == Theme::Held {
+                return Unit::held_as(&mut draw, meant);
+            }
             if theme.tables() {
                 return Unit::tabled_as(&mut draw, meant, false);
             }
@@ -124,6 +131,7 @@ impl Plan {
             Unit::with(&mut draw, meant, false, is_ready)
         });
         let memory = Memory::new(&mut draw, 0, 0);
+        let controllers = controllers(theme, &mut draw);
         let maker = Maker {
             theme,
             draw,
@@ -136,6 +144,7 @@ impl Plan {
         };
         Plan {
             maker,
+            controllers,
             things: Vec::new(),
             chains: [Vec::new(), Vec::new()],
             ends: [End::Done; 2],
@@ -162,6 +171,7 @@ impl Plan {
         let more = blocks + draw.below(4);
         let events = 512 + draw.even(20) as usize;
         let mut case = Case {
+            controller: self.controllers[chain],
             host: self.maker.memory.bytes.clone(),
             images: images.clone(),
             events: draw.bytes(events),
@@ -174,6 +184,15 @@ impl Plan {
             refuse_run(draw, &self.maker.memory, &mut case);
         }
         case
+    }
+}
+
+/// The two chains are the first controller's, but where drives are held.
+fn controllers(theme: Theme, draw: &mut Draw) -> [Controller; 2] {
+    if theme == Theme::Held {
+        [0, 1].map(|_| draw.pick(&Controller::BOTH))
+    } else {
+        [Controller::First; 2]
     }
 }
 

@@ -3,7 +3,9 @@
 use super::super::chain::{BLOCK, DE, UIB, XL};
 use super::super::lists::ELEMENT;
 use super::super::tables::name;
+use super::super::Theme;
 use super::{small, End, Kind, Plan, Step, Units};
+use crate::case::record_in;
 use model::Table;
 
 /// The data of a block have so many bytes at most, or one sector.
@@ -68,7 +70,26 @@ impl Plan {
             (_, End::Refused) => self.refuse(&mut step),
             _ => {}
         }
+        if self.refused_by_24(chain, unit, &step) {
+            self.no_room(&mut step);
+        }
         self.chains[chain].push(step);
+    }
+
+    /// Whether the drive is the other controller's, so that nothing but the block is read.
+    fn refused_by_24(&self, chain: usize, unit: usize, step: &Step) -> bool {
+        let holder = record_in(&self.maker.units[unit].record).holder;
+        let held = self.maker.theme == Theme::Held && holder.is_other_than(self.controllers[chain]);
+        held && step.block.command != 0x86
+    }
+
+    /// What the block does not come to lies over whatever comes next.
+    fn no_room(&mut self, step: &mut Step) {
+        step.spoiled.clear();
+        for (_, thing) in &step.pieces {
+            self.things[*thing].room = 0;
+        }
+        self.no_room_for_the_list(step);
     }
 
     fn command(&mut self, unit: usize, end: End) -> u8 {

@@ -1,0 +1,105 @@
+-- The task's kind decides which function judges it.
+-- Each promises the verdict by its kind's own checks, and a listed command on a drive that is free passes what is asked first.
+use mathlib.Core.Path.{sym, _∙_}
+use borrow.Author.Needs.{needs}
+use Rattle.judge.proofs.First.{never}
+use Rattle.judge.proofs.Tasks.{handshake, own, unknown}
+use Rattle.judge.proofs.judge_free.Statement.{statement}
+use Rattle.judge.proofs.judge_free.Tie as tie
+
+enum-told : tie.Need-enum-told
+enum-told c = search needs
+
+enum-known-task : tie.Need-enum-known-task
+enum-known-task c = search needs
+
+judge-move-requires : tie.Need-judge-move-requires
+judge-move-requires c κs = search needs
+
+enum-told-2 : tie.Need-enum-told-2
+enum-told-2 c = search needs
+
+identified-requires : tie.Need-identified-requires
+identified-requires c κs = search needs
+
+enum-known-task-2 : tie.Need-enum-known-task-2
+enum-known-task-2 c = search needs
+
+judge-shape-requires : tie.Need-judge-shape-requires
+judge-shape-requires c κs = search needs
+
+enum-told-3 : tie.Need-enum-told-3
+enum-told-3 c = search needs
+
+judge-restore-requires : tie.Need-judge-restore-requires
+judge-restore-requires c κs = search needs
+
+enum-known-task-3 : tie.Need-enum-known-task-3
+enum-known-task-3 c = search needs
+
+judge-seek-requires : tie.Need-judge-seek-requires
+judge-seek-requires c κs = search needs
+
+enum-known-task-4 : tie.Need-enum-known-task-4
+enum-known-task-4 c = search needs
+
+judge-format-requires : tie.Need-judge-format-requires
+judge-format-requires c κs = search needs
+
+enum-known-task-5 : tie.Need-enum-known-task-5
+enum-known-task-5 c = search needs
+
+judge-map-requires : tie.Need-judge-map-requires
+judge-map-requires c κs = search needs
+
+returns : tie.Need-returns
+returns c = rw (c .enum-told .given .1) (sym (unknown _ _ _ _))
+
+returns-2 : tie.Need-returns-2
+returns-2 c = rw (c .before .before .task .given .1) (c .judge-move .ensures ∙ sym (own _ _ _ _ _ never (c .before .before .before .before .before .pre .1)))
+
+returns-3 : tie.Need-returns-3
+returns-3 c = rw (c .before .enum-told2 .given .1) (c .identified .ensures ∙ sym (handshake _ _ _ _))
+
+returns-4 : tie.Need-returns-4
+returns-4 c = rw (c .before .before .task2 .given .1) (c .judge-shape .ensures _ _ _ _ ∙ sym (own _ _ _ _ _ never (c .before .before .before .before .before .pre .1)))
+
+returns-5 : tie.Need-returns-5
+returns-5 c = rw (c .before .enum-told3 .given .1) (c .judge-restore .ensures _ _ (c .before .before .before .before .pre .0) ∙ sym (own _ _ _ _ _ never (c .before .before .before .before .pre .1)))
+
+returns-6 : tie.Need-returns-6
+returns-6 c = rw (c .before .before .task3 .given .1) (c .judge-seek .ensures _ ∙ sym (own _ _ _ _ _ never (c .before .before .before .before .before .pre .1)))
+
+returns-7 : tie.Need-returns-7
+returns-7 c = rw (c .before .before .task4 .given .1) (c .judge-format .ensures ∙ sym (own _ _ _ _ _ never (c .before .before .before .before .before .pre .1)))
+
+returns-8 : tie.Need-returns-8
+returns-8 c = rw (c .before .before .task5 .given .1) (c .judge-map .ensures _ ∙ sym (own _ _ _ _ _ never (c .before .before .before .before .before .pre .1)))
+
+pub judge-free-spec : {M : Type 1} → statement M
+judge-free-spec =
+    tie.close
+    (tie.spec
+    enum-told
+    enum-known-task
+    judge-move-requires
+    enum-told-2
+    identified-requires
+    enum-known-task-2
+    judge-shape-requires
+    enum-told-3
+    judge-restore-requires
+    enum-known-task-3
+    judge-seek-requires
+    enum-known-task-4
+    judge-format-requires
+    enum-known-task-5
+    judge-map-requires
+    returns
+    returns-2
+    returns-3
+    returns-4
+    returns-5
+    returns-6
+    returns-7
+    returns-8)
