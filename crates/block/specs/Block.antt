@@ -23,7 +23,7 @@ use Rattle.transfer.specs.Pieces.{joined}
 use Rattle.transfer.specs.Progress.{lastTried}
 use Rattle.transfer.specs.Stores.{Store, after, bytesFrom, eventByte, hostByte}
 use Rattle.iopb.specs.declared.Block.{Block}
-use Rattle.iopb.specs.Ask.{requestOf, taskOf}
+use Rattle.iopb.specs.Ask.{taskOf, unitOf}
 use Rattle.iopb.specs.Errors.{errorByte}
 use Rattle.iopb.specs.Identity.{identityBytes}
 use Rattle.iopb.specs.Layout.{blockAt}
@@ -199,11 +199,11 @@ unfoldable pub effectOn : Controller → List ℕ → Drive → ℕ → ℕ → 
 effectOn c host d at i =
     let b = blockAt host at in
     let v = verdict (asking c (taskOf host b) d host) in
-    finished b at i (holding c (requestOf host b .reserve) v (judged host d at v))
+    finished b at i (holding c (b .options .reserve) v (judged host d at v))
 
 -- The unit that the block at an address names, and what the block does to the world: it works on that unit's drive.
 abbrev pub unitAt : World → ℕ → UnitNumber
-unitAt w at = requestOf (w .host) (blockAt (w .host) at) .unit
+unitAt w at = unitOf (blockAt (w .host) at)
 
 unfoldable pub effectAt : ℕ → ℕ → World → Effect
 effectAt at i w = effectOn (w .controller) (w .host) (driveOf w (unitAt w at)) at i

@@ -515,7 +515,7 @@ pub fn run_block(
         image: image.len(),
         controller: c,
     };
-    match judge::judge(iopb::request(b, host), standing, table, host) {
+    match judge::judge(iopb::task(b, host), standing, table, host) {
         Verdict::Refused(r) => finish(host, events, b, at, i, refuse(u, r), counts),
         Verdict::Do(plan) => {
             let leaving = plan.leaving;

@@ -16,7 +16,6 @@ use Rattle.judge.specs.declared.Moving.{Moving}
 use Rattle.judge.specs.declared.Verdict.{Verdict}
 use Rattle.judge.specs.Given.{Asked, on}
 use Rattle.judge.specs.Verdict.{verdict}
-use Rattle.judge.proofs.First.{never as not-unlisted}
 use Rattle.judge.proofs.Tasks.{handshake, held-24, unknown}
 use Rattle.request.specs.declared.Task.{Task}
 use Rattle.request.specs.declared.UnitNumber.{UnitNumber}
@@ -47,15 +46,15 @@ module _ (a : Asked) (held : heldByOther (a .controller) (holder (a .unit)) ≡ 
 
   by-task : (t : Task) → Idle (verdict (asked-for t))
   by-task Task.Unknown = refused-idle _ _ (unknown _ _ _ _)
-  by-task (Task.Move m) = refused-idle _ _ (held-24 _ _ _ _ (Task.Move m) not-unlisted tt held)
+  by-task (Task.Move m) = refused-idle _ _ (held-24 _ _ _ _ (Task.Move m) tt held)
   by-task Task.Handshake =
       let is = handshake (a .controller) (a .unit) (a .image) (a .host) in
       record { moving = ap movingOf is; leaving = ap leavingOf is }
-  by-task (Task.Initialize s) = refused-idle _ _ (held-24 _ _ _ _ (Task.Initialize s) not-unlisted tt held)
-  by-task Task.Restore = refused-idle _ _ (held-24 _ _ _ _ Task.Restore not-unlisted tt held)
-  by-task (Task.Seek t) = refused-idle _ _ (held-24 _ _ _ _ (Task.Seek t) not-unlisted tt held)
-  by-task (Task.Format k) = refused-idle _ _ (held-24 _ _ _ _ (Task.Format k) not-unlisted tt held)
-  by-task (Task.Map k) = refused-idle _ _ (held-24 _ _ _ _ (Task.Map k) not-unlisted tt held)
+  by-task (Task.Initialize s) = refused-idle _ _ (held-24 _ _ _ _ (Task.Initialize s) tt held)
+  by-task Task.Restore = refused-idle _ _ (held-24 _ _ _ _ Task.Restore tt held)
+  by-task (Task.Seek t) = refused-idle _ _ (held-24 _ _ _ _ (Task.Seek t) tt held)
+  by-task (Task.Format k) = refused-idle _ _ (held-24 _ _ _ _ (Task.Format k) tt held)
+  by-task (Task.Map k) = refused-idle _ _ (held-24 _ _ _ _ (Task.Map k) tt held)
 
   pub idle-where-held : Idle (verdict a)
   idle-where-held = by-task (a .task)

@@ -16,7 +16,6 @@ use Rattle.judge.specs.declared.Verdict.the-variants.{Refused, Do}
 use Rattle.judge.specs.Asks.{planOf}
 use Rattle.judge.specs.Given.{Asked, on}
 use Rattle.judge.specs.Verdict.{verdict}
-use Rattle.judge.proofs.First.{never as not-unlisted}
 use Rattle.judge.proofs.LetThrough.{own-plan}
 use Rattle.judge.proofs.Table.{only-86-identifies}
 use Rattle.judge.proofs.Tasks.{handshake, own-unless-held, shape-misplaced, unknown}
@@ -103,7 +102,7 @@ module _ (v : Visit) where
       by-task p so (Task.Initialize Shape.Misplaced) task is =
           absurd
           (⊎-elim (λ held. not-refused _ (as-task _ task ∙ held)) (λ own. not-refused _ (as-task _ task ∙ own ∙ shape-misplaced _ _ _ _))
-          (own-unless-held (v .world .controller) u (askedOf v .image) (v .world .host) (Task.Initialize Shape.Misplaced) not-unlisted tt))
+          (own-unless-held (v .world .controller) u (askedOf v .image) (v .world .host) (Task.Initialize Shape.Misplaced) tt))
       by-task p so (Task.Initialize (Shape.Given g)) task is = with-answer _ (ap leavingOf so ∙ ap (λ (p : Plan). p .leaving) is)
       by-task p so (Task.Move m) task is = with-answer _ (ap leavingOf so ∙ ap (λ (p : Plan). p .leaving) is)
       by-task p so Task.Restore task is = with-answer _ (ap leavingOf so ∙ ap (λ (p : Plan). p .leaving) is)

@@ -30,13 +30,11 @@ use Rattle.wire.proofs.Promises.{never}
 use Rattle.judge.specs.declared.Plan.{Plan}
 use Rattle.judge.specs.declared.Verdict.{Verdict}
 use Rattle.judge.specs.declared.Verdict.the-variants.{Refused, Do}
-use Rattle.judge.specs.Asks.{found, planOf, unlisted}
+use Rattle.judge.specs.Asks.{asksHolder, found, planOf}
 use Rattle.judge.specs.Fits.{MovingFits}
 use Rattle.judge.specs.Given.{Asked, beginsAt, on}
 use Rattle.judge.specs.Verdict.{byItsOwn, verdict}
-use Rattle.judge.proofs.First.{never as not-unlisted}
 use Rattle.judge.proofs.LetThrough.{own-plan, plan-fits}
-use Rattle.judge.proofs.EachTask.{asksHolder}
 use Rattle.judge.proofs.Tasks.{format-16, move-14, move-on, own-unless-held, start-nowhere}
 use Rattle.request.specs.declared.Move.{Move}
 use Rattle.request.specs.declared.Task.{Task}
@@ -78,10 +76,10 @@ module _ (a : Asked) where
     not-so r so = never (cc (accepted, so))
 
     not-refused :
-        (t : Task) (r : Refusal) → a .task ≡ t → (T (unlisted t) → ⊥) → T (asksHolder t) → byItsOwn (on (a .controller) u (a .image) t (a .host)) ≡ Refused r → ⊥
-    not-refused t r is listed asks refused =
+        (t : Task) (r : Refusal) → a .task ≡ t → T (asksHolder t) → byItsOwn (on (a .controller) u (a .image) t (a .host)) ≡ Refused r → ⊥
+    not-refused t r is asks refused =
         ⊎-elim (λ held. not-so DriveHeld (as-task ∙ held)) (λ own. not-so r (as-task ∙ own ∙ refused))
-        (own-unless-held (a .controller) u (a .image) (a .host) t listed asks)
+        (own-unless-held (a .controller) u (a .image) (a .host) t asks)
       where
         as-task : verdict a ≡ verdict (on (a .controller) u (a .image) t (a .host))
         as-task = ap (λ (t : Task). verdict (on (a .controller) u (a .image) t (a .host))) is
@@ -90,7 +88,7 @@ module _ (a : Asked) where
     format-on-drive : (k : Track) → a .task ≡ Task.Format k → OnDrive g (address (k .cylinder) (k .head) 0)
     format-on-drive k is =
         by-cases (onDrive? g (address (k .cylinder) (k .head) 0)) (λ on. on)
-        (λ off. absurd (not-refused (Task.Format k) SectorOutside is not-unlisted tt (format-16 (a .controller) u (a .image) (a .host) k counts off)))
+        (λ off. absurd (not-refused (Task.Format k) SectorOutside is tt (format-16 (a .controller) u (a .image) (a .host) k counts off)))
 
     -- and a read or a write begins at a number.
     begins-at : (m : Move) → a .task ≡ Task.Move m → 0 < m .count → (n : ℕ) × (beginsAt u (m .target) ≡ Is n)
@@ -98,7 +96,7 @@ module _ (a : Asked) where
     begins-at m is some = by-number-found (beginsAt u (m .target)) refl
       where
         refuted : (r : Refusal) → byItsOwn (on (a .controller) u (a .image) (Task.Move m) (a .host)) ≡ Refused r → ⊥
-        refuted r = not-refused (Task.Move m) r is not-unlisted tt
+        refuted r = not-refused (Task.Move m) r is tt
 
         by-number-found : (x : Number) → beginsAt u (m .target) ≡ x → (n : ℕ) × (beginsAt u (m .target) ≡ Is n)
         by-number-found (Is n) at = (n, at)

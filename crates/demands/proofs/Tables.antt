@@ -29,7 +29,6 @@ use Rattle.judge.specs.Asks.{planOf}
 use Rattle.judge.specs.Fits.{LeavingFits}
 use Rattle.judge.specs.Given.{on}
 use Rattle.judge.specs.Verdict.{verdict}
-use Rattle.judge.proofs.First.{never as not-unlisted}
 use Rattle.judge.proofs.LetThrough.{own-plan}
 use Rattle.judge.proofs.Tasks.{own-unless-held, shape-misplaced}
 use Rattle.iopb.specs.Ask.{pairOf, shapeAt, taskOf}
@@ -184,7 +183,7 @@ module _ (v : Visit) (is : blockOf v .command ≡ 0x87) (ended : effectOf v .ans
           absurd
           (⊎-elim (λ held. not-refused DriveHeld (as-task ∙ held))
           (λ own. not-refused UibMisplaced (as-task ∙ own ∙ shape-misplaced (v .world .controller) (namedDrive v .unit) (askedOf v .image) (v .world .host)))
-          (own-unless-held (v .world .controller) (namedDrive v .unit) (askedOf v .image) (v .world .host) (Initialize Misplaced) not-unlisted tt))
+          (own-unless-held (v .world .controller) (namedDrive v .unit) (askedOf v .image) (v .world .host) (Initialize Misplaced) tt))
         where
           as-task : verdictOf v ≡ verdict (on (v .world .controller) (namedDrive v .unit) (askedOf v .image) (Initialize Misplaced) (v .world .host))
           as-task =

@@ -2,7 +2,7 @@
 -- Each is an equation with a definition, so two results are equal to the same thing.
 use mathlib.Core.Path.{_∙_, sym}
 use Rattle.wire.specs.Promise.{OneResult}
-use Rattle.iopb.proofs.ask.request.Reads as request
+use Rattle.iopb.proofs.ask.task.Reads as task
 use Rattle.iopb.proofs.ask.unit_at.Reads as unit-at
 use Rattle.iopb.proofs.Block.read.Reads as block-read
 use Rattle.iopb.proofs.Element.read.Reads as element-read
@@ -26,8 +26,8 @@ identity-once κ a x y e f p q = p ∙ sym q
 options-of-once : OneResult options-of.Post
 options-of-once κ a x y e f p q = p ∙ sym q
 
-request-once : OneResult request.Post
-request-once κ a x y e f p q = p ∙ sym q
+task-once : OneResult task.Post
+task-once κ a x y e f p q = p ∙ sym q
 
 unit-at-once : OneResult unit-at.Post
 unit-at-once κ a x y e f p q = p ∙ sym q

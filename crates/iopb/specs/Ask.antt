@@ -9,7 +9,6 @@ use Rattle.geometry.specs.declared.VolumeNumber.{VolumeNumber}
 use Rattle.request.specs.declared.Buffer.{Buffer}
 use Rattle.request.specs.declared.Move.{Move}
 use Rattle.request.specs.declared.Pair.{Pair}
-use Rattle.request.specs.declared.Request.{Request}
 use Rattle.request.specs.declared.Shape.{Shape}
 use Rattle.request.specs.declared.Start.{Start}
 use Rattle.request.specs.declared.Target.{Target}
@@ -89,7 +88,3 @@ taskAt command ((code, task) ∷ ts) = cond (eqb command code) task (taskAt comm
 
 unfoldable pub taskOf : List ℕ → Block → Task
 taskOf host b = taskAt (b .command) (tasks host b)
-
--- The unit, what is asked of it, and RV (02, K10).
-abbrev pub requestOf : List ℕ → Block → Request
-requestOf host b = record { unit = unitOf b; task = taskOf host b; reserve = b .options .reserve }

@@ -6,7 +6,6 @@ use geometry::VolumeNumber;
 use request::Buffer;
 use request::Move;
 use request::Pair;
-use request::Request;
 use request::Shape;
 use request::Start;
 use request::Target;
@@ -19,21 +18,7 @@ ghost use lib.ListN.{length};
 ghost use Rattle.iopb.specs.Layout.{blockAt, uibBytes};
 ghost use Rattle.wire.specs.Memory.{InMemory};
 ghost use Rattle.wire.specs.Promise.{Says};
-ghost use Rattle.iopb.specs.Ask.{listOf, moveOf, pairOf, requestOf, shapeAt, startOf, targetOf, taskOf, trackOf, unitIn, unitOf};
-
-// The request of a block; for command 87 its UIB is read, where it can be.
-pub fn request(b: Block, host: &[u8]) -> Request
-    ensures { λ r. ⌜ r ≡ requestOf (now (host .entry)) b ⌝ }
-{
-    let options = b.options;
-    let unit = unit(options);
-    let task = task(b, host);
-    Request {
-        unit,
-        task,
-        reserve: options.reserve,
-    }
-}
+ghost use Rattle.iopb.specs.Ask.{listOf, moveOf, pairOf, shapeAt, startOf, targetOf, taskOf, trackOf, unitIn, unitOf};
 
 // The unit that the block at an address names, told without the rest of it: whoever picks a drive by it need not keep a block.
 pub fn unit_at(host: &[u8], at: usize) -> UnitNumber
@@ -53,7 +38,8 @@ fn unit(options: Options) -> UnitNumber
     }
 }
 
-fn task(b: Block, host: &[u8]) -> Task
+// What a block asks of its unit; for command 87 its UIB is read, where it can be.
+pub fn task(b: Block, host: &[u8]) -> Task
     ensures { λ r. ⌜ r ≡ taskOf (now (host .entry)) b ⌝ }
 {
     let command = b.command;

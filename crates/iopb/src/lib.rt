@@ -1,5 +1,5 @@
 // The layouts of the V/SMD 3200, declared once: block, options, list element, UIB, error bytes, identity.
-// A block becomes a request here, and nothing above the request knows where a byte of it stood.
+// A block becomes a task for its unit here, and nothing above the task knows where a byte of it stood.
 // It judges nothing but whether a UIB can be read, and stores nothing.
 use answers::BlockAnswer;
 use answers::Refusal;
@@ -15,7 +15,7 @@ ghost use Rattle.iopb.specs.Layout.{blockAt, elementAt, optionsOf, uibAt
 
 mod ask;
 
-pub use ask::request;
+pub use ask::task;
 pub use ask::unit_at;
 
 // The options byte, bit 7 down.

@@ -1,7 +1,7 @@
 -- Whatever is shown by going through the tasks one by one: a task more is a line in each, here and in no other file.
 -- What they have in common stands beside them (Buffers, Known), and what follows for every task above (Table, Locality, LetThrough).
 use Prim.Native.Nat.{ℕ, _+_, _<_}
-use mathlib.Core.Bool.{Bool, true, false}
+use mathlib.Core.Bool.{Bool, true, false, cond}
 use mathlib.Core.List.{List, [], _∷_, _++_}
 use mathlib.Core.Path.{_≡_, refl, ap, _∙_}
 use native.Mathlib.Omega.{arith}
@@ -28,7 +28,7 @@ use Rattle.wire.specs.Memory.{inMemory?}
 use Rattle.judge.specs.declared.Leaving.{Leaving}
 use Rattle.judge.specs.declared.Plan.{Plan}
 use Rattle.judge.specs.declared.Verdict.{Verdict}
-use Rattle.judge.specs.Asks.{beforeBuffer, bytesOf, driveHeld, firstChecks, found, imageShort, jobOf, notInitialized, ofBuffer, ofHolder, ownChecks, planOf, trackOutside, unlisted}
+use Rattle.judge.specs.Asks.{asksHolder, beforeBuffer, bytesOf, driveHeld, firstChecks, found, imageShort, jobOf, notInitialized, ofBuffer, ofHolder, ownChecks, planOf, trackOutside, unlisted}
 use Rattle.judge.specs.Checks.{Check, None, answersOf, first}
 use Rattle.judge.specs.Decided.{covers?, hasTracks?}
 use Rattle.judge.specs.Fits.{SpanGood}
@@ -46,57 +46,47 @@ use Rattle.judge.proofs.First.{none-of-all, skip, stop}
 pub passes-first :
     (a : Asked) → (T (unlisted (a .task)) → ⊥) → (T (heldByOther (a .controller) (holder (a .unit))) → ⊥) → None (firstChecks a (a .task))
 unfolding None
-passes-first a listed free = (listed, by-task (a .task))
+passes-first a listed free = (listed, by-test (asksHolder (a .task)))
   where
-    by-task : (t : Task) → None (ofHolder a t)
-    by-task Unknown = (free, tt)
-    by-task (Moves m) = (free, tt)
-    by-task Handshake = tt
-    by-task (Initialize s) = (free, tt)
-    by-task Restore = (free, tt)
-    by-task (Seek t) = (free, tt)
-    by-task (Format k) = (free, tt)
-    by-task (Map k) = (free, tt)
+    by-test : (asks : Bool) → None (cond asks (driveHeld a ∷ []) [])
+    by-test true = (free, tt)
+    by-test false = tt
 
--- Which tasks are asked who holds the drive: all but a handshake.
-abbrev pub asksHolder : Task → Bool
-asksHolder Unknown = true
-asksHolder (Moves m) = true
-asksHolder Handshake = false
-asksHolder (Initialize s) = true
-asksHolder Restore = true
-asksHolder (Seek t) = true
-asksHolder (Format k) = true
-asksHolder (Map k) = true
+-- One that is asked who holds the drive is listed, and of the listed ones a handshake alone is not asked.
+pub asked-is-listed : (t : Task) → T (asksHolder t) → T (unlisted t) → ⊥
+asked-is-listed Unknown asks none = asks
+asked-is-listed (Moves m) asks none = none
+asked-is-listed Handshake asks none = none
+asked-is-listed (Initialize s) asks none = none
+asked-is-listed Restore asks none = none
+asked-is-listed (Seek t) asks none = none
+asked-is-listed (Format k) asks none = none
+asked-is-listed (Map k) asks none = none
+
+pub unasked-is-handshake : (t : Task) → (T (unlisted t) → ⊥) → (T (asksHolder t) → ⊥) → t ≡ Handshake
+unasked-is-handshake Unknown listed none = absurd (listed tt)
+unasked-is-handshake (Moves m) listed none = absurd (none tt)
+unasked-is-handshake Handshake listed none = refl
+unasked-is-handshake (Initialize s) listed none = absurd (none tt)
+unasked-is-handshake Restore listed none = absurd (none tt)
+unasked-is-handshake (Seek t) listed none = absurd (none tt)
+unasked-is-handshake (Format k) listed none = absurd (none tt)
+unasked-is-handshake (Map k) listed none = absurd (none tt)
 
 pub asked-of-holder : (a : Asked) (t : Task) → T (asksHolder t) → ofHolder a t ≡ driveHeld a ∷ []
-asked-of-holder a Unknown asks = refl
-asked-of-holder a (Moves m) asks = refl
-asked-of-holder a Handshake asks = absurd asks
-asked-of-holder a (Initialize s) asks = refl
-asked-of-holder a Restore asks = refl
-asked-of-holder a (Seek t) asks = refl
-asked-of-holder a (Format k) asks = refl
-asked-of-holder a (Map k) asks = refl
+asked-of-holder a t asks = by-test (asksHolder t) asks
+  where
+    by-test : (asks : Bool) → T asks → cond asks (driveHeld a ∷ []) [] ≡ driveHeld a ∷ []
+    by-test true asks = refl
+    by-test false asks = absurd asks
 
-pub unasked-is-handshake : (t : Task) → (T (asksHolder t) → ⊥) → t ≡ Handshake
-unasked-is-handshake Unknown none = absurd (none tt)
-unasked-is-handshake (Moves m) none = absurd (none tt)
-unasked-is-handshake Handshake none = refl
-unasked-is-handshake (Initialize s) none = absurd (none tt)
-unasked-is-handshake Restore none = absurd (none tt)
-unasked-is-handshake (Seek t) none = absurd (none tt)
-unasked-is-handshake (Format k) none = absurd (none tt)
-unasked-is-handshake (Map k) none = absurd (none tt)
-
--- Where the other controller holds it, each of them that is listed is refused.
+-- Where the other controller holds the drive, each of them is refused.
 pub stopped-by-holder :
-    (a : Asked) → (T (unlisted (a .task)) → ⊥) → T (asksHolder (a .task)) → T (heldByOther (a .controller) (holder (a .unit))) →
-    verdict a ≡ Verdict.Refused DriveHeld
+    (a : Asked) → T (asksHolder (a .task)) → T (heldByOther (a .controller) (holder (a .unit))) → verdict a ≡ Verdict.Refused DriveHeld
 unfolding verdict
-stopped-by-holder a listed asks held =
+stopped-by-holder a asks held =
     let t = a .task in
-    skip _ _ _ listed ∙
+    skip _ _ _ (asked-is-listed t asks) ∙
     ap (λ (ks : List Check). first (ks ++ ownChecks a t) (planOf (a .unit) t)) (asked-of-holder a t asks) ∙ stop _ _ _ held
 
 -- Every list of checks keeps the order of the paper's rows.

@@ -12,7 +12,7 @@ use Rattle.answers.specs.declared.Refusal.{Refusal}
 use Rattle.answers.specs.Numbers.{refusalNumber}
 use Rattle.judge.specs.declared.Plan.{Plan}
 use Rattle.judge.specs.declared.Verdict.{Verdict}
-use Rattle.judge.specs.Asks.{checks, commandUnknown, driveHeld, ownChecks, unlisted}
+use Rattle.judge.specs.Asks.{asksHolder, checks, commandUnknown, driveHeld, ownChecks, unlisted}
 use Rattle.judge.specs.Checks.{Check, None, answersOf, first}
 use Rattle.judge.specs.Decided.{test?}
 use Rattle.judge.specs.Given.{Asked, on}
@@ -21,7 +21,7 @@ use Rattle.judge.specs.Verdict.{verdict}
 use Rattle.request.specs.declared.Task.{Task}
 use Rattle.unit.specs.Holding.{heldByOther}
 use Rattle.unit.specs.Standing.{holder}
-use Rattle.judge.proofs.EachTask.{asked-of-holder, asksHolder, stopped-by-holder, unasked-is-handshake}
+use Rattle.judge.proofs.EachTask.{asked-of-holder, stopped-by-holder, unasked-is-handshake}
 use Rattle.judge.proofs.First.{done, skip, stop}
 use Rattle.judge.proofs.Table.{and, both, in-the-papers-order}
 use Rattle.judge.proofs.Tasks.{handshake}
@@ -153,24 +153,33 @@ given-in-its-case a before k after is =
 -- 24: "A chain's block for a drive held by the other controller", "not for 86" (02, K10), whatever else is wrong with it but its command.
 pub held-exactly :
     (a : Asked) →
-    (verdict a ≡ Verdict.Refused Refusal.DriveHeld) ↔
-    (((T (unlisted (a .task)) → ⊥) × T (asksHolder (a .task))) × T (heldByOther (a .controller) (holder (a .unit))))
+    (verdict a ≡ Verdict.Refused Refusal.DriveHeld) ↔ (T (asksHolder (a .task)) × T (heldByOther (a .controller) (holder (a .unit))))
 unfolding None
-held-exactly a = (forth, λ so. stopped-by-holder a (so .0 .0) (so .0 .1) (so .1))
+held-exactly a = (forth, λ so. stopped-by-holder a (so .0) (so .1))
   where
+    as-task : (t : Task) → a .task ≡ t → verdict a ≡ verdict (on (a .controller) (a .unit) (a .image) t (a .host))
+    as-task t is = ap (λ (t : Task). verdict (on (a .controller) (a .unit) (a .image) t (a .host))) is
+
+    unasked : (T (asksHolder (a .task)) → ⊥) → verdict a ≡ Verdict.Refused Refusal.DriveHeld → ⊥
+    unasked none e =
+        by-cases (test? (unlisted (a .task)))
+        (λ other.
+        let is = given-in-its-case a [] (commandUnknown a) _ refl .1 (tt, other) in
+        impossible (cc (is, e)))
+        (λ listed.
+        let is = as-task Task.Handshake (unasked-is-handshake (a .task) listed none) ∙ handshake (a .controller) (a .unit) (a .image) (a .host) in
+        impossible (cc (is, e)))
+
     forth :
         verdict a ≡ Verdict.Refused Refusal.DriveHeld →
-        ((T (unlisted (a .task)) → ⊥) × T (asksHolder (a .task))) × T (heldByOther (a .controller) (holder (a .unit)))
+        T (asksHolder (a .task)) × T (heldByOther (a .controller) (holder (a .unit)))
     forth e =
         by-cases (test? (asksHolder (a .task)))
         (λ asks.
         let so = given-in-its-case a (commandUnknown a ∷ []) (driveHeld a) (ownChecks a (a .task))
         (ap (λ (ks : List Check). commandUnknown a ∷ ks ++ ownChecks a (a .task)) (asked-of-holder a (a .task) asks)) .0 e in
-        ((so .0 .0, asks), so .1))
-        (λ none.
-        let is = unasked-is-handshake (a .task) none in
-        let does = ap (λ (t : Task). verdict (on (a .controller) (a .unit) (a .image) t (a .host))) is ∙ handshake (a .controller) (a .unit) (a .image) (a .host) in
-        absurd (impossible (cc (does, e))))
+        (asks, so .1))
+        (λ none. absurd (unasked none e))
 
 -- A refusal is one before transfer; so is the answer of every check.
 pub refused-before-transfer : (a : Asked) (r : Refusal) → verdict a ≡ Verdict.Refused r → BeforeTransfer r

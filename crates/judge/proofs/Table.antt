@@ -6,7 +6,7 @@ use mathlib.Core.List.{List, [], _∷_}
 use mathlib.Core.Logic.{_↔_}
 use mathlib.Core.Path.{_≡_, refl, sym, ap, subst, _∙_}
 use borrow.Author.Tests.{eqb-true}
-use lib.Dec.{T, T-not, eqb, not-T}
+use lib.Dec.{T, eqb}
 use Rattle.answers.specs.declared.Refusal.{Refusal}
 use Rattle.answers.specs.declared.Refusal.the-variants.{DriveHeld}
 use Rattle.iopb.specs.declared.Block.{Block}
@@ -17,12 +17,12 @@ use Rattle.judge.specs.declared.Report.{Report}
 use Rattle.judge.specs.declared.Report.the-variants.{Nothing as Silent, Identity, Formatted}
 use Rattle.judge.specs.declared.Standing.{Standing}
 use Rattle.judge.specs.declared.Verdict.{Verdict}
-use Rattle.judge.specs.Asks.{checks, planOf, unlisted}
+use Rattle.judge.specs.Asks.{asksHolder, checks, planOf}
 use Rattle.judge.specs.Checks.{answersOf}
 use Rattle.judge.specs.Given.{Asked, asked}
 use Rattle.judge.specs.Table.{answersTo, columns, commandsOf, computed, inOrder, keepsOrder, listed, oneOf, rows}
 use Rattle.judge.specs.Verdict.{verdict}
-use Rattle.judge.proofs.EachTask.{asked-in-order, asksHolder}
+use Rattle.judge.proofs.EachTask.{asked-in-order}
 use Rattle.judge.proofs.Tasks.{unknown}
 
 pub both : (a b : Bool) → T (a && b) → T a × T b
@@ -119,21 +119,11 @@ one-of-every P c (x ∷ xs) all one = by-test (one-of-every P c xs (both (P x) (
     by-test rest false other one = rest one
 
 -- The commands that are asked who holds the drive are those of its row: "not for 86".
-abbrev asks-of-its-holder : Task → Bool
-asks-of-its-holder t = not (unlisted t) && asksHolder t
-
-pub held-for :
-    (host : List ℕ) (b : Block) →
-    T (oneOf (b .command) (commandsOf DriveHeld)) ↔ ((T (unlisted (taskOf host b)) → ⊥) × T (asksHolder (taskOf host b)))
+pub held-for : (host : List ℕ) (b : Block) → T (oneOf (b .command) (commandsOf DriveHeld)) ↔ T (asksHolder (taskOf host b))
 unfolding taskOf
 held-for host b = (
-  λ one.
-      let t = taskOf host b in
-      let so = both (not (unlisted t)) (asksHolder t) (one-of-every (λ c. asks-of-its-holder (taskAt c (tasks host b))) (b .command) (commandsOf DriveHeld) tt one) in
-      (T-not (unlisted t) (so .0), so .1),
-  λ so.
-      let t = taskOf host b in
-      only-at asks-of-its-holder (commandsOf DriveHeld) (b .command) (tasks host b) tt refl (and (not (unlisted t)) (asksHolder t) (not-T (unlisted t) (so .0)) (so .1)),
+  one-of-every (λ c. asksHolder (taskAt c (tasks host b))) (b .command) (commandsOf DriveHeld) tt,
+  only-at asksHolder (commandsOf DriveHeld) (b .command) (tasks host b) tt refl,
 )
 
 module _ (u : UnitRecord) (host : List ℕ) (b : Block) where

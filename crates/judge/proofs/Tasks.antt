@@ -1,7 +1,7 @@
 -- The verdict on each kind of task, case by case, from what is known of its checks.
 -- Those that are not given are passed over, and the first that is refuses the task.
 use Prim.Native.Nat.{ℕ, _+_, _*_, _<_, _≤_}
-use mathlib.Core.Bool.{Bool, true, false}
+use mathlib.Core.Bool.{Bool, true, false, _&&_}
 use mathlib.Core.List.{List}
 use mathlib.Core.Logic.{_⊎_, inl, inr}
 use mathlib.Core.Path.{_≡_, refl, sym, subst, _∙_}
@@ -30,12 +30,20 @@ use Rattle.judge.specs.declared.Leaving.{Leaving}
 use Rattle.judge.specs.declared.Moving.{Moving}
 use Rattle.judge.specs.declared.Report.{Report}
 use Rattle.judge.specs.declared.Verdict.{Verdict}
-use Rattle.judge.specs.Asks.{carrying, jobOf, ofUnit, only, plan, planOf, unlisted}
+use Rattle.judge.specs.Asks.{asksHolder, carrying, jobOf, ofUnit, only, plan, planOf, unlisted}
 use Rattle.judge.specs.Checks.{None}
 use Rattle.judge.specs.Given.{Asked, Covers, HasTrack, HasTracks, badNumber, beginsAt, on, spareNumber}
 use Rattle.judge.specs.Verdict.{byItsOwn, fromAddress, fromBuffer, fromData, fromImage, fromSectors, fromTable, verdict}
-use Rattle.judge.proofs.EachTask.{asksHolder, passes-first, stopped-by-holder}
+use Rattle.judge.proofs.EachTask.{asked-is-listed, passes-first, stopped-by-holder}
 use Rattle.judge.proofs.First.{done, never, on-its-own, pass, skip, stop}
+
+not-held : (asks held : Bool) → T asks → asks && held ≡ false → held ≡ false
+not-held true held asks is = is
+not-held false held asks is = absurd asks
+
+asked-and-held : (asks held : Bool) → asks && held ≡ true → T asks × (held ≡ true)
+asked-and-held true held is = (tt, is)
+asked-and-held false held is = absurd (subst T (sym is) tt)
 
 module _ (c : Controller) (u : UnitRecord) (image : ℕ) (host : List ℕ) where
   abbrev g : Geometry
@@ -44,21 +52,30 @@ module _ (c : Controller) (u : UnitRecord) (image : ℕ) (host : List ℕ) where
   pub own : (t : Task) → (T (unlisted t) → ⊥) → heldByOther c (holder u) ≡ false → verdict (on c u image t host) ≡ byItsOwn (on c u image t host)
   own t listed free = on-its-own (on c u image t host) (passes-first (on c u image t host) listed (λ held. subst T free held))
 
-  -- Where it is, every task is refused but one that is not listed and a handshake.
-  pub held-24 : (t : Task) → (T (unlisted t) → ⊥) → T (asksHolder t) → heldByOther c (holder u) ≡ true → verdict (on c u image t host) ≡ Verdict.Refused Refusal.DriveHeld
-  held-24 t listed asks held = stopped-by-holder (on c u image t host) listed asks (subst T (sym held) tt)
+  -- Where the other does, every task that is asked is refused.
+  pub held-24 : (t : Task) → T (asksHolder t) → heldByOther c (holder u) ≡ true → verdict (on c u image t host) ≡ Verdict.Refused Refusal.DriveHeld
+  held-24 t asks held = stopped-by-holder (on c u image t host) asks (subst T (sym held) tt)
 
   -- So a task that asks it is refused by 24, or judged by its own checks.
   pub own-unless-held :
-      (t : Task) → (T (unlisted t) → ⊥) → T (asksHolder t) →
+      (t : Task) → T (asksHolder t) →
       (verdict (on c u image t host) ≡ Verdict.Refused Refusal.DriveHeld) ⊎ (verdict (on c u image t host) ≡ byItsOwn (on c u image t host))
-  own-unless-held t listed asks = by-holder (heldByOther c (holder u)) refl
+  own-unless-held t asks = by-holder (heldByOther c (holder u)) refl
     where
       by-holder :
           (held : Bool) → heldByOther c (holder u) ≡ held →
           (verdict (on c u image t host) ≡ Verdict.Refused Refusal.DriveHeld) ⊎ (verdict (on c u image t host) ≡ byItsOwn (on c u image t host))
-      by-holder true held = inl (held-24 t listed asks held)
-      by-holder false free = inr (own t listed free)
+      by-holder true held = inl (held-24 t asks held)
+      by-holder false free = inr (own t (asked-is-listed t asks) free)
+
+  -- The same by what the code asks at once.
+  pub refused-as-held :
+      (t : Task) → asksHolder t && heldByOther c (holder u) ≡ true → verdict (on c u image t host) ≡ Verdict.Refused Refusal.DriveHeld
+  refused-as-held t is = let so = asked-and-held (asksHolder t) (heldByOther c (holder u)) is in held-24 t (so .0) (so .1)
+
+  pub own-if-asked :
+      (t : Task) → T (asksHolder t) → asksHolder t && heldByOther c (holder u) ≡ false → verdict (on c u image t host) ≡ byItsOwn (on c u image t host)
+  own-if-asked t asks is = own t (asked-is-listed t asks) (not-held (asksHolder t) (heldByOther c (holder u)) asks is)
 
   pub unknown : verdict (on c u image Task.Unknown host) ≡ Verdict.Refused Refusal.CommandUnknown
   unfolding verdict

@@ -1,7 +1,7 @@
 -- What each command is asked, in the order of the answers (01, Answer numbers; 02, K5 and K10), and what it does where no check refuses it. Whatever
 -- goes by command stands here; Table compares it with the paper's rows.
 use Prim.Native.Nat.{ℕ, _*_, _≤_, _<_}
-use mathlib.Core.Bool.{Bool, true, false}
+use mathlib.Core.Bool.{Bool, true, false, cond}
 use mathlib.Core.List.{List, [], _∷_, _++_}
 use mathlib.Core.Logic.{Dec·not}
 use mathlib.Core.Path.{_≡_}
@@ -56,6 +56,17 @@ unlisted Restore = false
 unlisted (Seek t) = false
 unlisted (Format k) = false
 unlisted (Map k) = false
+
+-- Which tasks are asked who holds the drive: "not for 86" (02, K10), nor for one that is not listed, which 10 has refused.
+abbrev pub asksHolder : Task → Bool
+asksHolder Unknown = false
+asksHolder (Moves m) = true
+asksHolder Handshake = false
+asksHolder (Initialize s) = true
+asksHolder Restore = true
+asksHolder (Seek t) = true
+asksHolder (Format k) = true
+asksHolder (Map k) = true
 
 module _ (a : Asked) where
   -- ---- the checks, each an answer with its case
@@ -134,17 +145,9 @@ module _ (a : Asked) where
 
   -- ---- what is asked, in order
 
-  -- "24 drive held, directly after 10 .., not for 86" (02, K10)
+  -- "24 drive held, directly after 10" (02, K10)
   abbrev pub ofHolder : Task → List Check
-  -- never reached: 10 refuses it before
-  ofHolder Unknown = driveHeld ∷ []
-  ofHolder (Moves m) = driveHeld ∷ []
-  ofHolder Handshake = []
-  ofHolder (Initialize s) = driveHeld ∷ []
-  ofHolder Restore = driveHeld ∷ []
-  ofHolder (Seek t) = driveHeld ∷ []
-  ofHolder (Format k) = driveHeld ∷ []
-  ofHolder (Map k) = driveHeld ∷ []
+  ofHolder t = cond (asksHolder t) (driveHeld ∷ []) []
 
   -- What is asked first: whether the command is listed, and, but for 86, who holds the drive.
   abbrev pub firstChecks : Task → List Check

@@ -1,4 +1,4 @@
-// The checks before transfer on a request, its unit's standing and the host memory: a refusal, or what is to be done.
+// The checks before transfer on a task, its unit's standing and the host memory: a refusal, or what is to be done.
 // Whatever is refused before a transfer is refused here, before anything is touched, by the first check that fails.
 // It changes nothing, holds for every input, and knows no block; a list's elements are the 3200's.
 use answers::Refusal;
@@ -12,7 +12,6 @@ use memory::list;
 use request::Buffer;
 use request::Move;
 use request::Pair;
-use request::Request;
 use request::Shape;
 use request::Start;
 use request::Target;
@@ -24,14 +23,14 @@ use unit::Record;
 use unit::Span;
 use unit::Spot;
 use wire::holds;
-ghost use mathlib.Core.Bool.{true, false};
+ghost use mathlib.Core.Bool.{_&&_};
 ghost use mathlib.Core.List.{List};
 ghost use mathlib.Core.Path.{_≡_};
 ghost use Prim.Native.Nat.{ℕ, _<_};
 ghost use Rattle.geometry.specs.Drive.{B, S, need, volume, volumeSectors};
 ghost use Rattle.geometry.specs.Limits.{Present};
-ghost use Rattle.judge.specs.Given.{Asked, HasTrack, HasTracks, asked, numberOf, on};
-ghost use Rattle.judge.specs.Asks.{carrying, jobOf, only, plan};
+ghost use Rattle.judge.specs.Given.{HasTrack, HasTracks, asked, numberOf, on};
+ghost use Rattle.judge.specs.Asks.{asksHolder, carrying, jobOf, only, plan};
 ghost use Rattle.judge.specs.Verdict.{Begins, byItsOwn, fromAddress, fromBuffer, fromData, fromImage, fromSectors, fromTable, verdict};
 ghost use Rattle.judge.specs.declared.Leaving.{Leaving};
 ghost use Rattle.judge.specs.declared.Moving.{Moving};
@@ -44,7 +43,7 @@ ghost use Rattle.unit.specs.Holding.{heldByOther};
 ghost use Rattle.unit.specs.Landing.{trackOf};
 ghost use Rattle.unit.specs.Standing.{CountsAsInitialized, UnitRecord, bare, geometry, holder, unitOf};
 
-// What is judged of a unit beside the request: its record, whether that counts as initialized, how long its image is, and which controller asks.
+// What is judged of a unit beside the task: its record, whether that counts as initialized, how long its image is, and which controller asks.
 // Whoever runs several blocks has asked the second once: a table of many pairs is long to look through.
 pub struct Standing {
     pub record: Record,
@@ -97,16 +96,44 @@ pub enum Verdict {
     Do(Plan),
 }
 
-// The verdict on a request.
-pub fn judge(r: Request, standing: Standing, table: &[u32; 64], host: &[u8]) -> Verdict
+// The verdict on a task.
+pub fn judge(task: Task, standing: Standing, table: &[u32; 64], host: &[u8]) -> Verdict
     requires { ⌜ Says (standing .counts) (CountsAsInitialized (unitOf (standing .record) (now table))) ⌝ }
-    ensures { λ v. ⌜ v ≡ verdict (asked (r .task) standing (now (table .entry)) (now (host .entry))) ⌝ }
+    ensures { λ v. ⌜ v ≡ verdict (asked task standing (now (table .entry)) (now (host .entry))) ⌝ }
 {
-    let task = r.task;
-    if is_held(standing) {
-        return judge_held(task);
+    if is_refused_as_held(task, standing) {
+        return Verdict::Refused(Refusal::DriveHeld);
     }
-    judge_free(task, standing, table, host)
+    match task {
+        Task::Unknown => Verdict::Refused(Refusal::CommandUnknown),
+        Task::Move(m) => judge_move(m, standing, table, host),
+        Task::Handshake => Verdict::Do(Plan {
+            moving: Moving::Nothing,
+            report: Report::Identity,
+            leaving: Leaving::AsItWas,
+        }),
+        Task::Initialize(s) => judge_shape(s),
+        Task::Restore => judge_restore(standing),
+        Task::Seek(t) => judge_seek(t, standing, table),
+        Task::Format(k) => judge_format(k, standing, table, host),
+        Task::Map(k) => judge_map(k, standing, table),
+    }
+}
+
+// Which tasks are asked who holds the drive: all that are listed but a handshake.
+fn asks_holder(task: Task) -> bool
+    ensures { λ r. ⌜ r ≡ asksHolder task ⌝ }
+{
+    match task {
+        Task::Unknown => false,
+        Task::Move(_) => true,
+        Task::Handshake => false,
+        Task::Initialize(_) => true,
+        Task::Restore => true,
+        Task::Seek(_) => true,
+        Task::Format(_) => true,
+        Task::Map(_) => true,
+    }
 }
 
 // Whether the other controller holds the drive.
@@ -118,48 +145,10 @@ fn is_held(s: Standing) -> bool
     u.holder().is_other_than(c)
 }
 
-// A request for a drive that the other controller holds: a handshake alone is let through, and what is not listed has its own answer.
-fn judge_held(task: Task) -> Verdict
-    ensures { λ v. ⌜ ((a : Asked) → a .task ≡ task → heldByOther (a .controller) (holder (a .unit)) ≡ true → v ≡ verdict a) ⌝ }
+fn is_refused_as_held(task: Task, s: Standing) -> bool
+    ensures { λ r. ⌜ r ≡ asksHolder task && heldByOther (s .controller) (holder (bare (s .record))) ⌝ }
 {
-    match task {
-        Task::Unknown => Verdict::Refused(Refusal::CommandUnknown), // asked before the holder
-        Task::Move(_) => Verdict::Refused(Refusal::DriveHeld),
-        Task::Handshake => identified(),
-        Task::Initialize(_) => Verdict::Refused(Refusal::DriveHeld),
-        Task::Restore => Verdict::Refused(Refusal::DriveHeld),
-        Task::Seek(_) => Verdict::Refused(Refusal::DriveHeld),
-        Task::Format(_) => Verdict::Refused(Refusal::DriveHeld),
-        Task::Map(_) => Verdict::Refused(Refusal::DriveHeld),
-    }
-}
-
-// The plan of 86: it moves nothing, and leaves the record as it was.
-fn identified() -> Verdict
-    ensures { λ v. ⌜ v ≡ Verdict.Do (plan Moving.Nothing Report.Identity Leaving.AsItWas) ⌝ }
-{
-    Verdict::Do(Plan {
-        moving: Moving::Nothing,
-        report: Report::Identity,
-        leaving: Leaving::AsItWas,
-    })
-}
-
-// A request for a drive that nobody holds, or the controller that asks.
-fn judge_free(task: Task, standing: Standing, table: &[u32; 64], host: &[u8]) -> Verdict
-    requires { ⌜ Says (standing .counts) (CountsAsInitialized (unitOf (standing .record) (now table))) × (heldByOther (standing .controller) (holder (bare (standing .record))) ≡ false) ⌝ }
-    ensures { λ v. ⌜ v ≡ verdict (asked task standing (now (table .entry)) (now (host .entry))) ⌝ }
-{
-    match task {
-        Task::Unknown => Verdict::Refused(Refusal::CommandUnknown),
-        Task::Move(m) => judge_move(m, standing, table, host),
-        Task::Handshake => identified(),
-        Task::Initialize(s) => judge_shape(s),
-        Task::Restore => judge_restore(standing),
-        Task::Seek(t) => judge_seek(t, standing, table),
-        Task::Format(k) => judge_format(k, standing, table, host),
-        Task::Map(k) => judge_map(k, standing, table),
-    }
+    if asks_holder(task) { is_held(s) } else { false }
 }
 
 // A plan that moves nothing and reports nothing.

@@ -1,5 +1,5 @@
 // What a block asks, free of any block's layout: the one form in which every product's block is judged and carried out.
-// A product's own crate makes a request of its block; nothing here reads a byte.
+// A product's own crate makes a task of its block, for the unit that it names; nothing here reads a byte.
 // What a run does besides (links, interrupts, events) is no part of it.
 use geometry::Geometry;
 use geometry::VolumeNumber;
@@ -71,11 +71,4 @@ pub enum Task {
     Seek(Target),
     Format(Track),
     Map(Pair),
-}
-
-// `reserve`: on success the controller that asks takes or keeps the drive, and without it gives the drive up.
-pub struct Request {
-    pub unit: UnitNumber,
-    pub task: Task,
-    pub reserve: bool,
 }

@@ -78,7 +78,7 @@ uib-first = read-carried (firstIn heldUib) 0 (uib-pass .0) 7 0 refl 56 refl (ome
 
 uib-held : verdictOf (v (secondIn heldUib) 28 (uib-pass .1)) ≡ Verdict.Refused Refusal.DriveHeld
 unfolding word taskOf
-uib-held = held-24 FirstController (heldDrive .unit) _ _ (Task.Initialize _) never tt refl
+uib-held = held-24 FirstController (heldDrive .unit) _ _ (Task.Initialize _) tt refl
 
 uib-second : Alone 28 (secondIn heldUib) One ((28, 28) ∷ []) ((30, 2) ∷ [])
 unfolding word
@@ -95,7 +95,7 @@ list-first = read-carried (firstIn heldList) 0 (list-pass .0) 7 0 refl 56 refl (
 
 list-held : verdictOf (v (secondIn heldList) 28 (list-pass .1)) ≡ Verdict.Refused Refusal.DriveHeld
 unfolding word taskOf
-list-held = held-24 FirstController (heldDrive .unit) _ _ (Task.Move _) never tt refl
+list-held = held-24 FirstController (heldDrive .unit) _ _ (Task.Move _) tt refl
 
 list-second : Alone 28 (secondIn heldList) One ((28, 28) ∷ []) ((30, 2) ∷ [])
 unfolding word
@@ -192,7 +192,7 @@ then-pass = passes-at (otherIn then) 28 refl refl (omega arith)
 
 then-held : verdictOf (v (otherIn then) 28 then-pass) ≡ Verdict.Refused Refusal.DriveHeld
 unfolding word taskOf after bytesFrom
-then-held = held-24 SecondController (heldBy (unit 0) TheFirst) _ _ Task.Restore never tt refl
+then-held = held-24 SecondController (heldBy (unit 0) TheFirst) _ _ Task.Restore tt refl
 
 then-refused : ofOther then ≡ come RunAnswer.BlockFailed 24 0
 then-refused = comes-refused (otherIn then) 28 then-pass _ then-held

@@ -1,4 +1,4 @@
--- The verdict is that on the block's request. A refused block is only finished; an accepted one is performed first.
+-- The verdict is that on the block's task. A refused block is only finished; an accepted one is performed first.
 use mathlib.Core.Path.{_≡_, refl, sym, ap, _∙_}
 use native.Mathlib.Omega.{arith}
 use Rattle.unit.specs.Standing.{CountsAsInitialized, UnitRecord, unitOf}
@@ -23,8 +23,8 @@ read-requires c κs = search needs
 settled-requires : tie.Need-settled-requires
 settled-requires c κs = search needs
 
-request-requires : tie.Need-request-requires
-request-requires c κs = search needs
+task-requires : tie.Need-task-requires
+task-requires c κs = search needs
 
 judge-requires : tie.Need-judge-requires
 judge-requires c κs = c .before .before .before .before .settled .ensures
@@ -47,12 +47,12 @@ drive c =
 block : tie.After-judge → Block
 block c = c .before .before .before .before .before .before .before .before .read .result
 
--- The verdict is that on the block's request.
+-- The verdict is that on the block's task.
 judgement :
     (c : tie.After-judge) →
     c .judge .result ≡ verdict (asking (begins c .args .c) (taskOf (begins c .args .host .now) (block c)) (drive c) (begins c .args .host .now))
 unfolding begins drive block
-judgement c = rw (c .before .before .before .request .ensures) at (c .judge .ensures)
+judgement c = rw (c .before .before .before .task .ensures) at (c .judge .ensures)
 
 finish-requires : tie.Need-finish-requires
 unfolding begins
@@ -153,7 +153,7 @@ run-block-spec =
     (tie.spec
     read-requires
     settled-requires
-    request-requires
+    task-requires
     judge-requires
     enum-known-r
     refuse-requires
