@@ -6,63 +6,41 @@ use Rattle.unit.specs.declared.Controller.{Controller}
 use Rattle.unit.specs.declared.Controller.the-variants.{First, Second}
 use Rattle.abi.specs.Calls.{Called, Lent, lentOf}
 
--- Of each machine its memory, its event buffer and where it has outcomes put; and the drives, holders and all.
+-- What a machine has for itself: its host memory, its event buffer, and where it has outcomes put.
+pub record Own : Type 0 where
+  pub host : List ℕ
+  pub events : List ℕ
+  pub outcome : List ℕ
+
+-- Two of them, and the drives, holders and all.
 pub record Machines : Type 0 where
-  pub host1 : List ℕ
-  pub host2 : List ℕ
-  pub events1 : List ℕ
-  pub events2 : List ℕ
-  pub outcome1 : List ℕ
-  pub outcome2 : List ℕ
+  pub one : Own
+  pub two : Own
   pub image0 : List ℕ
   pub image1 : List ℕ
   pub record0 : List ℕ
   pub record1 : List ℕ
 
-abbrev pub hostOf : Machines → Controller → List ℕ
-hostOf m First = m .host1
-hostOf m Second = m .host2
-
-abbrev pub eventsOf : Machines → Controller → List ℕ
-eventsOf m First = m .events1
-eventsOf m Second = m .events2
-
-abbrev pub outcomeOf : Machines → Controller → List ℕ
-outcomeOf m First = m .outcome1
-outcomeOf m Second = m .outcome2
+abbrev pub ownOf : Machines → Controller → Own
+ownOf m First = m .one
+ownOf m Second = m .two
 
 -- What a call of a controller is lent: what is its own, and the drives.
 abbrev pub lentBy : Machines → Controller → Lent
-lentBy m c = lentOf (hostOf m c) (m .image0) (m .image1) (eventsOf m c) (m .record0) (m .record1) (outcomeOf m c)
+lentBy m c =
+    let own = ownOf m c in
+    lentOf (own .host) (m .image0) (m .image1) (own .events) (m .record0) (m .record1) (own .outcome)
 
 -- What is there once the call has left that so.
+abbrev pub ownIn : Lent → Own
+ownIn l = record { host = l .host; events = l .events; outcome = l .outcome }
+
+abbrev pub drivesLeft : (one two : Own) → Lent → Machines
+drivesLeft one two l = record { one = one; two = two; image0 = l .image0; image1 = l .image1; record0 = l .record0; record1 = l .record1 }
+
 abbrev pub afterCall : Machines → Controller → Lent → Machines
-afterCall m First l =
-    record {
-      host1 = l .host;
-      host2 = m .host2;
-      events1 = l .events;
-      events2 = m .events2;
-      outcome1 = l .outcome;
-      outcome2 = m .outcome2;
-      image0 = l .image0;
-      image1 = l .image1;
-      record0 = l .record0;
-      record1 = l .record1;
-    }
-afterCall m Second l =
-    record {
-      host1 = m .host1;
-      host2 = l .host;
-      events1 = m .events1;
-      events2 = l .events;
-      outcome1 = m .outcome1;
-      outcome2 = l .outcome;
-      image0 = l .image0;
-      image1 = l .image1;
-      record0 = l .record0;
-      record1 = l .record1;
-    }
+afterCall m First l = drivesLeft (ownIn l) (m .two) l
+afterCall m Second l = drivesLeft (m .one) (ownIn l) l
 
 -- What a call is asked for: the controller's number, the first block, the allowance, and what it is lent.
 pub record Asking : Type 0 where
@@ -82,9 +60,7 @@ numberOf Second = 1
 -- sites that agree on what is its own and on the drives, come to the same, in the number returned and in every byte. What is the other's is not lent, and stays.
 pub record AnswersForItself (m : Machines) (c : Controller) (here there : Called) : Type 0 where
   pub same : here ≡ there
-  pub memory : (d : Controller) → (c ≡ d → ⊥) → hostOf (afterCall m c (here .lent)) d ≡ hostOf m d
-  pub events : (d : Controller) → (c ≡ d → ⊥) → eventsOf (afterCall m c (here .lent)) d ≡ eventsOf m d
-  pub outcome : (d : Controller) → (c ≡ d → ⊥) → outcomeOf (afterCall m c (here .lent)) d ≡ outcomeOf m d
+  pub other : (d : Controller) → (c ≡ d → ⊥) → ownOf (afterCall m c (here .lent)) d ≡ ownOf m d
 
 -- The same of a call's promise, as the source states it (wire, Promise): `given` says what its arguments ask for, `seen` what a caller sees of its outcome.
 abbrev pub EachForItself {ℓ₀ ℓ₁ ℓ₂ ℓ₃} :

@@ -24,7 +24,7 @@ use Rattle.wire.specs.Memory.{inMemory?}
 use Rattle.unit.specs.Standing.{holder}
 use Rattle.transfer.specs.Stores.{after}
 use Rattle.block.specs.Block.{transferOf, worldAfter}
-use Rattle.block.specs.World.{Drive, World, buffersOf, changed, driveOf}
+use Rattle.block.specs.World.{World, buffersOf, changed, driveOf}
 use Rattle.board.specs.Chain.{ran}
 use Rattle.demands.specs.Footprint.{DiskData, RunWritesImage, RunWritesRecord, Some, WritesImage, WritesRecord, askedOf, changes, leavingOf, movingOf, namedDrive, names, verdictOf}
 use Rattle.demands.specs.Visits.{Visit, blockOf, effectOf, fetchedBy, onwards, passes?, visits, worldLeft}

@@ -1,20 +1,18 @@
 -- Who holds a drive after a block (02, K10): "RV on a successful block takes or keeps the drive; a successful block without RV gives it up; 86 does
 -- neither. .. A failed block leaves the holder as it was." What is left is told by the plan, and only 86's leaves the record as it was.
-use Prim.Native.Nat.{ℕ}
-use mathlib.Core.Bool.{Bool}
 use mathlib.Core.Logic.{⊎-elim}
-use mathlib.Core.Path.{_≡_, refl, sym, ap, subst, _∙_}
+use mathlib.Core.Path.{_≡_, refl, ap, _∙_}
 use Rattle.answers.specs.declared.BlockAnswer.{BlockAnswer}
 use Rattle.answers.specs.declared.BlockAnswer.the-variants.{Ended, Failed}
 use Rattle.answers.specs.declared.Refusal.{Refusal}
 use Rattle.iopb.specs.Ask.{taskOf}
 use Rattle.judge.specs.declared.Leaving.{Leaving}
-use Rattle.judge.specs.declared.Leaving.the-variants.{AsItWas, HeadsAt, HeadsAtLastTried, Fresh, Mapped}
+use Rattle.judge.specs.declared.Leaving.the-variants.{AsItWas}
 use Rattle.judge.specs.declared.Plan.{Plan}
 use Rattle.judge.specs.declared.Verdict.{Verdict}
 use Rattle.judge.specs.declared.Verdict.the-variants.{Refused, Do}
 use Rattle.judge.specs.Asks.{planOf}
-use Rattle.judge.specs.Given.{Asked, on}
+use Rattle.judge.specs.Given.{on}
 use Rattle.judge.specs.Verdict.{verdict}
 use Rattle.judge.proofs.LetThrough.{own-plan}
 use Rattle.judge.proofs.Table.{only-86-identifies}
@@ -22,7 +20,6 @@ use Rattle.judge.proofs.Tasks.{handshake, own-unless-held, shape-misplaced, unk
 use Rattle.request.specs.declared.Shape.{Shape}
 use Rattle.request.specs.declared.Task.{Task}
 use Rattle.transfer.specs.Progress.{progress}
-use Rattle.unit.specs.declared.Holder.{Holder}
 use Rattle.unit.specs.Holding.{reservedBy}
 use Rattle.unit.specs.Standing.{UnitRecord, holder}
 use Rattle.wire.proofs.Promises.{never}

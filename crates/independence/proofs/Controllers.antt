@@ -8,7 +8,7 @@ use Rattle.board.specs.Chain.{ran}
 use Rattle.demands.specs.Visits.{fetchedBy}
 use Rattle.demands.proofs.HeldDrives.{block-keeps-controller}
 use Rattle.demands.proofs.Keeps.{run-keeps, some-none}
-use Rattle.independence.specs.Chains.{Both, Chain, First, Second, Told, Which, eventsOf, hostOf, leaving, runOf, told, worldFor}
+use Rattle.independence.specs.Chains.{Both, Chain, First, Second, Which, eventsOf, hostOf, leaving, runOf, told, worldFor}
 use Rattle.independence.specs.Controllers.{EachForItself}
 
 -- What is put back is found, and what is another's stays.

@@ -26,7 +26,6 @@ use Rattle.unit.proofs.Decided.{counts?}
 use Rattle.unit.proofs.Laws.{track-inside, track-whole}
 use Rattle.wire.specs.Memory.{inMemory?}
 use Rattle.judge.specs.declared.Leaving.{Leaving}
-use Rattle.judge.specs.declared.Plan.{Plan}
 use Rattle.judge.specs.declared.Verdict.{Verdict}
 use Rattle.judge.specs.Asks.{asksHolder, beforeBuffer, bytesOf, driveHeld, firstChecks, found, imageShort, jobOf, notInitialized, ofBuffer, ofHolder, ownChecks, planOf, trackOutside, unlisted}
 use Rattle.judge.specs.Checks.{Check, None, answersOf, first}

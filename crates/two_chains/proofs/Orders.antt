@@ -15,7 +15,7 @@ use Rattle.two_chains.specs.declared.Order.the-variants.{FirstThenSecond
 use Rattle.two_chains.specs.declared.Twice.{Twice}
 use Rattle.unit.specs.declared.Controller.{Controller}
 use Rattle.unit.specs.declared.Controller.the-variants.{First as FirstController, Second as SecondController}
-use Rattle.independence.specs.Chains.{Both, Chain, First, Second, Told, Which, leaving, runOf, told}
+use Rattle.independence.specs.Chains.{Both, Chain, First, Second, Which, leaving, runOf, told}
 use Rattle.independence.specs.Demand3.{EitherWay, Independent}
 use Rattle.two_chains.specs.Orders.{IsRunOf, RanBoth, RanOne, cameOf, lentTo, ranBoth, ranBothOf, ranOne, ranOneOf, toldBy}
 use Rattle.independence.proofs.Demand3.{either-way}

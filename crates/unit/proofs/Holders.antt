@@ -1,5 +1,4 @@
 -- A holder is found again by its number, so that two holders with one number are one.
-use Prim.Native.Nat.{ℕ}
 use mathlib.Core.Path.{_≡_, refl, sym, ap, _∙_}
 use Rattle.unit.specs.declared.Holder.{Holder}
 use Rattle.unit.specs.declared.Holder.the-variants.{Nobody, TheFirst, TheSecond}

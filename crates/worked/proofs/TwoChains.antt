@@ -12,7 +12,6 @@ use Rattle.wire.specs.Words.{word}
 use Rattle.answers.specs.declared.BlockAnswer.the-variants.{Ended, Failed}
 use Rattle.answers.specs.declared.Refusal.{Refusal}
 use Rattle.answers.specs.declared.RunAnswer.{RunAnswer}
-use Rattle.answers.specs.Numbers.{refusalNumber}
 use Rattle.iopb.specs.Ask.{taskOf}
 use Rattle.iopb.specs.Layout.{blockAt, uibAt}
 use Rattle.iopb.proofs.Answers.{shapeAt-inside}
@@ -42,12 +41,11 @@ use lib.IntN.{pos}
 use Rattle.geometry.specs.Sectors.Inside.{firstByte-is}
 use Rattle.demands.specs.Footprint.{RunWrites, WritesHost, askedOf, namedDrive, names, reportOf, transferBy, verdictOf}
 use Rattle.demands.specs.Footprint.HostWritten.{moved as given, report, status-word}
-use Rattle.demands.proofs.BlockLaws.{refusal-moves-nothing}
-use Rattle.demands.specs.Visits.{Passes, Visit, blockOf, worldLeft}
+use Rattle.demands.specs.Visits.{Passes, Visit, worldLeft}
 use Rattle.demands.proofs.Reports.{FormatTold}
 use Rattle.demands.proofs.VersionTwo.{disk-byte-is-there}
 use Rattle.demands.proofs.Written.{effect-is}
-use Rattle.independence.specs.Chains.{Both, Cell, First, HostReads, HostWrites, Second, Told, both, drive, eventBuffer, hostByte, leaving, runOf, told}
+use Rattle.independence.specs.Chains.{Both, Cell, First, HostReads, HostWrites, Second, both, drive, eventBuffer, hostByte, leaving, runOf, told}
 use Rattle.independence.specs.Demand3.{EitherWay, Independent, NoUnitInCommon, NoByteReadByOther, NoByteWrittenByBoth}
 use Rattle.independence.specs.Local.{LeadsAlike}
 use Rattle.independence.specs.Reads.{ReadsHost}

@@ -1,14 +1,12 @@
 -- The pairs where a drive is held, and those on two controllers.
 -- A block that is refused by 24 is told by its verdict alone, and bytes of two memories are never the same byte.
-use Prim.Native.Nat.{ℕ, _+_, _≤_}
-use mathlib.Core.Bool.{true, false}
+use Prim.Native.Nat.{ℕ, _+_}
+use mathlib.Core.Bool.{true}
 use mathlib.Core.List.{[], _∷_, _++_}
 use mathlib.Core.Logic.{inl}
-use mathlib.Core.Path.{_≡_, refl, sym, ap, _∙_}
+use mathlib.Core.Path.{_≡_, refl, ap, _∙_}
 use native.Mathlib.Omega.{arith}
 use lib.IntN.{pos}
-use lib.ListN.{length}
-use Rattle.wire.specs.Memory.{Among}
 use Rattle.wire.specs.Words.{word}
 use Rattle.wire.proofs.Promises.{never as impossible}
 use Rattle.answers.specs.declared.BlockAnswer.the-variants.{Ended}
@@ -36,12 +34,12 @@ use Rattle.demands.specs.Footprint.HostWritten.{moved as given, status-word}
 use Rattle.demands.specs.Visits.{Passes}
 use Rattle.demands.proofs.BlockLaws.{refusal-moves-nothing}
 use Rattle.demands.proofs.Written.{effect-is}
-use Rattle.independence.specs.Chains.{Both, First, HostReads, HostWrites, leaving, runOf, told}
-use Rattle.independence.specs.Demand3.{EitherWay, Independent, NoUnitInCommon, NoByteReadByOther, NoByteWrittenByBoth}
+use Rattle.independence.specs.Chains.{Both, First, leaving, runOf, told}
+use Rattle.independence.specs.Demand3.{Independent}
 use Rattle.independence.specs.Reads.{ReadsHost}
 use Rattle.independence.specs.Reads.HostRead.{block}
 use Rattle.independence.proofs.Held.{reads-its-28-bytes-alone}
-use Rattle.worked.specs.TwoChains.{come, firstIn, ofFirst, ofSecond, one, secondIn, two}
+use Rattle.worked.specs.TwoChains.{come, firstIn, one, secondIn}
 use Rattle.worked.specs.TwoControllers.{FailsByTwo, MetByTwo, heldDrive, heldList, heldUib, ofOther, other, otherIn, sameBytes, sharedDrive}
 use Rattle.worked.proofs.Carried.{Alone, Carried, comes-done, comes-refused, data-byte, differ, fails-otherwise, met, no-unit, passes-at, read-carried, silent, still, v}
 use Rattle.worked.proofs.OneBlock.{by-block, done, leaves, of-block, writes-in}

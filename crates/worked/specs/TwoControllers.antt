@@ -6,7 +6,7 @@ use lib.ListN.{replicate}
 use Rattle.wire.specs.Memory.{Among}
 use Rattle.answers.specs.declared.RunAnswer.{RunAnswer}
 use Rattle.block.specs.World.{Drive, World}
-use Rattle.unit.specs.declared.Controller.the-variants.{First as FirstController, Second as SecondController}
+use Rattle.unit.specs.declared.Controller.the-variants.{Second as SecondController}
 use Rattle.unit.specs.declared.Holder.the-variants.{TheSecond}
 use Rattle.unit.specs.Standing.{heldBy}
 use Rattle.independence.specs.Chains.{Both, Chain, First, HostReads, HostWrites, Second, Told, runOf, worldFor}
