@@ -5,5 +5,7 @@ pub mod Gathered
 pub mod Held
 pub mod Kept
 pub mod Outcomes
+pub mod PastMarks
+pub mod Told
 pub mod Transfers
 pub mod Travel

@@ -1,4 +1,5 @@
 pub mod Block
 pub mod Events
 pub mod Steps
+pub mod Tells
 pub mod World

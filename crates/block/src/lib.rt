@@ -14,6 +14,7 @@ use judge::Report;
 use judge::Standing;
 use judge::Verdict;
 use request::Buffer;
+use transfer::Attempt;
 use transfer::Moved;
 use unit::Controller;
 use unit::Landing;
@@ -29,9 +30,12 @@ ghost use Rattle.geometry.specs.Drive.{B};
 ghost use Rattle.judge.specs.declared.Moving.{Moving};
 ghost use Rattle.judge.specs.declared.Report.{Report};
 ghost use Rattle.judge.specs.Fits.{JobGood, LeavingFits, MovingFits, PlanFits, ReportFits, SpanGood};
+ghost use Rattle.answers.specs.declared.BlockAnswer.{BlockAnswer};
 ghost use Rattle.request.specs.declared.Buffer.{Buffer};
 ghost use Rattle.block.specs.Block.{effectOn, finish, heldAfter, holderLeft, leftBy, performed, refused, transferOf, transferWith, travelled, wordsOf};
 ghost use Rattle.block.specs.Steps.{Carries, Did, Knows, Made, Performs, Ready, Room, driveWith, performedOf, tableBy, three, written};
+ghost use Rattle.transfer.specs.declared.Attempt.{Attempt};
+ghost use Rattle.transfer.specs.declared.Moved.{Moved};
 ghost use Rattle.transfer.specs.Progress.{lastTried};
 ghost use Rattle.transfer.specs.Runs.{pieceByte};
 ghost use Rattle.transfer.specs.Stores.{after};
@@ -105,6 +109,25 @@ fn put_report(host: &mut [u8], at: usize, report: Report)
     }
 }
 
+fn nothing_moved() -> Moved
+    ensures { λ r. ⌜ r ≡ record { sectors = 0; answer = BlockAnswer.Ended } ⌝ }
+{
+    Moved {
+        sectors: 0,
+        answer: BlockAnswer::Ended,
+    }
+}
+
+// What was moved, of an attempt that was made. The judge lets no request through that does not fit.
+fn moved_by(a: Attempt) -> Moved
+    ensures { λ r. ⌜ ((m : Moved) → a ≡ Attempt.Made m → r ≡ m) ⌝ }
+{
+    match a {
+        Attempt::Made(m) => m,
+        Attempt::Misfit => nothing_moved(),
+    }
+}
+
 // Marks the block as running, and moves what is to be moved, to or from pieces that were found before: the block's own status word may
 // lie under its list.
 fn begin(
@@ -122,13 +145,10 @@ fn begin(
 {
     put_status(host, at, 0x81, 0x00);
     match moving {
-        Moving::Nothing => Moved {
-            sectors: 0,
-            answer: BlockAnswer::Ended,
-        },
+        Moving::Nothing => nothing_moved(),
         Moving::Sectors(job) => {
             let span = job.span;
-            transfer::move_sectors(
+            moved_by(transfer::move_sectors(
                 host,
                 image,
                 u,
@@ -138,9 +158,11 @@ fn begin(
                 job.past_marks,
                 lengths,
                 addresses,
-            )
+            ))
         }
-        Moving::Track(spot, buffer) => transfer::format_track(host, image, u, spot, buffer),
+        Moving::Track(spot, buffer) => {
+            moved_by(transfer::format_track(host, image, u, spot, buffer))
+        }
     }
 }
 

@@ -3,7 +3,7 @@
 use Prim.Native.Nat.{ℕ}
 use mathlib.Core.List.{List}
 use mathlib.Core.Path.{_≡_, _∙_, sym}
-use denote.Ref.{now}
+use denote.Ref.{now, ptr}
 use Rattle.wire.specs.Promise.{OneOutcome, OneResult}
 use Rattle.board.specs.declared.chain.Outcome.{Outcome}
 use Rattle.board.specs.declared.chain.Single.{Single}
@@ -26,9 +26,9 @@ use Rattle.board.proofs.inspection.part_of.Reads as part-of
 part-of-once : OneResult part-of.Post
 part-of-once κ a x y e f p q = p ∙ sym q
 
--- The part that is handed back, by its bytes.
-inspect-once : OneOutcome inspect.Post (λ κ x e. now x)
-inspect-once κ a x y e f p q = p ∙ sym q
+-- The part that is handed back, by its bytes and by where it lies.
+inspect-once : OneOutcome {Seen = List ℕ × (ℕ × ℕ)} inspect.Post (λ κ x e. (now x, ptr x))
+inspect-once κ a x y e f p q = λ i. ((p .0 ∙ sym (q .0)) i, (p .1 ∙ sym (q .1)) i)
 
 -- What a caller of a run sees: the result, its records among it, and every byte of the four buffers and every track of the two tables.
 record Seen : Type 0 where

@@ -12,7 +12,7 @@ use Rattle.geometry.specs.Sectors.{firstByte}
 use Rattle.geometry.proofs.Laws.{sector-in-image}
 use Rattle.request.specs.declared.UnitNumber.{UnitNumber}
 use Rattle.request.specs.declared.UnitNumber.the-variants.{Zero, One}
-use Rattle.board.specs.Inspection.{Inspectable, bytesOf, imageOf, inspectable?, noPart, partOf, sectorPart}
+use Rattle.board.specs.Inspection.{Inspectable, baseOf, bytesOf, imageOf, inspectable?, liesAt, noPart, partOf, sectorPart}
 use Rattle.board.specs.declared.inspection.Part.{Part}
 use Rattle.spares.proofs.Laws.{empty-is-good}
 use Rattle.unit.specs.Standing.{CountsAsInitialized, UnitRecord, cylinder, geometry, initialized, noTracks, recordOf}
@@ -91,3 +91,9 @@ module _ (image0 image1 : List ℕ) where
       (p : Part) (n : UnitNumber) → p .unit ≡ n →
       take (p .at + p .bytes - p .at) (drop (p .at) (imageOf image0 image1 n)) ≡ bytesOf image0 image1 p
   part-cut p n is = rw (add-sub-cancel-left, is)
+
+-- A part that is cut out of the image that it names begins at its place there.
+pub part-place :
+    (base0 base1 : ℕ × ℕ) (p : Part) (n : UnitNumber) → p .unit ≡ n →
+    (baseOf base0 base1 n .0, p .at + baseOf base0 base1 n .1) ≡ liesAt base0 base1 p
+part-place base0 base1 p n is = rw is

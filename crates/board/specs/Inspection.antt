@@ -1,6 +1,6 @@
 -- The inspection call (01, Answer numbers, last paragraph): which part of which image it hands back. It "still goes by place in the image" (02, K5),
 -- and a unit whose table is not good is not initialized here too.
-use Prim.Native.Nat.{ℕ, zero, suc, _≤_, _<_}
+use Prim.Native.Nat.{ℕ, zero, suc, _+_, _≤_, _<_}
 use mathlib.Core.List.{List}
 use mathlib.Core.Logic.{ite, Dec·and}
 use native.Mathlib.Decide.{decLe, decLt, map-dec}
@@ -47,3 +47,11 @@ imageOf image0 image1 One = image1
 
 abbrev pub bytesOf : List ℕ → List ℕ → Part → List ℕ
 bytesOf image0 image1 p = take (p .bytes) (drop (p .at) (imageOf image0 image1 (p .unit)))
+
+-- Where a part lies: in the memory of the image that it names, so many bytes after that image's first. A place is a piece of memory and a byte in it.
+abbrev pub baseOf : (image0 image1 : ℕ × ℕ) → UnitNumber → ℕ × ℕ
+baseOf image0 image1 Zero = image0
+baseOf image0 image1 One = image1
+
+abbrev pub liesAt : (image0 image1 : ℕ × ℕ) → Part → ℕ × ℕ
+liesAt image0 image1 p = let base = baseOf image0 image1 (p .unit) in (base .0, p .at + base .1)

@@ -5,7 +5,7 @@ use request::UnitNumber;
 use unit::Record;
 ghost use mathlib.Core.Path.{_≡_};
 ghost use lib.ListN.{length};
-ghost use Rattle.board.specs.Inspection.{bytesOf, noPart, partOf, sectorPart};
+ghost use Rattle.board.specs.Inspection.{bytesOf, liesAt, noPart, partOf, sectorPart};
 ghost use Rattle.unit.specs.Standing.{unitOf};
 
 // A part of a unit's image: so many bytes, from the byte `at` on.
@@ -69,7 +69,7 @@ pub fn part_of(
     }
 }
 
-// The part itself, lent for as long as the images are.
+// The part itself, lent for as long as the images are: its bytes, and where they lie, so that the other image's like bytes, or no bytes of another place, will not do.
 pub fn inspect<'a>(
     image0: &'a [u8],
     image1: &'a [u8],
@@ -79,8 +79,11 @@ pub fn inspect<'a>(
     unit: u32,
     place: u64,
 ) -> &'a [u8]
-    ensures { λ r. ⌜ now r ≡
+    ensures bytes { λ r. ⌜ now r ≡
         bytesOf (now (image0 .entry)) (now (image1 .entry))
+        (partOf (unitOf (units .zero) (now (map0 .entry))) (unitOf (units .one) (now (map1 .entry))) (length (now (image0 .entry))) (length (now (image1 .entry))) unit place) ⌝ }
+    ensures lies { λ r. ⌜ r .ptr ≡
+        liesAt (image0 .entry .ptr) (image1 .entry .ptr)
         (partOf (unitOf (units .zero) (now (map0 .entry))) (unitOf (units .one) (now (map1 .entry))) (length (now (image0 .entry))) (length (now (image1 .entry))) unit place) ⌝ }
 {
     let part = part_of(units, map0, map1, image0.len(), image1.len(), unit, place);

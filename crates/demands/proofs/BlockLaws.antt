@@ -21,12 +21,13 @@ use Rattle.judge.proofs.Exactly.{check-before-transfer, given-in-its-case, held
 use Rattle.judge.proofs.Table.{held-for}
 use Rattle.unit.specs.Holding.{heldByOther}
 use Rattle.request.specs.declared.UnitNumber.{UnitNumber}
+use Rattle.transfer.specs.Progress.{Progress}
 use Rattle.transfer.specs.Stores.{Stored, imageByte}
 use Rattle.transfer.proofs.Marks.{no-mark-stored}
-use Rattle.transfer.proofs.Stops.{means-unreadable, stopped-with, unreadable-means}
+use Rattle.transfer.proofs.Stops.{stopped-with, stops-before-the-first, unreadable-exactly}
 use Rattle.block.specs.Block.{Effect, judged, transferOf, wordsOf}
 use Rattle.block.specs.World.{driveOf}
-use Rattle.demands.specs.Footprint.{Stopped, WritesHost, WritesImage, askedOf, changes, comes, leavingOf, movingOf, namedDrive, names, reportOf, transferBy, verdictOf}
+use Rattle.demands.specs.Footprint.{FirstUnreadable, Unreadable, WritesHost, WritesImage, askedOf, changes, comes, leavingOf, movingOf, namedDrive, names, reportOf, transferBy, verdictOf}
 use Rattle.demands.specs.Footprint.HostWritten.{moved, report, status-word}
 use Rattle.demands.specs.Visits.{Visit, blockOf, effectOf, worldLeft}
 use Rattle.demands.proofs.Fits.{drives-geometry, on-drive}
@@ -146,25 +147,30 @@ module _ (v : Visit) where
         λ so. block .1 (judgement .1 (commands .0 (so .0), so .1)),
       )
 
-  -- 20: "unreadable sector, DE clear; earlier sectors moved", exactly where the block makes a transfer that heeds the marks and
-  -- that comes to one that is not 0, all before it being 0.
-  pub answer-20-exactly : (effectOf v .answer ≡ BlockAnswer.Failed Refusal.Unreadable) ↔ Stopped (askedOf v) (namedDrive v)
-  answer-20-exactly = (λ e. by-way (fails Refusal.Unreadable e), by-stop)
+  -- 20: "unreadable sector, DE clear; earlier sectors moved", exactly where the block makes a transfer that heeds the marks and one of its sectors has
+  -- a mark that is not 0.
+  pub answer-20-exactly : (effectOf v .answer ≡ BlockAnswer.Failed Refusal.Unreadable) ↔ Unreadable (askedOf v) (namedDrive v)
+  answer-20-exactly = (λ e. by-way (fails Refusal.Unreadable e), by-mark)
     where
-      by-way : Fails Refusal.Unreadable → Stopped (askedOf v) (namedDrive v)
+      by-way : Fails Refusal.Unreadable → Unreadable (askedOf v) (namedDrive v)
       by-way (refused is) = absurd (refused-before-transfer _ Refusal.Unreadable is)
-      by-way (stopped stop) = unreadable-means (namedDrive v .image) (transferBy (askedOf v)) stop
+      by-way (stopped stop) = unreadable-exactly (namedDrive v .image) (transferBy (askedOf v)) .0 stop
 
       -- a refused block makes a transfer of no sectors, which no mark stops
       answers :
-          (verd : Verdict) → verdictOf v ≡ verd → comes (askedOf v) (namedDrive v) .sectors < transferBy (askedOf v) .count →
+          (verd : Verdict) → verdictOf v ≡ verd → (j : ℕ) → j < transferBy (askedOf v) .count →
           judged (v .world .host) (namedDrive v) (v .at) (verdictOf v) .answer ≡ comes (askedOf v) (namedDrive v) .answer
-      answers (Refused r) is there =
-          absurd (omega (arith, subst (λ (x : Verdict). comes (askedOf v) (namedDrive v) .sectors < transferOf (v .world .host) (namedDrive v .unit) (movingOf x) .count) is there))
-      answers (Do plan) is there = rw is
+      answers (Refused r) is j there =
+          absurd (omega (arith, subst (λ (x : Verdict). j < transferOf (v .world .host) (namedDrive v .unit) (movingOf x) .count) is there))
+      answers (Do plan) is j there = rw is
 
-      by-stop : Stopped (askedOf v) (namedDrive v) → effectOf v .answer ≡ BlockAnswer.Failed Refusal.Unreadable
-      by-stop stop =
+      by-mark : Unreadable (askedOf v) (namedDrive v) → effectOf v .answer ≡ BlockAnswer.Failed Refusal.Unreadable
+      by-mark meets =
           ap (λ (x : Effect). x .answer) (effect-is v)
-          ∙ answers (verdictOf v) refl (stop .there)
-          ∙ means-unreadable (namedDrive v .image) (transferBy (askedOf v)) stop
+          ∙ answers (verdictOf v) refl (meets .sector) (meets .there)
+          ∙ unreadable-exactly (namedDrive v .image) (transferBy (askedOf v)) .1 meets
+
+  -- "earlier sectors moved": as many as stand before the first such.
+  pub sectors-before-it : (j : ℕ) → FirstUnreadable (askedOf v) (namedDrive v) j → effectOf v .sectors ≡ j
+  sectors-before-it j first =
+      sym (sectors-come v) ∙ ap (λ (p : Progress). p .sectors) (stops-before-the-first (namedDrive v .image) (transferBy (askedOf v)) j first)

@@ -14,8 +14,9 @@ use Rattle.judge.specs.Fits.{LeavingFits, MovingFits}
 use Rattle.judge.specs.Given.{Asked}
 use Rattle.judge.specs.Verdict.{verdict}
 use Rattle.judge.proofs.LetThrough.{plan-fits}
-use Rattle.transfer.proofs.Marks.{StandsOnDrive, formatting-on-drive, moving-on-drive}
-use Rattle.block.specs.Block.{dataByte, transferOf}
+use Rattle.transfer.proofs.Marks.{StandsOnDrive}
+use Rattle.block.specs.Block.{transferOf}
+use Rattle.block.proofs.PastMarks.{moving-geometry, moving-stands}
 use Rattle.demands.specs.Footprint.{leavingOf, movingOf, transferBy}
 use Rattle.unit.specs.Standing.{geometry}
 
@@ -36,22 +37,10 @@ module _ (a : Asked) where
 
   -- So every sector of the transfer stands on the drive, and the image has it, with its mark.
   pub on-drive : StandsOnDrive (transferBy a)
-  on-drive = by-moving (movingOf (verdict a)) moving-fits
-    where
-      by-moving : (m : Moving) → MovingFits (a .unit) (a .image) (a .host) m → StandsOnDrive (transferOf (a .host) (a .unit) m)
-      by-moving Nothing fits = λ j less. absurd (omega arith)
-      by-moving (Sectors j) fits =
-          moving-on-drive (a .unit) (j .«to_host») (j .«past_marks») (j .span .volume) (j .span .first) (j .span .count)
-          (dataByte (a .host) (j .buffer)) (fits .span .inside)
-      by-moving (Track spot at) fits = formatting-on-drive (a .unit) spot at (fits .track)
+  on-drive = moving-stands (a .unit) (a .image) (a .host) (movingOf (verdict a)) moving-fits
 
   pub drives-geometry : transferBy a .geometry ≡ geometry (a .unit)
-  drives-geometry = by-moving (movingOf (verdict a))
-    where
-      by-moving : (m : Moving) → transferOf (a .host) (a .unit) m .geometry ≡ geometry (a .unit)
-      by-moving Nothing = refl
-      by-moving (Sectors j) = refl
-      by-moving (Track spot at) = refl
+  drives-geometry = moving-geometry (a .unit) (a .host) (movingOf (verdict a))
 
   pub all-in-image :
       (j : ℕ) → j < transferBy a .count →

@@ -6,6 +6,7 @@ pub mod HeldDrives
 pub mod Holders
 pub mod Keeps
 pub mod Lists
+pub mod PastMarks
 pub mod Places
 pub mod Reports
 pub mod RunAnswers
@@ -13,4 +14,5 @@ pub mod RunMarks
 pub mod RunNumbers
 pub mod Tables
 pub mod VersionTwo
+pub mod Whole
 pub mod Written

@@ -1,13 +1,13 @@
 -- What a block reports stands in it when it has ended; and a format that is let through ends 80, counts S, and says S − 1 and S in its block.
 -- Nothing is stored after the words but word 1, which lies elsewhere, and the entry; the data is taken before them.
 use Prim.Native.Nat.{ℕ, _+_, _-_, _*_, _%_, _≤_, _<_}
+use mathlib.Core.Bool.{false}
 use mathlib.Core.List.{List, [], _∷_, _++_}
 use mathlib.Core.Logic.{inl, inr}
 use mathlib.Core.Path.{_≡_, refl, sym, ap, _∙_}
 use native.Mathlib.Nat.{zero-add}
 use native.Mathlib.Omega.{arith}
-use lib.ListN.{getD, length, length-append, take, List·getD-append}
-use lib.Seq.{getD-append-add, length-take-le, sets, sets-eq}
+use lib.ListN.{getD, length}
 use Rattle.wire.specs.Words.{be16, word}
 use Rattle.wire.proofs.Promises.{never}
 use Rattle.answers.specs.declared.BlockAnswer.the-variants.{Ended}
@@ -16,35 +16,27 @@ use Rattle.geometry.specs.Drive.{B, S}
 use Rattle.judge.specs.declared.Report.{Report}
 use Rattle.judge.specs.declared.Report.the-variants.{Nothing as Silent, Identity, Formatted}
 use Rattle.judge.specs.declared.Plan.{Plan}
+use Rattle.judge.specs.declared.Verdict.{Verdict}
 use Rattle.judge.specs.declared.Verdict.the-variants.{Do}
 use Rattle.judge.specs.Asks.{planOf}
 use Rattle.judge.proofs.LetThrough.{own-plan, plan-fits}
 use Rattle.request.specs.declared.Task.the-variants.{Format}
 use Rattle.request.specs.declared.Track.{Track}
 use Rattle.transfer.specs.Data.{Transfer, dataOn, diskByte, formatting}
-use Rattle.transfer.specs.Progress.{stopsAt}
 use Rattle.transfer.specs.Stores.{Buffers, Store, after}
-use Rattle.transfer.proofs.Earlier.{afterwards, carried, formatting-writes-bytes}
-use Rattle.transfer.proofs.Progress.{all-move}
 use Rattle.transfer.proofs.Stays.{host-bytes-stored, lengths-stay}
 use Rattle.transfer.proofs.Stores.{after-append}
 use Rattle.unit.specs.Landing.{trackOf}
 use Rattle.unit.specs.Standing.{geometry}
 use Rattle.block.specs.Block.{Effect, begun, reported, transferOf, wordsOf}
 use Rattle.block.specs.World.{buffersOf, driveOf}
-use Rattle.demands.specs.Footprint.{WritesHost, askedOf, namedDrive, names, verdictOf}
+use Rattle.block.proofs.Told.{row-stands}
+use Rattle.demands.specs.Footprint.{WritesHost, askedOf, movingOf, namedDrive, names, transferBy, verdictOf}
 use Rattle.demands.specs.Visits.{Visit, effectOf, worldLeft}
 use Rattle.demands.proofs.Keeps.{block-keeps-host, buffers-left}
 use Rattle.demands.proofs.Lists.{Formats, Listed, written-for}
+use Rattle.demands.proofs.Whole.{disk-has-the-hosts-bytes, markedHost, write-ends-whole}
 use Rattle.demands.proofs.Written.{closing-keeps-host, closing-keeps-image, effect-is, host-written-exactly, performance, performed-then-closed}
-
--- Numbers stored in a row stand there in their order.
-row-stands : (ns l : List ℕ) (at k : ℕ) → at + length ns ≤ length l → k < length ns → getD (sets l at ns) (at + k) 0 ≡ getD ns k 0
-row-stands ns l at k fits less =
-    let short = length-take-le at l (omega arith) in
-    rw (sets-eq ns l at fits)
-    (List·getD-append (take at l ++ ns) _ 0 (at + k) (omega (arith, short, length-append (take at l) ns)) ∙
-    ap (λ (n : ℕ). getD (take at l ++ ns) (n + k) 0) (sym short) ∙ getD-append-add (take at l) ns k 0)
 
 -- The words of a report lie in the block, and not in word 1.
 words-lie : (r : Report) → (4 ≤ wordsOf r .from) × (wordsOf r .from + length (wordsOf r .bytes) ≤ 28)
@@ -98,10 +90,23 @@ module _ (v : Visit) (room : v .at + 28 ≤ length (v .world .host)) (formats : 
   stands : (x k : ℕ) → x ≡ v .at + 7 + k → k < 3 → getD (worldLeft v .host) x 0 ≡ getD (wordsOf (Formatted (S g)) .bytes) k 0
   stands x k here less = rw here (report-stands v room _ is-plan k less)
 
-  -- Nothing stops it.
-  whole : (performance v .answer ≡ Ended) × (performance v .sectors ≡ S g)
-  unfolding stopsAt
-  whole = let all = all-move _ 0 (S g) (λ i less. refl) in (rw is-plan (ap (λ x. x .answer) all), rw is-plan (ap (λ x. x .sectors) all ∙ zero-add (S g)))
+  -- Its transfer is that of the track, a write: nothing stops it.
+  abbrev k : Track
+  k = formats .0 .0
+
+  abbrev t : Transfer
+  t = formatting (namedDrive v .unit) (trackOf (namedDrive v .unit) (k .cylinder) (k .head)) (k .buffer)
+
+  its-transfer : transferBy (askedOf v) ≡ t
+  its-transfer = ap (λ (verd : Verdict). transferOf (v .world .host) (namedDrive v .unit) (movingOf verd)) is-plan
+
+  writes : transferBy (askedOf v) .to-host ≡ false
+  writes = ap (λ (x : Transfer). x .to-host) its-transfer
+
+  whole : (effectOf v .answer ≡ Ended) × (effectOf v .sectors ≡ S g)
+  whole =
+      let ends = write-ends-whole v _ is-plan writes in
+      (ends .0, ends .1 ∙ ap (λ (x : Transfer). x .count) its-transfer)
 
   head-unwritten : WritesHost v (v .at + 6) → ⊥
   head-unwritten w = by-line (written-for (askedOf v) (v .at) (namedDrive v) (v .at + 6) w)
@@ -118,49 +123,18 @@ module _ (v : Visit) (room : v .at + 28 ≤ length (v .world .host)) (formats : 
       let upper = stands (v .at + 8 + 0) 1 (omega arith) (omega arith) in
       let lower = stands (v .at + 8 + 1) 2 (omega arith) (omega arith) in
       record {
-        ended = ap (λ (e : Effect). e .answer) (effect-is v) ∙ whole .0;
-        counted = ap (λ (e : Effect). e .sectors) (effect-is v) ∙ whole .1;
+        ended = whole .0;
+        counted = whole .1;
         last = stands (v .at + 7) 0 (omega arith) (omega arith);
         number = omega arith;
         head = block-keeps-host v (v .at + 6) (λ there. head-unwritten (host-written-exactly v (v .at + 6) .1 there));
       }
 
   -- Every sector of the track has the bytes that stood at the buffer once 81 00 was stored in the block, and nothing else.
-  abbrev k : Track
-  k = formats .0 .0
-
-  abbrev t : Transfer
-  t = formatting (namedDrive v .unit) (trackOf (namedDrive v .unit) (k .cylinder) (k .head)) (k .buffer)
-
-  abbrev marked : Buffers
-  marked =
-      record {
-        host = sets (v .world .host) (v .at + 2) (0x81 ∷ 0x00 ∷ []);
-        image = namedDrive v .image;
-        events = v .world .events;
-      }
-
-  image-left : driveOf (worldLeft v) (names v) .image ≡ afterwards marked t .image
-  image-left =
-      let b = buffersOf (v .world) (names v) in
-      let early = begun (v .at) ++ dataOn (namedDrive v .image) t in
-      let row = reported (v .at) (Formatted (S g)) in
-      let performed-so : performance v .stores ≡ early ++ row = rw is-plan in
-      ap (λ (m : Buffers). m .image) (buffers-left v ∙ performed-then-closed v b)
-      ∙ closing-keeps-image v (after (performance v .stores) b)
-      ∙ ap (λ (ss : List Store). after ss b .image) performed-so
-      ∙ ap (λ (m : Buffers). m .image)
-      (after-append early row b ∙ host-bytes-stored (wordsOf (Formatted (S g)) .bytes) (v .at + 7) (after early b))
-      ∙ ap (λ (m : Buffers). m .image) (after-append (begun (v .at)) (dataOn (namedDrive v .image) t) b)
-      ∙ ap (λ (m : Buffers). after (dataOn (namedDrive v .image) t) m .image) (host-bytes-stored (0x81 ∷ 0x00 ∷ []) (v .at + 2) b)
-
   pub format-data :
       (x : ℕ) → x < S g * B g →
-      getD (driveOf (worldLeft v) (names v) .image) (diskByte g (t .place) x) 0 ≡ getD (marked .host) (k .buffer + x % B g) 0
-  unfolding stopsAt
-  format-data x less =
-      let fits = plan-fits (askedOf v) _ is-plan .moving in
-      let all : carried marked t ≡ S g * B g =
-      ap (λ p. p .sectors * B g) (all-move _ 0 (S g) (λ i less. refl)) ∙ ap (λ (n : ℕ). n * B g) (zero-add (S g)) in
-      rw image-left
-      (formatting-writes-bytes marked (namedDrive v .unit) (trackOf (namedDrive v .unit) (k .cylinder) (k .head)) (k .buffer) (fits .track) (fits .long) x (omega (arith, all)))
+      getD (driveOf (worldLeft v) (names v) .image) (diskByte g (t .place) x) 0 ≡ getD (markedHost v) (k .buffer + x % B g) 0
+  format-data x less = rw its-transfer at (disk-has-the-hosts-bytes v _ is-plan writes in-a-row x (rw its-transfer less))
+    where
+      in-a-row : (i j : ℕ) → i < transferBy (askedOf v) .count → j < transferBy (askedOf v) .count → transferBy (askedOf v) .place i ≡ transferBy (askedOf v) .place j → i ≡ j
+      in-a-row = rw its-transfer (λ i j i< j< same. omega arith)

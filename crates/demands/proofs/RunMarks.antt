@@ -42,7 +42,7 @@ no-mark-in-a-run first allowance w n x none =
 -- ---- a run in which no 87 for the unit succeeds
 
 -- Only an 87 replaces a geometry.
-block-keeps-geometry :
+pub block-keeps-geometry :
     (v : Visit) (n : UnitNumber) → ((names v ≡ n) × Renews (askedOf v) → ⊥) →
     geometry (driveOf (worldLeft v) n .unit) ≡ geometry (driveOf (v .world) n .unit)
 block-keeps-geometry v n none = by-cases (same-unit? (names v) n) (λ named. here named) (λ other. ap (λ (d : Drive). geometry (d .unit)) (block-keeps-drive v n other))

@@ -20,8 +20,9 @@ use Rattle.judge.specs.declared.Verdict.the-variants.{Refused, Do}
 use Rattle.judge.specs.Given.{Asked}
 use Rattle.judge.specs.Verdict.{verdict}
 use Rattle.request.specs.declared.UnitNumber.{UnitNumber}
-use Rattle.transfer.specs.Data.{StoppedAtAMark, Transfer, diskByte, progressOn}
+use Rattle.transfer.specs.Data.{Transfer, diskByte, progressOn}
 use Rattle.transfer.specs.Progress.{Progress}
+use Rattle.transfer.specs.Unreadable.{MeetsUnreadable, StopsBefore}
 use Rattle.block.specs.Block.{Words, asking, transferOf, unitAt, wordsOf}
 use Rattle.block.specs.World.{Drive, World, driveOf}
 use Rattle.demands.specs.Visits.{Visit, blockOf, fetchedBy}
@@ -93,9 +94,12 @@ RecordWritten a = changes (leavingOf (verdict a))
 abbrev pub Renews : Asked → Type 0
 Renews a = (g : Geometry) × (leavingOf (verdict a) ≡ Fresh g)
 
--- 20, "unreadable sector, DE clear; earlier sectors moved": a mark stops the transfer that is made.
-abbrev pub Stopped : Asked → Drive → Type 0
-Stopped a d = StoppedAtAMark (d .image) (transferBy a)
+-- 20, "unreadable sector, DE clear": the transfer that is made heeds the marks, and one of its sectors has a mark that is not 0; and which is the first.
+abbrev pub Unreadable : Asked → Drive → Type 0
+Unreadable a d = MeetsUnreadable (d .image) (transferBy a)
+
+abbrev pub FirstUnreadable : Asked → Drive → ℕ → Type 0
+FirstUnreadable a d j = StopsBefore (d .image) (transferBy a) j
 
 -- ---- of a block that was fetched
 

@@ -1,3 +1,4 @@
 pub mod Footprint
+pub mod PastMarks
 pub mod Tables
 pub mod Visits

@@ -4,6 +4,7 @@ pub mod Exactly
 pub mod First
 pub mod Known
 pub mod LetThrough
+pub mod LongEnough
 pub mod Locality
 pub mod Outcomes
 pub mod Sectors

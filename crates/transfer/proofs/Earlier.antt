@@ -16,11 +16,12 @@ use Rattle.geometry.proofs.Laws.{bytes-differ, sector-in-image}
 use Rattle.unit.specs.declared.Spot.{Spot}
 use Rattle.unit.specs.Standing.{UnitRecord, geometry}
 use Rattle.transfer.specs.Data.{Transfer, dataOn, diskByte, formatting, move, moving, placeFrom, progressOn}
-use Rattle.transfer.specs.Progress.{stopsAt}
+use Rattle.transfer.specs.Progress.{Progress, stopsAt, whole}
 use Rattle.transfer.specs.Stores.{Buffers, Cell, Store, Stored, after, copyOf, eventByte, held, hostByte, imageByte, upTo, with}
 use Rattle.transfer.proofs.Marks.{moving-on-drive}
 use Rattle.transfer.proofs.Progress.{progress-most}
 use Rattle.transfer.proofs.Stays.{events-stay, host-stays, image-stays, lengths-stay, stored-of-upTo, unstored-stays}
+use Rattle.transfer.proofs.Stops.{whole-unheeding}
 use Rattle.transfer.proofs.Stores.{after-add, after-more}
 use Rattle.transfer.proofs.Wholes.{bytes-held, some-bytes}
 
@@ -230,29 +231,51 @@ module _ (m : Buffers) (t : Transfer) where
         events-stay (dataOn (m .image) t) m
         (λ x there. let k = disk-target (eventByte x) there in image-no-event _ _ (k .1 .1))
 
+    -- A write that does not heed the marks comes whole, so that the image has the host's bytes in each of its sectors.
+    pub image-has-all :
+        t .heeds ≡ false →
+        ((j : ℕ) → j < t .count → firstByte (t .geometry) (t .place j) + B (t .geometry) ≤ length (m .image)) →
+        ((i j : ℕ) → i < t .count → j < t .count → t .place i ≡ t .place j → i ≡ j) →
+        (k : ℕ) → k < t .count * B (t .geometry) → getD (afterwards m t .image) (onDisk t k) 0 ≡ getD (m .host) (t .host-byte k) 0
+    image-has-all ignores there differ k less =
+        let all : progressOn (m .image) t .sectors ≡ t .count = ap (λ (p : Progress). p .sectors) (whole-unheeding (m .image) t ignores) in
+        image-has-bytes there (λ i j i< j< same. differ i j (rw all at i<) (rw all at j<) same) k (rw all less)
+
 -- ---- the two ways to write
 
--- Sectors of a volume, written: where they stand at different places the image has the host's bytes for the sectors moved.
-pub moving-writes-bytes :
+-- "82 and A2 ignore marks" (01, One run)
+pub writes-ignore-marks :
+    (u : UnitRecord) (past-marks : Bool) (v : VolumeNumber) (first count : ℕ) (host-byte : ℕ → ℕ) →
+    moving u false past-marks v first count host-byte .heeds ≡ false
+writes-ignore-marks u past-marks v first count host-byte = refl
+
+-- Sectors of a volume, written, come whole; where no two of them stand in one place the image has the host's bytes in each.
+pub moving-writes-all :
     (m : Buffers) (u : UnitRecord) (past-marks : Bool) (v : VolumeNumber) (first count : ℕ) (host-byte : ℕ → ℕ) →
     first + count ≤ volumeSectors (geometry u) v → need (geometry u) ≤ length (m .image) →
     ((i j : ℕ) → i < count → j < count → placeFrom u v first i ≡ placeFrom u v first j → i ≡ j) →
     let t = moving u false past-marks v first count host-byte in
-    (k : ℕ) → k < carried m t → getD (afterwards m t .image) (onDisk t k) 0 ≡ getD (m .host) (host-byte k) 0
-moving-writes-bytes m u past-marks v first count host-byte inside long differ k less =
+    (progressOn (m .image) t ≡ whole count) ×
+    ((k : ℕ) → k < count * B (geometry u) → getD (afterwards m t .image) (onDisk t k) 0 ≡ getD (m .host) (host-byte k) 0)
+moving-writes-all m u past-marks v first count host-byte inside long differ =
     let t = moving u false past-marks v first count host-byte in
-    let most = rw zero-add at (progress-most (λ j. stopsAt (m .image) (t .geometry) (t .heeds) (t .place j)) 0 count) in
-    image-has-bytes m t refl
-    (λ j j<. sector-in-image (geometry u) (length (m .image)) (t .place j) long (moving-on-drive u false past-marks v first count host-byte inside j j<) .0)
-    (λ i j i< j< same. differ i j (omega arith) (omega arith) same) k less
+    let ignores = writes-ignore-marks u past-marks v first count host-byte in (
+      whole-unheeding (m .image) t ignores,
+      image-has-all m t refl ignores
+          (λ j j<. sector-in-image (geometry u) (length (m .image)) (t .place j) long (moving-on-drive u false past-marks v first count host-byte inside j j<) .0)
+          differ,
+    )
 
--- A track, formatted: each of its sectors that is moved has the bytes from that address of host memory on.
-pub formatting-writes-bytes :
+-- A track, formatted, counts its S sectors, and each of them has the bytes from that address of host memory on.
+pub formatting-writes-all :
     (m : Buffers) (u : UnitRecord) (spot : Spot) (at : ℕ) →
     spot .place + S (geometry u) ≤ driveSectors (geometry u) → need (geometry u) ≤ length (m .image) →
     let t = formatting u spot at in
-    (k : ℕ) → k < carried m t → getD (afterwards m t .image) (onDisk t k) 0 ≡ getD (m .host) (at + k % B (geometry u)) 0
-formatting-writes-bytes m u spot at inside long k less =
-    image-has-bytes m (formatting u spot at) refl
-    (λ j j<. sector-in-image (geometry u) (length (m .image)) (spot .place + j) long (omega arith) .0)
-    (λ i j i< j< same. omega arith) k less
+    (progressOn (m .image) t ≡ whole (S (geometry u))) ×
+    ((k : ℕ) → k < S (geometry u) * B (geometry u) → getD (afterwards m t .image) (onDisk t k) 0 ≡ getD (m .host) (at + k % B (geometry u)) 0)
+formatting-writes-all m u spot at inside long =
+    let t = formatting u spot at in (
+      whole-unheeding (m .image) t refl,
+      image-has-all m t refl refl
+          (λ j j<. sector-in-image (geometry u) (length (m .image)) (spot .place + j) long (omega arith) .0) (λ i j i< j< same. omega arith),
+    )

@@ -19,7 +19,7 @@ use Rattle.transfer.specs.Data.{dataOn, formatting, move, progressOn}
 use Rattle.transfer.specs.Progress.{Progress, stopsAt}
 use Rattle.transfer.specs.Runs.{fillStore, lent}
 use Rattle.transfer.specs.Stores.{Buffers, Store, after, upTo}
-use Rattle.transfer.specs.Whole.{TrackFits, idle, movedOn, resultOf, trackFits?, trackResult}
+use Rattle.transfer.specs.Whole.{TrackFits, made, misfit, trackFits?, trackResult}
 use Rattle.transfer.proofs.Cursors.{row-of-bytes}
 use Rattle.transfer.proofs.Progress.{progress-most}
 use Rattle.transfer.proofs.Wholes.{some-bytes}
@@ -86,10 +86,10 @@ module _ (image : List ℕ) (u : UnitRecord) (spot : Spot) (at : ℕ) where
   module _ (long : ℕ) where
     pub track-fit :
         TrackFits (geometry u) spot at long (length image) →
-        trackResult long image u spot at ≡ resultOf (movedOn image (formatting u spot at)) (dataOn image (formatting u spot at))
+        trackResult long image u spot at ≡ made image (formatting u spot at)
     unfolding trackResult
     track-fit fit = if-pos (trackFits? (geometry u) spot at long (length image)) fit _ _
 
-    pub track-unfit : (TrackFits (geometry u) spot at long (length image) → ⊥) → trackResult long image u spot at ≡ resultOf idle []
+    pub track-unfit : (TrackFits (geometry u) spot at long (length image) → ⊥) → trackResult long image u spot at ≡ misfit
     unfolding trackResult
     track-unfit unfit = if-neg (trackFits? (geometry u) spot at long (length image)) unfit _ _

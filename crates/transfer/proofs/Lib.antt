@@ -6,6 +6,7 @@ pub mod Filling
 pub mod Joined
 pub mod Marks
 pub mod Outcomes
+pub mod PastMarks
 pub mod Progress
 pub mod Rows
 pub mod Stays

@@ -1,12 +1,13 @@
--- Answer 20 in its case: a transfer that was stopped heeds the marks, and the sector that stopped it is the first whose mark is not 0.
--- It is the one answer that a transfer can be stopped with.
+-- Answer 20 in its case: a transfer that heeds the marks stops before the first of its sectors whose mark is not 0, and where there is none it comes whole.
+-- The sectors before the first such are passed over together; 20 is the one answer that a transfer can be stopped with.
 use Prim.Native.Nat.{ℕ, zero, suc, _+_, _<_}
-use mathlib.Core.Bool.{Bool, true, false, cond, not}
+use mathlib.Core.Bool.{Bool, true, false, cond, not, false≢true}
 use mathlib.Core.List.{List}
-use mathlib.Core.Path.{_≡_, refl, ap}
+use mathlib.Core.Logic.{_↔_}
+use mathlib.Core.Path.{_≡_, refl, sym, ap, _∙_}
 use native.Mathlib.Nat.{zero-add}
 use native.Mathlib.Omega.{arith}
-use borrow.Author.Tests.{eqb-false, eqb-true, ne-eqb}
+use borrow.Author.Tests.{eq-eqb, eqb-false, eqb-true, ne-eqb}
 use lib.Dec.{eqb}
 use lib.ListN.{getD}
 use Rattle.wire.proofs.Promises.{never}
@@ -14,9 +15,10 @@ use Rattle.answers.specs.declared.BlockAnswer.{BlockAnswer}
 use Rattle.answers.specs.declared.Refusal.{Refusal}
 use Rattle.geometry.specs.declared.Geometry.{Geometry}
 use Rattle.geometry.specs.Sectors.{markByte}
-use Rattle.transfer.specs.Data.{StoppedAtAMark, Transfer, progressOn}
-use Rattle.transfer.specs.Progress.{progress, stopped, stopsAt}
-use Rattle.transfer.proofs.Progress.{Counts, progress-counts, progress-moved}
+use Rattle.transfer.specs.Data.{Transfer, progressOn}
+use Rattle.transfer.specs.Progress.{progress, stopped, stopsAt, whole}
+use Rattle.transfer.specs.Unreadable.{MeetsUnreadable, StopsBefore, markOf}
+use Rattle.transfer.proofs.Progress.{progress-counts, progress-moved, stops-at}
 
 -- The sector after those that were moved is the one that stopped a transfer, and its answer is 20.
 stopped-there :
@@ -55,40 +57,75 @@ module _ (image : List ℕ) (g : Geometry) (place : ℕ) where
   unfolding stopsAt
   passes-good is = good-mark (eqb mark 0) refl is
 
-  marked-stops : (heeds : Bool) → heeds ≡ true → (mark ≡ 0 → ⊥) → stopsAt image g heeds place ≡ true
+  good-passes : (heeds : Bool) → mark ≡ 0 → stopsAt image g heeds place ≡ false
   unfolding stopsAt
-  marked-stops heeds heeded bad = rw (heeded, ne-eqb mark 0 bad)
+  good-passes true good = rw (eq-eqb mark 0 good)
+  good-passes false good = refl
 
 -- A transfer that is stopped has 20.
 pub stopped-with :
     (image : List ℕ) (t : Transfer) (r : Refusal) → progressOn image t .answer ≡ BlockAnswer.Failed r → r ≡ Refusal.Unreadable
 stopped-with image t r is = stopped-there (λ j. stopsAt image (t .geometry) (t .heeds) (t .place j)) 0 (t .count) r is .1
 
-pub unreadable-means :
-    (image : List ℕ) (t : Transfer) → progressOn image t .answer ≡ BlockAnswer.Failed Refusal.Unreadable → StoppedAtAMark image t
-unreadable-means image t is =
-    let stops : ℕ → Bool = λ j. stopsAt image (t .geometry) (t .heeds) (t .place j) in
-    let s = progressOn image t .sectors in
-    let stop = stops-marked image (t .geometry) (t .place s) (t .heeds) (stopped-there stops 0 (t .count) Refusal.Unreadable is .0) in
-    let short : s < 0 + t .count = rw is at (progress-counts stops 0 (t .count) .1) in
-    record {
-      heeds = stop .0;
-      there = rw zero-add at short;
-      bad = stop .1;
-      good = λ j j<.
-          passes-good image (t .geometry) (t .place j)
-          (rw (stop .0) at (progress-moved stops 0 (t .count) j (omega arith) j<));
-    }
+module _ (image : List ℕ) (t : Transfer) where
+  abbrev stops : ℕ → Bool
+  stops j = stopsAt image (t .geometry) (t .heeds) (t .place j)
 
--- The other way: where the mark of the sector that comes next, heeded, is not 0, that is the answer.
-pub means-unreadable :
-    (image : List ℕ) (t : Transfer) → StoppedAtAMark image t → progressOn image t .answer ≡ BlockAnswer.Failed Refusal.Unreadable
-means-unreadable image t stop =
-    by-answer (progressOn image t .answer) refl
-    (progress-counts (λ j. stopsAt image (t .geometry) (t .heeds) (t .place j)) 0 (t .count) .1)
-  where
-    by-answer :
-        (x : BlockAnswer) → progressOn image t .answer ≡ x → Counts x (progressOn image t .sectors) (0 + t .count) →
-        x ≡ BlockAnswer.Failed Refusal.Unreadable
-    by-answer BlockAnswer.Ended is counts = absurd (omega (arith, stop .there))
-    by-answer (BlockAnswer.Failed r) is counts = ap (λ (x : Refusal). BlockAnswer.Failed x) (stopped-with image t r is)
+  -- "At a non-zero mark they stop before that sector": the sectors moved are those before the first unreadable one.
+  pub stops-before-the-first : (j : ℕ) → StopsBefore image t j → progressOn image t ≡ stopped j
+  unfolding stopsAt
+  stops-before-the-first j first =
+      rw zero-add at
+      (stops-at stops 0 j (t .count) (first .there)
+      (λ i i<. rw zero-add (good-passes image (t .geometry) (t .place i) (t .heeds) (first .good i i<)))
+      (rw (zero-add, first .heeds, ne-eqb (markOf image t j) 0 (first .bad)) refl))
+
+  -- The sector before which a transfer stops is the first unreadable one.
+  pub stopped-before : progressOn image t .answer ≡ BlockAnswer.Failed Refusal.Unreadable → StopsBefore image t (progressOn image t .sectors)
+  stopped-before is =
+      let s = progressOn image t .sectors in
+      let stop = stops-marked image (t .geometry) (t .place s) (t .heeds) (stopped-there stops 0 (t .count) Refusal.Unreadable is .0) in
+      let short : s < 0 + t .count = rw is at (progress-counts stops 0 (t .count) .1) in
+      record {
+        heeds = stop .0;
+        there = rw zero-add at short;
+        bad = stop .1;
+        good = λ j j<.
+            passes-good image (t .geometry) (t .place j)
+            (rw (stop .0) at (progress-moved stops 0 (t .count) j (omega arith) j<));
+      }
+
+  -- Where none of the sectors is unreadable, or the marks are not heeded, it comes whole.
+  pub whole-where-readable :
+      (MeetsUnreadable image t → ⊥) → progressOn image t ≡ whole (t .count)
+  whole-where-readable none = by-answer (progressOn image t .answer) refl
+    where
+      by-answer : (x : BlockAnswer) → progressOn image t .answer ≡ x → progressOn image t ≡ whole (t .count)
+      by-answer BlockAnswer.Ended is =
+          let all : progressOn image t .sectors ≡ t .count = rw (is, zero-add) at (progress-counts stops 0 (t .count) .1) in
+          λ i. record { sectors = all i; answer = is i }
+      by-answer (BlockAnswer.Failed r) is =
+          let first = stopped-before (is ∙ ap (λ (x : Refusal). BlockAnswer.Failed x) (stopped-with image t r is)) in
+          absurd (none (record { heeds = first .heeds; sector = _; there = first .there; bad = first .bad }))
+
+  -- So 20 is the answer exactly where the transfer heeds the marks and one of its sectors is unreadable.
+  pub unreadable-exactly : (progressOn image t .answer ≡ BlockAnswer.Failed Refusal.Unreadable) ↔ MeetsUnreadable image t
+  unreadable-exactly = (
+    λ is. let first = stopped-before is in record { heeds = first .heeds; sector = _; there = first .there; bad = first .bad },
+    λ meets. by-answer meets (progressOn image t .answer) refl,
+  )
+    where
+      by-answer :
+          MeetsUnreadable image t → (x : BlockAnswer) → progressOn image t .answer ≡ x →
+          progressOn image t .answer ≡ BlockAnswer.Failed Refusal.Unreadable
+      by-answer meets BlockAnswer.Ended is =
+          let all : progressOn image t .sectors ≡ t .count = rw (is, zero-add) at (progress-counts stops 0 (t .count) .1) in
+          absurd
+          (meets .bad
+          (passes-good image (t .geometry) (t .place (meets .sector))
+          (rw (meets .heeds) at (progress-moved stops 0 (t .count) (meets .sector) (omega arith) (omega (arith, all, meets .there))))))
+      by-answer meets (BlockAnswer.Failed r) is = is ∙ ap (λ (x : Refusal). BlockAnswer.Failed x) (stopped-with image t r is)
+
+  -- 82, A2 and 8C "ignore marks": a transfer that does not heed them comes whole.
+  pub whole-unheeding : t .heeds ≡ false → progressOn image t ≡ whole (t .count)
+  whole-unheeding ignores = whole-where-readable (λ meets. false≢true (sym ignores ∙ meets .heeds))

@@ -2,7 +2,7 @@
 -- Then how far it comes and what is carried are the two halves of its result.
 use Prim.Native.Nat.{ℕ, _+_, _*_, _/_, _≤_, _<_}
 use mathlib.Core.Bool.{Bool}
-use mathlib.Core.List.{List, []}
+use mathlib.Core.List.{List}
 use mathlib.Core.Logic.{by-cases, if-neg, if-pos}
 use mathlib.Core.Path.{_≡_, ap}
 use native.Mathlib.Decide.{decLt}
@@ -16,10 +16,10 @@ use Rattle.geometry.proofs.Laws.{sector-in-image}
 use Rattle.unit.proofs.Laws.{spot-inside}
 use Rattle.unit.specs.declared.Span.{Span}
 use Rattle.unit.specs.Standing.{UnitRecord, geometry}
-use Rattle.transfer.specs.Data.{dataOn, diskByte, placeFrom}
+use Rattle.transfer.specs.Data.{diskByte, placeFrom}
 use Rattle.transfer.specs.Progress.{Progress, stopsAt}
 use Rattle.transfer.specs.Runs.{Held, PiecesFit, Spans, progressFrom, spanBytes}
-use Rattle.transfer.specs.Whole.{SectorsFit, idle, movedOn, resultOf, sectorsFit?, sectorsResult, spanTransfer}
+use Rattle.transfer.specs.Whole.{SectorsFit, made, misfit, sectorsFit?, sectorsResult, spanTransfer}
 use Rattle.transfer.proofs.Progress.{progress-most}
 
 -- Where sectors have a byte, a sector has bytes.
@@ -74,13 +74,12 @@ module _ (long : ℕ) (image : List ℕ) (u : UnitRecord) (s : Span) (to-host pa
   pub sectors-fit :
       SectorsFit (geometry u) s lengths addresses long (length image) →
       sectorsResult long image u s to-host past-marks lengths addresses ≡
-      resultOf (movedOn image (spanTransfer u s to-host past-marks lengths addresses))
-      (dataOn image (spanTransfer u s to-host past-marks lengths addresses))
+      made image (spanTransfer u s to-host past-marks lengths addresses)
   unfolding sectorsResult
   sectors-fit fit = if-pos (sectorsFit? (geometry u) s lengths addresses long (length image)) fit _ _
 
   pub sectors-unfit :
       (SectorsFit (geometry u) s lengths addresses long (length image) → ⊥) →
-      sectorsResult long image u s to-host past-marks lengths addresses ≡ resultOf idle []
+      sectorsResult long image u s to-host past-marks lengths addresses ≡ misfit
   unfolding sectorsResult
   sectors-unfit unfit = if-neg (sectorsFit? (geometry u) s lengths addresses long (length image)) unfit _ _

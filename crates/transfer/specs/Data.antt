@@ -76,11 +76,3 @@ moveAt t k = move (t .to-host) (diskByte (t .geometry) (t .place) k) (t .host-by
 
 unfoldable pub dataOn : List ℕ → Transfer → List Store
 dataOn image t = upTo (progressOn image t .sectors * B (t .geometry)) (moveAt t)
-
--- 20, "unreadable sector, DE clear; earlier sectors moved": the transfer heeds the marks, the sectors that it moved are all good,
--- and the next is there and is not.
-pub record StoppedAtAMark (image : List ℕ) (t : Transfer) : Type 0 where
-  pub heeds : t .heeds ≡ true
-  pub there : progressOn image t .sectors < t .count
-  pub bad : getD image (markByte (t .geometry) (t .place (progressOn image t .sectors))) 0 ≡ 0 → ⊥
-  pub good : (j : ℕ) → j < progressOn image t .sectors → getD image (markByte (t .geometry) (t .place j)) 0 ≡ 0

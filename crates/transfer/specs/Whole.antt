@@ -7,13 +7,12 @@ use mathlib.Core.Logic.{ite, Dec·and}
 use native.Mathlib.Decide.{decLe, decLt, map-dec, ℕ-discrete}
 use lib.ListN.{getD, length}
 use Rattle.wire.proofs.Decided.{all?}
-use Rattle.answers.specs.declared.BlockAnswer.{BlockAnswer}
-use Rattle.answers.specs.declared.Refusal.{Refusal}
 use Rattle.geometry.specs.declared.Geometry.{Geometry}
 use Rattle.geometry.specs.Drive.{B, S, driveSectors, need, volumeSectors}
 use Rattle.unit.specs.declared.Span.{Span}
 use Rattle.unit.specs.declared.Spot.{Spot}
 use Rattle.unit.specs.Standing.{UnitRecord, geometry}
+use Rattle.transfer.specs.declared.Attempt.{Attempt}
 use Rattle.transfer.specs.declared.Moved.{Moved}
 use Rattle.transfer.specs.Data.{Transfer, dataOn, formatting, moving, progressOn}
 use Rattle.transfer.specs.Pieces.{sum}
@@ -33,10 +32,6 @@ pub record TrackFits (g : Geometry) (spot : Spot) (at long image : ℕ) : Type 0
   pub inside : spot .place + S g ≤ driveSectors g
   pub memory : at + B g ≤ long
   pub held : need g ≤ image
-
--- Nothing moved. 19 stands here for every way not to fit: which check refuses a request is the judge's to say.
-abbrev pub idle : Moved
-idle = record { sectors = 0; answer = BlockAnswer.Failed Refusal.DataMisplaced }
 
 -- What a transfer comes to on an image.
 abbrev pub movedOn : List ℕ → Transfer → Moved
@@ -71,20 +66,24 @@ trackFits? g spot at long image =
     (Dec·and (decLe (spot .place + S g) (driveSectors g))
     (Dec·and (decLe (at + B g) long) (decLe (need g) image))))
 
--- The outcome of a call: what is returned, and the stores that were made.
+-- The outcome of a call: what is returned, and the stores that were made. Where the request does not fit, that is said, and nothing is stored; which
+-- check refuses it is the judge's to say.
 pub record Result : Type 0 where
-  pub moved : Moved
+  pub attempt : Attempt
   pub stores : List Store
 
-abbrev pub resultOf : Moved → List Store → Result
-resultOf moved stores = record { moved = moved; stores = stores }
+abbrev pub made : List ℕ → Transfer → Result
+made image t = record { attempt = Attempt.Made (movedOn image t); stores = dataOn image t }
+
+abbrev pub misfit : Result
+misfit = record { attempt = Attempt.Misfit; stores = [] }
 
 unfoldable pub sectorsResult : ℕ → List ℕ → UnitRecord → Span → Bool → Bool → List ℕ → List ℕ → Result
 sectorsResult long image u s to-host past-marks lengths addresses =
     let t = spanTransfer u s to-host past-marks lengths addresses in
-    ite (sectorsFit? (geometry u) s lengths addresses long (length image)) (resultOf (movedOn image t) (dataOn image t)) (resultOf idle [])
+    ite (sectorsFit? (geometry u) s lengths addresses long (length image)) (made image t) misfit
 
 unfoldable pub trackResult : ℕ → List ℕ → UnitRecord → Spot → ℕ → Result
 trackResult long image u spot at =
     let t = formatting u spot at in
-    ite (trackFits? (geometry u) spot at long (length image)) (resultOf (movedOn image t) (dataOn image t)) (resultOf idle [])
+    ite (trackFits? (geometry u) spot at long (length image)) (made image t) misfit

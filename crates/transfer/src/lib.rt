@@ -2,7 +2,6 @@
 // It knows units and pieces, and no block, no list element and no layout: any product's request is carried out here.
 // It changes no mark and no byte after the marks, and nothing at all where a request does not fit.
 use answers::BlockAnswer;
-use answers::Refusal;
 use geometry::Geometry;
 use geometry::Sector;
 use unit::Record;
@@ -15,7 +14,7 @@ ghost use lib.ListN.{length};
 ghost use Rattle.geometry.specs.Drive.{S, driveSectors, need, volumeSectors};
 ghost use Rattle.transfer.specs.Runs.{PiecesFit, lent};
 ghost use Rattle.transfer.specs.Stores.{after};
-ghost use Rattle.transfer.specs.Whole.{SectorsFit, TrackFits, idle, sectorsResult, trackResult};
+ghost use Rattle.transfer.specs.Whole.{SectorsFit, TrackFits, sectorsResult, trackResult};
 ghost use Rattle.wire.specs.Promise.{Says};
 ghost use Rattle.unit.specs.Standing.{bare, geometry, unitOf};
 
@@ -32,6 +31,12 @@ use reach::survey;
 pub struct Moved {
     pub sectors: u16,
     pub answer: BlockAnswer,
+}
+
+// A transfer that was made, or a request that does not fit and was left alone: which check refuses such a one is not said here.
+pub enum Attempt {
+    Made(Moved),
+    Misfit,
 }
 
 fn piece_fits(at: u32, bytes: u32, long: u64) -> bool
@@ -111,16 +116,6 @@ fn sectors_fit(
     pieces_fit(lengths, addresses, long, span_bytes(u, span))
 }
 
-// A transfer that does not fit is left alone.
-fn idle() -> Moved
-    ensures { λ r. ⌜ r ≡ idle ⌝ }
-{
-    Moved {
-        sectors: 0,
-        answer: BlockAnswer::Failed(Refusal::DataMisplaced),
-    }
-}
-
 fn heeds(to_host: bool, past_marks: bool) -> bool
     ensures { λ r. ⌜ r ≡ («to_host» && not «past_marks») ⌝ }
 {
@@ -150,8 +145,8 @@ pub fn move_sectors(
     past_marks: bool,
     lengths: &[u32],
     addresses: &[u32],
-) -> Moved
-    ensures result { λ r. ⌜ r ≡ sectorsResult (length (now (host .entry))) (now (image .entry)) (unitOf u (now (table .entry))) span «to_host» «past_marks» (now (lengths .entry)) (now (addresses .entry)) .moved ⌝ }
+) -> Attempt
+    ensures result { λ r. ⌜ r ≡ sectorsResult (length (now (host .entry))) (now (image .entry)) (unitOf u (now (table .entry))) span «to_host» «past_marks» (now (lengths .entry)) (now (addresses .entry)) .attempt ⌝ }
     ensures stores { λ _. ⌜ lent (now (host .exit)) (now (image .exit)) ≡ after (sectorsResult (length (now (host .entry))) (now (image .entry)) (unitOf u (now (table .entry))) span «to_host» «past_marks» (now (lengths .entry)) (now (addresses .entry)) .stores) (lent (now (host .entry)) (now (image .entry))) ⌝ }
 {
     if !sectors_fit(
@@ -162,12 +157,12 @@ pub fn move_sectors(
         host.len() as u64,
         image.len() as u64,
     ) {
-        return idle();
+        return Attempt::Misfit;
     }
     let moved = survey(image, u, table, span, heeds(to_host, past_marks));
     let reached = first_sectors(span, moved.sectors);
     carry(host, image, u, table, reached, to_host, lengths, addresses);
-    moved
+    Attempt::Made(moved)
 }
 
 // Whether a track has sectors, and the drive has them all from a place on.
@@ -199,16 +194,16 @@ fn track_fits(u: Record, spot: Spot, at: u32, long: u64, image: u64) -> bool
 }
 
 // Writes the bytes of one sector, from an address of host memory on, to every sector of a track.
-pub fn format_track(host: &[u8], image: &mut [u8], u: Record, spot: Spot, at: u32) -> Moved
-    ensures result { λ r. ⌜ r ≡ trackResult (length (now (host .entry))) (now (image .entry)) (bare u) spot at .moved ⌝ }
+pub fn format_track(host: &[u8], image: &mut [u8], u: Record, spot: Spot, at: u32) -> Attempt
+    ensures result { λ r. ⌜ r ≡ trackResult (length (now (host .entry))) (now (image .entry)) (bare u) spot at .attempt ⌝ }
     ensures stores { λ _. ⌜ lent (now (host .entry)) (now (image .exit)) ≡ after (trackResult (length (now (host .entry))) (now (image .entry)) (bare u) spot at .stores) (lent (now (host .entry)) (now (image .entry))) ⌝ }
 {
     if !track_fits(u, spot, at, host.len() as u64, image.len() as u64) {
-        return idle();
+        return Attempt::Misfit;
     }
     let g = u.geometry();
     let Sector::At { first, mark: _ } = g.sector(spot.place) else {
-        return idle();
+        return Attempt::Misfit;
     };
     let moved = reach(image, g, false, spot.place, g.sectors_a_track());
     fill(
@@ -219,5 +214,5 @@ pub fn format_track(host: &[u8], image: &mut [u8], u: Record, spot: Spot, at: u3
         g.bytes_a_sector() as usize,
         moved.sectors as usize,
     );
-    moved
+    Attempt::Made(moved)
 }

@@ -20,9 +20,6 @@ use Rattle.unit.specs.Standing.{bare, geometry}
 track-fits-requires : tie.Need-track-fits-requires
 track-fits-requires c κs = search needs
 
-idle-requires : tie.Need-idle-requires
-idle-requires c κs = search needs
-
 -- After the test the request fits, and what is asked of the geometry is the unit's.
 fits : (c : tie.Else1) → TrackFits (geometry (bare (c .before .before .before .before .args .u))) (c .before .before .before .before .args .spot) (c .before .before .before .before .args .at) (length (c .before .before .before .before .args .host .now)) (length (c .before .before .before .before .args .image .now))
 fits c = granted (c .before .track-fits .result) _ (c .if1 .left) (c .before .track-fits .ensures)
@@ -30,11 +27,11 @@ fits c = granted (c .before .track-fits .result) _ (c .if1 .left) (c .before .tr
 returns : tie.Need-returns
 unfolding after
 returns c =
-    let a = c .before .before .before .before .before .args in
+    let a = c .before .before .before .before .args in
     rw
     (track-unfit (a .image .now) (bare (a .u)) (a .spot) (a .at) (length (a .host .now))
-    (denied (c .before .before .track-fits .result) _ (c .before .if1 .taken) (c .before .before .track-fits .ensures)))
-    (c .idle .ensures, refl)
+    (denied (c .before .track-fits .result) _ (c .if1 .taken) (c .before .track-fits .ensures)))
+    (refl, refl)
 
 geometry-requires : tie.Need-geometry-requires
 geometry-requires c κs = search needs
@@ -48,15 +45,12 @@ enum-known-first c = search needs
 enum-told : tie.Need-enum-told
 enum-told c = search needs
 
-idle-requires-2 : tie.Need-idle-requires-2
-idle-requires-2 c κs = search needs
-
 returns-2 : tie.Need-returns-2
 returns-2 c =
-    let a = c .before .before .before .before .before .before .before .before .before .args in
+    let a = c .before .before .before .before .before .before .before .before .args in
     absurd
     (omega
-    (arith, no-sector (geometry (bare (a .u))) (a .spot .place) (sym (rw (c .before .before .before .before .geometry .ensures) at (c .before .before .before .sector .ensures)) ∙ c .before .enum-told .given .1), fits (c .before .before .before .before .before)))
+    (arith, no-sector (geometry (bare (a .u))) (a .spot .place) (sym (rw (c .before .before .before .geometry .ensures) at (c .before .before .sector .ensures)) ∙ c .enum-told .given .1), fits (c .before .before .before .before)))
 
 sectors-a-track-requires : tie.Need-sectors-a-track-requires
 sectors-a-track-requires c κs = search needs
@@ -113,13 +107,11 @@ format-track-spec =
     tie.close
     (tie.spec
     track-fits-requires
-    idle-requires
     returns
     geometry-requires
     sector-requires
     enum-known-first
     enum-told
-    idle-requires-2
     returns-2
     sectors-a-track-requires
     reach-requires

@@ -1,10 +1,11 @@
 -- A request that does not fit stores nothing. One that fits is surveyed, and the sectors that come are carried.
 -- The two promises together are the result's two halves.
-use mathlib.Core.Path.{refl}
+use mathlib.Core.Path.{ap, refl}
 use native.Mathlib.Omega.{arith}
 use lib.ListN.{length}
 use Rattle.unit.specs.Standing.{geometry, unitOf}
 use Rattle.wire.proofs.Promises.{denied, granted}
+use Rattle.transfer.specs.declared.Attempt.{Attempt}
 use Rattle.transfer.specs.Data.{dataOn}
 use Rattle.transfer.specs.Runs.{Spans}
 use Rattle.transfer.specs.Stores.{after}
@@ -16,9 +17,6 @@ use Rattle.transfer.proofs.move_sectors.Tie as tie
 
 sectors-fit-requires : tie.Need-sectors-fit-requires
 sectors-fit-requires c κs = search needs
-
-idle-requires : tie.Need-idle-requires
-idle-requires c κs = search needs
 
 -- After the test the request fits, and its numbers can be counted in 64 bits.
 fits :
@@ -32,11 +30,11 @@ spans c = record { inside = fits c .inside; small = omega (arith, fits c .inside
 returns : tie.Need-returns
 unfolding after
 returns c =
-    let a = c .before .before .before .before .before .before .before .args in
+    let a = c .before .before .before .before .before .before .args in
     rw
     (sectors-unfit (length (a .host .now)) (a .image .now) (unitOf (a .u) (a .table .now)) (a .span) (a .to-host) (a .past-marks) (a .lengths .now) (a .addresses .now)
-    (denied (c .before .before .sectors-fit .result) _ (c .before .if1 .taken) (c .before .before .sectors-fit .ensures .0)))
-    (c .idle .ensures, refl)
+    (denied (c .before .sectors-fit .result) _ (c .if1 .taken) (c .before .sectors-fit .ensures .0)))
+    (refl, refl)
 
 heeds-requires : tie.Need-heeds-requires
 heeds-requires c κs = search needs
@@ -75,14 +73,13 @@ returns-2 c =
     rw
     (sectors-fit (length (a .host .now)) (a .image .now) (unitOf (a .u) (a .table .now)) (a .span) (a .to-host) (a .past-marks) (a .lengths .now) (a .addresses .now)
     (fits (c .before .before .before .before .before .before .before .before .before .before .before)))
-    (surveyed, rw (first, surveyed) at (c .before .before .before .before .carry .ensures))
+    (ap Attempt.Made surveyed, rw (first, surveyed) at (c .before .before .before .before .carry .ensures))
 
 pub move-sectors-spec : {M : Type 1} → statement M
 move-sectors-spec =
     tie.close
     (tie.spec
     sectors-fit-requires
-    idle-requires
     returns
     heeds-requires
     survey-requires

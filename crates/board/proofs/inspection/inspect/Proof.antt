@@ -1,11 +1,11 @@
 -- The part that was chosen lies in the image that it names, so it can be cut out there.
--- What is cut out are the part's bytes, whichever of the two images that is.
+-- What is cut out are the part's bytes, whichever of the two images that is, and it lies at the part's place there.
 use Prim.Native.Nat.{_^_}
 use native.Mathlib.Omega.{arith}
 use borrow.Author.Needs.{needs}
-use denote.Ref.{now}
+use denote.Ref.{now, ptr}
 use Rattle.request.specs.declared.UnitNumber.the-variants.{Zero, One}
-use Rattle.board.proofs.Parts.{InItsImage, image-below, part-cut, part-lies}
+use Rattle.board.proofs.Parts.{InItsImage, image-below, part-cut, part-lies, part-place}
 use Rattle.unit.specs.Standing.{unitOf}
 use Rattle.board.proofs.inspection.inspect.Statement.{statement}
 use Rattle.board.proofs.inspection.inspect.Tie as tie
@@ -44,7 +44,9 @@ returns : tie.Need-returns
 returns c =
     let a = c .before .before .before .before .before .before .before .args in
     let p = c .before .before .before .before .part-of in
-    rw (← p .ensures) (part-cut (now (a .image0)) (now (a .image1)) (p .result) Zero (c .before .enum-told .given .1))
+    let is = c .before .enum-told .given .1 in
+    rw (← p .ensures)
+    (part-cut (now (a .image0)) (now (a .image1)) (p .result) Zero is, part-place (ptr (a .image0)) (ptr (a .image1)) (p .result) Zero is)
 
 enum-told-2 : tie.Need-enum-told-2
 enum-told-2 c = search needs
@@ -62,7 +64,9 @@ returns-2 : tie.Need-returns-2
 returns-2 c =
     let a = c .before .before .before .before .before .before .before .args in
     let p = c .before .before .before .before .part-of in
-    rw (← p .ensures) (part-cut (now (a .image0)) (now (a .image1)) (p .result) One (c .before .enum-told2 .given .1))
+    let is = c .before .enum-told2 .given .1 in
+    rw (← p .ensures)
+    (part-cut (now (a .image0)) (now (a .image1)) (p .result) One is, part-place (ptr (a .image0)) (ptr (a .image1)) (p .result) One is)
 
 pub inspect-spec : {M : Type 1} → statement M
 inspect-spec =

@@ -1,0 +1,23 @@
+-- What a block has left of its answer when it has ended (01, One run): in its own word 1, and in its event entry, byte by byte.
+use Prim.Native.Nat.{ℕ, _+_, _*_, _<_}
+use mathlib.Core.Path.{_≡_}
+use lib.IntN.{ℤ}
+use lib.ListN.{getD}
+use Rattle.answers.specs.declared.BlockAnswer.{BlockAnswer}
+use Rattle.answers.specs.Numbers.{statusOf}
+use Rattle.iopb.specs.declared.Block.{Block}
+use Rattle.iopb.specs.Errors.{errorByte}
+use Rattle.transfer.specs.Stores.{Buffers}
+use Rattle.block.specs.Events.{bigEndian, levelOf, twosComplement, vectorOf}
+
+-- A block at an address, run after i others, that came to an answer and went so far.
+pub record Tells (b : Block) (at i : ℕ) (answer : BlockAnswer) (travel : ℤ) (m : Buffers) : Type 0 where
+  -- "the final status and error", in word 1
+  pub status : getD (m .host) (at + 2) 0 ≡ statusOf answer
+  pub error : getD (m .host) (at + 3) 0 ≡ errorByte answer
+  -- "status, error, level, vector, then travel", in "the 8 bytes at 8(k - 1)"
+  pub entry-status : getD (m .events) (8 * i) 0 ≡ statusOf answer
+  pub entry-error : getD (m .events) (8 * i + 1) 0 ≡ errorByte answer
+  pub entry-level : getD (m .events) (8 * i + 2) 0 ≡ levelOf b
+  pub entry-vector : getD (m .events) (8 * i + 3) 0 ≡ vectorOf b answer
+  pub entry-travel : (k : ℕ) → k < 4 → getD (m .events) (8 * i + 4 + k) 0 ≡ getD (bigEndian (twosComplement travel)) k 0
