@@ -1,24 +1,22 @@
 -- What is asked of a block, in the reader's words: what a refusal leaves, that no mark changes, and when each answer is given.
 -- The first two are the exact footprint; a block fails only as the judgement or its transfer does, and each has its own law.
 use Prim.Native.Nat.{ℕ, _+_, _*_, _≤_, _<_}
-use mathlib.Core.List.{List, _∷_, _++_}
-use mathlib.Core.Logic.{_↔_}
+use mathlib.Core.List.{List, [], _∷_}
+use mathlib.Core.Logic.{_↔_, Iff·trans}
 use mathlib.Core.Path.{_≡_, refl, sym, ap, subst, _∙_}
 use native.Mathlib.Omega.{arith}
 use native.Mathlib.Nat.{zero-mul}
-use lib.Dec.{T}
+use lib.Dec.{T, T-not}
 use lib.ListN.{getD, length}
-use Rattle.wire.specs.Memory.{Among}
+use Rattle.wire.specs.Memory.{Among, InMemory}
 use Rattle.answers.specs.declared.BlockAnswer.{BlockAnswer}
 use Rattle.answers.specs.declared.Refusal.{Refusal}
+use Rattle.answers.specs.Numbers.{refusalNumber}
 use Rattle.geometry.specs.Drive.{B, marksAt}
 use Rattle.judge.specs.declared.Verdict.{Verdict}
 use Rattle.judge.specs.declared.Verdict.the-variants.{Refused, Do}
-use Rattle.judge.specs.Asks.{checks}
-use Rattle.judge.specs.Checks.{Check, None}
-use Rattle.judge.specs.Table.{BeforeTransfer, commandsOf, oneOf}
-use Rattle.judge.proofs.Exactly.{check-before-transfer, given-in-its-case, held-exactly, refused-before-transfer}
-use Rattle.judge.proofs.Table.{held-for}
+use Rattle.judge.specs.Table.{AnsweredWith, BeforeTransfer, listed, oneOf, paper}
+use Rattle.judge.proofs.Table.{answered-by-one-line, one-of, refused-before-transfer, refused-by-the-table}
 use Rattle.unit.specs.Holding.{heldByOther}
 use Rattle.request.specs.declared.UnitNumber.{UnitNumber}
 use Rattle.transfer.specs.Progress.{Progress}
@@ -123,28 +121,47 @@ module _ (v : Visit) where
       by-way : Fails r → verdictOf v ≡ Refused r
       by-way (refused is) = is
       by-way (stopped stop) =
-          absurd (subst BeforeTransfer (stopped-with (namedDrive v .image) (transferBy (askedOf v)) r stop) early)
+          absurd (early (ap refusalNumber (stopped-with (namedDrive v .image) (transferBy (askedOf v)) r stop)))
 
-  -- So each of 10 to 19, and of 22 to 24, is "given in its stated case and no other" (00, demand 1): a check's answer is the block's exactly where its
-  -- case is given and that of no check before it, "Block answers, in order".
-  pub answered-in-its-case :
-      (before : List Check) (k : Check) (rest : List Check) → checks (askedOf v) ≡ before ++ k ∷ rest →
-      (effectOf v .answer ≡ BlockAnswer.Failed (k .answer)) ↔ (None before × k .Given)
-  answered-in-its-case before k rest is =
-      let block = refused-exactly (k .answer) (check-before-transfer (askedOf v) before k rest is) in
-      let judgement = given-in-its-case (askedOf v) before k rest is in
-      (λ e. judgement .0 (block .0 e), λ g. block .1 (judgement .1 g))
+  -- So each of 10 to 19, and of 22 to 24, is "given in its stated case and no other" (00, demand 1): it is the block's answer exactly where the first
+  -- line of the papers' table that applies to the block has it, "Block answers, in order".
+  pub answered-by-the-table :
+      (r : Refusal) → BeforeTransfer r →
+      (effectOf v .answer ≡ BlockAnswer.Failed r) ↔ AnsweredWith (refusalNumber r) (blockOf v .command) (paper (blockOf v) (askedOf v))
+  answered-by-the-table r early = Iff·trans (refused-exactly r early) (refused-by-the-table (blockOf v) (askedOf v) refl r)
 
-  -- 24: "A chain's block for a drive held by the other controller", for the nine commands of its row, which are all but 86 (02, K10).
+  -- 12: "UIB address odd or UIB not wholly in host memory", of an 87 that 24 does not refuse.
+  pub answer-12-exactly :
+      (effectOf v .answer ≡ BlockAnswer.Failed Refusal.UibMisplaced) ↔
+      ((blockOf v .command ≡ 0x87) ×
+      ((T (heldByOther (v .world .controller) (holder (namedDrive v .unit))) → ⊥) × (InMemory (v .world .host) (blockOf v .address) 18 → ⊥)))
+  answer-12-exactly =
+      let c = blockOf v .command in
+      let lines = paper (blockOf v) (askedOf v) in
+      Iff·trans (answered-by-the-table Refusal.UibMisplaced (λ is. omega arith))
+      (Iff·trans (answered-by-one-line c 12 lines tt) (
+        λ (known, (free, (counts, (for-87, bad)))).
+            let is = one-of (λ x. x ≡ 0x87) c (0x87 ∷ []) (refl, tt) for-87 in
+            (is, (λ held. free (rw is tt, held), bad)),
+        λ (is, (free, bad)). (λ it. rw is at (it .1), (λ it. free (it .1), (λ it. rw is at (it .0), (rw is tt, bad)))),
+      ))
+
+  -- 24: "A chain's block for a drive held by the other controller", for the nine commands of its line, which are all but 86 (02, K10).
   pub answer-24-exactly :
       (effectOf v .answer ≡ BlockAnswer.Failed Refusal.DriveHeld) ↔
-      (T (oneOf (blockOf v .command) (commandsOf Refusal.DriveHeld)) × T (heldByOther (v .world .controller) (holder (namedDrive v .unit))))
+      (T (oneOf (blockOf v .command) (0x81 ∷ 0x82 ∷ 0x87 ∷ 0x89 ∷ 0x8a ∷ 0x8c ∷ 0xa1 ∷ 0xa2 ∷ 0x85 ∷ [])) ×
+      T (heldByOther (v .world .controller) (holder (namedDrive v .unit))))
   answer-24-exactly =
-      let block = refused-exactly Refusal.DriveHeld tt in
-      let judgement = held-exactly (askedOf v) in
-      let commands = held-for (v .world .host) (blockOf v) in (
-        λ e. let so = judgement .0 (block .0 e) in (commands .1 (so .0), so .1),
-        λ so. block .1 (judgement .1 (commands .0 (so .0), so .1)),
+      let c = blockOf v .command in
+      let nine : List ℕ = 0x81 ∷ 0x82 ∷ 0x87 ∷ 0x89 ∷ 0x8a ∷ 0x8c ∷ 0xa1 ∷ 0xa2 ∷ 0x85 ∷ [] in
+      let alone = answered-by-one-line c 24 (paper (blockOf v) (askedOf v)) tt in
+      Iff·trans (answered-by-the-table Refusal.DriveHeld (λ is. omega arith)) (
+        λ x. alone .0 x .1,
+        λ so.
+            alone .1 (
+              λ it. T-not (oneOf c listed) (it .1) (one-of (λ x. T (oneOf x listed)) c nine (tt, (tt, (tt, (tt, (tt, (tt, (tt, (tt, (tt, tt))))))))) (so .0)),
+              so,
+            ),
       )
 
   -- 20: "unreadable sector, DE clear; earlier sectors moved", exactly where the block makes a transfer that heeds the marks and one of its sectors has
@@ -153,7 +170,7 @@ module _ (v : Visit) where
   answer-20-exactly = (λ e. by-way (fails Refusal.Unreadable e), by-mark)
     where
       by-way : Fails Refusal.Unreadable → Unreadable (askedOf v) (namedDrive v)
-      by-way (refused is) = absurd (refused-before-transfer _ Refusal.Unreadable is)
+      by-way (refused is) = absurd (refused-before-transfer _ Refusal.Unreadable is refl)
       by-way (stopped stop) = unreadable-exactly (namedDrive v .image) (transferBy (askedOf v)) .0 stop
 
       -- a refused block makes a transfer of no sectors, which no mark stops

@@ -42,6 +42,6 @@ module _ (v : Visit) (refused : effectOf v .answer ≡ BlockAnswer.Failed Refusa
   reads-its-28-bytes-alone x (its-uib u) = absurd (no-uib (askedOf v) (answer-24-exactly v .0 refused .1) _ _ x u)
   reads-its-28-bytes-alone x (its-list l) = absurd (no-list (askedOf v) (answer-24-exactly v .0 refused .1) x l)
   reads-its-28-bytes-alone x (moved d) =
-      let nothing = refusal-moves-nothing v Refusal.DriveHeld (refused-exactly v Refusal.DriveHeld tt .0 refused) .0 in
+      let nothing = refusal-moves-nothing v Refusal.DriveHeld (refused-exactly v Refusal.DriveHeld (λ is. omega arith) .0 refused) .0 in
       let none = rw (sectors-come v, nothing, zero-mul) at (d .moved) in
       omega arith

@@ -1,9 +1,9 @@
--- Whatever is shown by going through the tasks one by one: a task more is a line in each, here and in no other file.
+-- Whatever is shown by going through the tasks one by one: a task more is a line in each, here, and a law of its command in Table.
 -- What they have in common stands beside them (Buffers, Known), and what follows for every task above (Table, Locality, LetThrough).
-use Prim.Native.Nat.{ℕ, _+_, _<_}
+use Prim.Native.Nat.{ℕ, _<_}
 use mathlib.Core.Bool.{Bool, true, false, cond}
 use mathlib.Core.List.{List, [], _∷_, _++_}
-use mathlib.Core.Path.{_≡_, refl, ap, _∙_}
+use mathlib.Core.Path.{_≡_, refl, _∙_}
 use native.Mathlib.Omega.{arith}
 use lib.Dec.{T}
 use lib.ListN.{getD, length}
@@ -27,19 +27,19 @@ use Rattle.unit.proofs.Laws.{track-inside, track-whole}
 use Rattle.wire.specs.Memory.{inMemory?}
 use Rattle.judge.specs.declared.Leaving.{Leaving}
 use Rattle.judge.specs.declared.Verdict.{Verdict}
-use Rattle.judge.specs.Asks.{asksHolder, beforeBuffer, bytesOf, driveHeld, firstChecks, found, imageShort, jobOf, notInitialized, ofBuffer, ofHolder, ownChecks, planOf, trackOutside, unlisted}
-use Rattle.judge.specs.Checks.{Check, None, answersOf, first}
+use Rattle.judge.specs.Asks.{asksHolder, beforeBuffer, bytesOf, driveHeld, firstChecks, found, imageShort, jobOf, notInitialized, ofBuffer, ownChecks, planOf, trackOutside, unlisted}
+use Rattle.judge.specs.Checks.{None, first}
 use Rattle.judge.specs.Decided.{covers?, hasTracks?}
 use Rattle.judge.specs.Fits.{SpanGood}
 use Rattle.judge.specs.Given.{Asked, badNumber, beginsAt, on, spareNumber}
 use Rattle.judge.specs.Reads.{InList}
-use Rattle.judge.specs.Table.{inOrder, keepsOrder, rows}
+use Rattle.judge.specs.Table.{oneOf}
 use Rattle.judge.specs.Verdict.{verdict}
 use Rattle.judge.proofs.Known.{Accepted, covered, good-buffer, has-number, heads-only, seek-inside, so}
 use Rattle.judge.proofs.Buffers.{after-the-same, before-list, same-buffer, same-range}
-use Rattle.judge.proofs.First.{none-of-all, skip, stop}
+use Rattle.judge.proofs.First.{none-of-all, numbersOf, skip, stop}
 
--- ---- what is asked first, and in which order
+-- ---- what is asked
 
 -- A listed command passes what is asked first, where the other controller does not hold the drive.
 pub passes-first :
@@ -51,7 +51,7 @@ passes-first a listed free = (listed, by-test (asksHolder (a .task)))
     by-test true = (free, tt)
     by-test false = tt
 
--- One that is asked who holds the drive is listed, and of the listed ones a handshake alone is not asked.
+-- One that is asked who holds the drive is listed,
 pub asked-is-listed : (t : Task) → T (asksHolder t) → T (unlisted t) → ⊥
 asked-is-listed Unknown asks none = asks
 asked-is-listed (Moves m) asks none = none
@@ -62,52 +62,31 @@ asked-is-listed (Seek t) asks none = none
 asked-is-listed (Format k) asks none = none
 asked-is-listed (Map k) asks none = none
 
-pub unasked-is-handshake : (t : Task) → (T (unlisted t) → ⊥) → (T (asksHolder t) → ⊥) → t ≡ Handshake
-unasked-is-handshake Unknown listed none = absurd (listed tt)
-unasked-is-handshake (Moves m) listed none = absurd (none tt)
-unasked-is-handshake Handshake listed none = refl
-unasked-is-handshake (Initialize s) listed none = absurd (none tt)
-unasked-is-handshake Restore listed none = absurd (none tt)
-unasked-is-handshake (Seek t) listed none = absurd (none tt)
-unasked-is-handshake (Format k) listed none = absurd (none tt)
-unasked-is-handshake (Map k) listed none = absurd (none tt)
-
-pub asked-of-holder : (a : Asked) (t : Task) → T (asksHolder t) → ofHolder a t ≡ driveHeld a ∷ []
-asked-of-holder a t asks = by-test (asksHolder t) asks
-  where
-    by-test : (asks : Bool) → T asks → cond asks (driveHeld a ∷ []) [] ≡ driveHeld a ∷ []
-    by-test true asks = refl
-    by-test false asks = absurd asks
-
--- Where the other controller holds the drive, each of them is refused.
+-- and refused where the other controller holds it.
 pub stopped-by-holder :
     (a : Asked) → T (asksHolder (a .task)) → T (heldByOther (a .controller) (holder (a .unit))) → verdict a ≡ Verdict.Refused DriveHeld
 unfolding verdict
-stopped-by-holder a asks held =
-    let t = a .task in
-    skip _ _ _ (asked-is-listed t asks) ∙
-    ap (λ (ks : List Check). first (ks ++ ownChecks a t) (planOf (a .unit) t)) (asked-of-holder a t asks) ∙ stop _ _ _ held
-
--- Every list of checks keeps the order of the paper's rows.
-pub asked-in-order : (a : Asked) (t : Task) → T (keepsOrder (answersOf (firstChecks a t ++ ownChecks a t)) (inOrder rows))
-asked-in-order a t = by-task t
+stopped-by-holder a asks held = skip _ _ _ (asked-is-listed (a .task) asks) ∙ by-test (asksHolder (a .task)) asks
   where
-    InOrder : List Check → Type 0
-    InOrder ks = T (keepsOrder (answersOf ks) (inOrder rows))
+    by-test :
+        (asks : Bool) → T asks → first (cond asks (driveHeld a ∷ []) [] ++ ownChecks a (a .task)) (planOf (a .unit) (a .task)) ≡ Verdict.Refused DriveHeld
+    by-test true asks = stop _ _ _ held
+    by-test false asks = absurd asks
 
-    with-buffer : (ks : List Check) (b : Buffer) (n : ℕ) → ((x y : ℕ) → InOrder (ks ++ ofBuffer a (Piece x) n)) → ((x y : ℕ) → InOrder (ks ++ ofBuffer a (Elements x y) n)) → InOrder (ks ++ ofBuffer a b n)
-    with-buffer ks (Piece x) n piece list = piece x 0
-    with-buffer ks (Elements x y) n piece list = list x y
-
-    by-task : (t : Task) → InOrder (firstChecks a t ++ ownChecks a t)
-    by-task Unknown = tt
-    by-task (Moves m) = with-buffer (firstChecks a (Moves m) ++ beforeBuffer a m) (m .buffer) (bytesOf a m) (λ x y. tt) (λ x y. tt)
-    by-task Handshake = tt
-    by-task (Initialize s) = tt
-    by-task Restore = tt
-    by-task (Seek t) = tt
-    by-task (Format k) = tt
-    by-task (Map k) = tt
+-- No task is asked a check with 20, which is the answer of a transfer that is stopped.
+pub never-asked-20 : (a : Asked) (t : Task) → T (oneOf 20 (numbersOf (firstChecks a t ++ ownChecks a t))) → ⊥
+never-asked-20 a Unknown there = there
+never-asked-20 a (Moves m) there = by-buffer (m .buffer) there
+  where
+    by-buffer : (b : Buffer) → T (oneOf 20 (numbersOf (ofBuffer a b (bytesOf a m)))) → ⊥
+    by-buffer (Piece at) there = there
+    by-buffer (Elements at n) there = there
+never-asked-20 a Handshake there = there
+never-asked-20 a (Initialize s) there = there
+never-asked-20 a Restore there = there
+never-asked-20 a (Seek t) there = there
+never-asked-20 a (Format k) there = there
+never-asked-20 a (Map k) there = there
 
 -- ---- the same in two memories
 

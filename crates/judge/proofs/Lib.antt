@@ -1,6 +1,5 @@
 pub mod Buffers
 pub mod EachTask
-pub mod Exactly
 pub mod First
 pub mod Known
 pub mod LetThrough

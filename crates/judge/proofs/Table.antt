@@ -1,64 +1,149 @@
--- The lists of checks, read by rows, are the paper's table: for each answer the commands that it is for, and the order.
--- Both are computed from the lists, whatever the block, the unit and the host memory hold; a command of no row is refused by 10.
+-- A block gets the answer that the papers' table gives it, and no other: of each command, the checks are the table's lines for it, in order.
+-- So the first check that is given is the first line that applies; and a table has one answer at most, so that the same is so the other way.
 use Prim.Native.Nat.{ℕ}
-use mathlib.Core.Bool.{Bool, true, false, cond, not, _&&_, _||_}
+use mathlib.Core.Bool.{Bool, true, false, cond, not, _||_}
 use mathlib.Core.List.{List, [], _∷_}
-use mathlib.Core.Logic.{_↔_}
+use mathlib.Core.Logic.{_↔_, Iff·not, Iff·rfl, by-cases, inl, inr, ⊎-elim}
 use mathlib.Core.Path.{_≡_, refl, sym, ap, subst, _∙_}
-use borrow.Author.Tests.{eqb-true}
-use lib.Dec.{T, eqb}
+use borrow.Author.Tests.{eq-eqb, eqb-false, eqb-true}
+use lib.Dec.{T, T-not, eqb}
 use Rattle.answers.specs.declared.Refusal.{Refusal}
-use Rattle.answers.specs.declared.Refusal.the-variants.{DriveHeld}
+use Rattle.answers.specs.Numbers.{refusalNumber}
+use Rattle.answers.proofs.Laws.{refusals-differ}
+use Rattle.geometry.specs.declared.Geometry.{Geometry}
+use Rattle.geometry.specs.declared.VolumeNumber.{VolumeNumber}
+use Rattle.geometry.specs.Sectors.{inVolume?}
+use Rattle.geometry.proofs.Answers.{numbered-inside, numbered-outside}
 use Rattle.iopb.specs.declared.Block.{Block}
-use Rattle.iopb.specs.Ask.{taskAt, taskOf, tasks}
+use Rattle.iopb.specs.Ask.{targetOf, taskAt, taskOf, tasks, volumeOf}
+use Rattle.iopb.proofs.Answers.{shapeAt-inside, shapeAt-outside}
+use Rattle.request.specs.declared.Start.{Start}
 use Rattle.request.specs.declared.Task.{Task}
-use Rattle.unit.specs.Standing.{UnitRecord, unitOf}
+use Rattle.unit.specs.Landing.{numberOn}
+use Rattle.unit.specs.Standing.{UnitRecord, geometry}
+use Rattle.wire.specs.Memory.{inMemory?}
+use Rattle.judge.specs.declared.Plan.{Plan}
 use Rattle.judge.specs.declared.Report.{Report}
 use Rattle.judge.specs.declared.Report.the-variants.{Nothing as Silent, Identity, Formatted}
-use Rattle.judge.specs.declared.Standing.{Standing}
 use Rattle.judge.specs.declared.Verdict.{Verdict}
-use Rattle.judge.specs.Asks.{asksHolder, checks, planOf}
-use Rattle.judge.specs.Checks.{answersOf}
-use Rattle.judge.specs.Given.{Asked, asked}
-use Rattle.judge.specs.Table.{answersTo, columns, commandsOf, computed, inOrder, keepsOrder, listed, oneOf, rows}
+use Rattle.judge.specs.declared.Verdict.the-variants.{Refused, Do}
+use Rattle.judge.specs.Asks.{checks, planOf}
+use Rattle.judge.specs.Checks.{Check, first}
+use Rattle.judge.specs.Given.{Asked, Covers, beginsAt, numberOf, on}
+use Rattle.judge.specs.Table.{AnsweredWith, Applies, BeforeTransfer, FromStart, Line, SectorsInside, Unanswered, listed, oneOf, paper}
 use Rattle.judge.specs.Verdict.{verdict}
-use Rattle.judge.proofs.EachTask.{asked-in-order}
-use Rattle.judge.proofs.Tasks.{unknown}
+use Rattle.judge.proofs.EachTask.{never-asked-20}
+use Rattle.judge.proofs.First.{done, later, refused-among, skip, stop}
+use Rattle.judge.proofs.LetThrough.{own-plan}
 
-pub both : (a b : Bool) → T (a && b) → T a × T b
-both true true h = (tt, tt)
-both true false h = absurd h
-both false b h = absurd h
+-- ---- lines and checks, for a command
 
-pub and : (a b : Bool) → T a → T b → T (a && b)
-and true true p q = tt
-and true false p q = q
-and false b p q = p
+module _ (c : ℕ) where
+  one-answer : (m n : ℕ) (ls : List Line) → AnsweredWith m c ls → AnsweredWith n c ls → m ≡ n
+  one-answer m n [] x y = absurd x
+  one-answer m n (l ∷ ls) (inl (it, is)) (inl (this, so)) = sym is ∙ so
+  one-answer m n (l ∷ ls) (inl (it, is)) (inr (out, y)) = absurd (out it)
+  one-answer m n (l ∷ ls) (inr (out, x)) (inl (it, so)) = absurd (out it)
+  one-answer m n (l ∷ ls) (inr (out, x)) (inr (so, y)) = one-answer m n ls x y
 
-only-one : (c x : ℕ) → T (oneOf c (x ∷ [])) → c ≡ x
-only-one c x one = by-test (eqb c x) refl one
-  where
-    by-test : (this : Bool) → eqb c x ≡ this → T (this || false) → c ≡ x
-    by-test true is one = eqb-true c x is
-    by-test false is one = absurd one
+  not-both : (n : ℕ) (ls : List Line) → Unanswered c ls → AnsweredWith n c ls → ⊥
+  not-both n [] none x = x
+  not-both n (l ∷ ls) none (inl (it, is)) = none .0 it
+  not-both n (l ∷ ls) none (inr (out, x)) = not-both n ls (none .1) x
 
--- "Commands": of each row, those of the listed commands that are asked a check with its answer are the row's.
-module _ (b : Block) (s : Standing) (ts host : List ℕ) where
-  pub rows-are-the-papers : computed (answersTo b s ts host) rows ≡ columns rows
-  unfolding taskOf
-  rows-are-the-papers = refl
+  -- An answer has the number of one of the lines.
+  abbrev numbers : List Line → List ℕ
+  numbers [] = []
+  numbers (l ∷ ls) = l .number ∷ numbers ls
 
--- "Block answers, in order": every list of checks keeps the order of the rows.
-pub in-the-papers-order : (a : Asked) → T (keepsOrder (answersOf (checks a)) (inOrder rows))
-in-the-papers-order a = asked-in-order a (a .task)
+  answered-among : (n : ℕ) (ls : List Line) → AnsweredWith n c ls → T (oneOf n (numbers ls))
+  answered-among n [] x = x
+  answered-among n (l ∷ ls) (inl (it, is)) = rw (eq-eqb n (l .number) (sym is)) tt
+  answered-among n (l ∷ ls) (inr (out, x)) = later (eqb n (l .number)) (oneOf n (numbers ls)) (answered-among n ls x)
+
+  -- The case of a number that one line has: that line applies, and none before it does.
+  abbrev pub Case : ℕ → List Line → Type 0
+  Case n [] = ⊥
+  Case n (l ∷ ls) = cond (eqb (l .number) n) (Applies c l) ((Applies c l → ⊥) × Case n ls)
+
+  abbrev once : ℕ → List Line → Bool
+  once n [] = false
+  once n (l ∷ ls) = cond (eqb (l .number) n) (not (oneOf n (numbers ls))) (once n ls)
+
+  pub answered-by-one-line : (n : ℕ) (ls : List Line) → T (once n ls) → AnsweredWith n c ls ↔ Case n ls
+  answered-by-one-line n [] one = absurd one
+  answered-by-one-line n (l ∷ ls) one = by-number (answered-by-one-line n ls) (eqb (l .number) n) refl one
+    where
+      by-number :
+          (T (once n ls) → AnsweredWith n c ls ↔ Case n ls) → (it : Bool) → eqb (l .number) n ≡ it → T (cond it (not (oneOf n (numbers ls))) (once n ls)) →
+          AnsweredWith n c (l ∷ ls) ↔ cond it (Applies c l) ((Applies c l → ⊥) × Case n ls)
+      by-number rest true is one = (
+        ⊎-elim (λ x. x .0) (λ x. absurd (T-not (oneOf n (numbers ls)) one (answered-among n ls (x .1)))),
+        λ it. inl (it, eqb-true _ _ is),
+      )
+      by-number rest false is one = (
+        ⊎-elim (λ x. absurd (eqb-false _ _ is (x .1))) (λ x. (x .0, rest one .0 (x .1))),
+        λ x. inr (x .0, rest one .1 (x .1)),
+      )
+
+  -- What a verdict says of some lines.
+  abbrev Told : Verdict → List Line → Type 0
+  Told (Refused r) ls = AnsweredWith (refusalNumber r) c ls
+  Told (Do p) ls = Unanswered c ls
+
+  passed-over : (v : Verdict) (l : Line) (ls : List Line) → (Applies c l → ⊥) → Told v ls → Told v (l ∷ ls)
+  passed-over (Refused r) l ls out so = inr (out, so)
+  passed-over (Do p) l ls out so = (out, so)
+
+  -- Some checks are those of the lines that are for the command, one by one: each has its line's number, and its line's case where none before it
+  -- is given.
+  abbrev Next : (for : Bool) → Line → (List Check → Type 0) → List Check → Type 0
+  Next false l Rest ks = Rest ks
+  Next true l Rest [] = ⊥
+  Next true l Rest (k ∷ ks) = (refusalNumber (k .answer) ≡ l .number) × (k .Given ↔ l .Given) × ((k .Given → ⊥) → Rest ks)
+
+  abbrev AreLines : List Line → List Check → Type 0
+  AreLines [] [] = Unit {0}
+  AreLines [] (k ∷ ks) = ⊥
+  AreLines (l ∷ ls) ks = Next (l .for c) l (AreLines ls) ks
+
+  told : (p : Plan) (ls : List Line) (ks : List Check) → AreLines ls ks → Told (first ks p) ls
+  told p [] [] are = rw (done p) tt
+  told p [] (k ∷ ks) are = absurd are
+  told p (l ∷ ls) ks are = by-for (told p ls) (l .for c) refl ks are
+    where
+      by-for :
+          ((ks : List Check) → AreLines ls ks → Told (first ks p) ls) → (for : Bool) → l .for c ≡ for → (ks : List Check) → Next for l (AreLines ls) ks →
+          Told (first ks p) (l ∷ ls)
+      by-for rest false is ks are = passed-over (first ks p) l ls (λ it. subst T is (it .0)) (rest ks are)
+      by-for rest true is [] are = absurd are
+      by-for rest true is (k ∷ ks) (number, case, are) =
+          by-cases (k .given?) (λ given. rw (stop k ks p given) (inl ((subst T (sym is) tt, case .0 given), sym number)))
+          (λ out. rw (skip k ks p out) (passed-over (first ks p) l ls (λ it. out (case .1 (it .1))) (rest ks (are out))))
 
 -- ---- commands
+
+-- What holds of each of some codes, and of a command that is none of them, holds of every command.
+abbrev All : (ℕ → Type 0) → List ℕ → Type 0
+All P [] = Unit {0}
+All P (x ∷ xs) = P x × All P xs
+
+by-code : (P : ℕ → Type 0) (c : ℕ) (xs : List ℕ) → All P xs → (T (not (oneOf c xs)) → P c) → P c
+by-code P c [] all other = other tt
+by-code P c (x ∷ xs) all other = by-test (by-code P c xs (all .1)) (eqb c x) refl other
+  where
+    by-test : ((T (not (oneOf c xs)) → P c) → P c) → (this : Bool) → eqb c x ≡ this → (T (not (this || oneOf c xs)) → P c) → P c
+    by-test rest true is other = subst P (sym (eqb-true c x is)) (all .0)
+    by-test rest false is other = rest other
+
+pub one-of : (P : ℕ → Type 0) (c : ℕ) (xs : List ℕ) → All P xs → T (oneOf c xs) → P c
+one-of P c xs all one = by-code P c xs all (λ other. absurd (T-not (oneOf c xs) other one))
 
 abbrev codes : List (ℕ × Task) → List ℕ
 codes [] = []
 codes ((code, t) ∷ ts) = code ∷ codes ts
 
--- "command not listed": every other command is refused so, whatever the block, the unit and the host memory hold.
+-- One that is none of a table's asks for nothing that is known.
 no-task : (c : ℕ) (ts : List (ℕ × Task)) → T (not (oneOf c (codes ts))) → taskAt c ts ≡ Task.Unknown
 no-task c [] none = refl
 no-task c ((code, t) ∷ ts) none = by-test (no-task c ts) (eqb c code) none
@@ -69,81 +154,158 @@ no-task c ((code, t) ∷ ts) none = by-test (no-task c ts) (eqb c code) none
     by-test rest true none = absurd none
     by-test rest false none = rest none
 
-pub every-other-is-10 :
-    (b : Block) (s : Standing) (ts host : List ℕ) → T (not (oneOf (b .command) listed)) →
-    verdict (asked (taskOf host b) s ts host) ≡ Verdict.Refused Refusal.CommandUnknown
-unfolding taskOf
-every-other-is-10 b s ts host none =
-    ap (λ (t : Task). verdict (asked t s ts host)) (no-task (b .command) (tasks host b) none) ∙ unknown (s .controller) (unitOf (s .record) ts) (s .image) host
+-- ---- the paper's lines
 
--- Only the plan of 86 has the identity to report, and only that of 8C a number of sectors; every other command's reports nothing.
-abbrev identifies : Report → Bool
-identifies Silent = false
-identifies Identity = true
-identifies (Formatted n) = false
+-- A check and a line of one number and one case, whatever comes after them.
+alike : {n : ℕ} {G H R : Type 0} → G ↔ H → R → (n ≡ n) × (G ↔ H) × ((G → ⊥) → R)
+alike case rest = (refl, case, λ out. rest)
 
-abbrev counts : Report → Bool
-counts Silent = false
-counts Identity = false
-counts (Formatted n) = true
+same : {n : ℕ} {G R : Type 0} → R → (n ≡ n) × (G ↔ G) × ((G → ⊥) → R)
+same rest = alike Iff·rfl rest
 
--- Of a table's tasks, those with a property stand at some codes alone.
-abbrev only : (Task → Bool) → List ℕ → List (ℕ × Task) → Bool
-only P at [] = true
-only P at ((x, t) ∷ ts) = (not (P t) || oneOf x at) && only P at ts
+module _ (b : Block) (a : Asked) where
+  abbrev g : Geometry
+  g = geometry (a .unit)
 
-only-at :
-    (P : Task → Bool) (at : List ℕ) (c : ℕ) (ts : List (ℕ × Task)) → T (only P at ts) → P Task.Unknown ≡ false → T (P (taskAt c ts)) → T (oneOf c at)
-only-at P at c [] all none there = absurd (subst T none there)
-only-at P at c ((x, t) ∷ ts) all none there =
-    by-test (λ others here. only-at P at c ts others none here) (eqb c x) refl (P t) refl all there
+  abbrev v : VolumeNumber
+  v = volumeOf b
+
+  -- 16: a logical start is its number, and a physical one has a number where the volume has it.
+  outside : (count : ℕ) → (Covers (a .unit) v (beginsAt (a .unit) (targetOf b)) count → ⊥) ↔ (SectorsInside b a count → ⊥)
+  unfolding numberOn
+  outside count = Iff·not (by-start (b .options .logical))
+    where
+      by-start :
+          (logical : Bool) →
+          Covers (a .unit) v (numberOf g v (cond logical (Start.Logical (b .number)) (Start.Physical (b .cylinder) (b .head) (b .sector)))) count ↔
+          FromStart b a logical count
+      by-start true = Iff·rfl
+      by-start false =
+          by-cases (inVolume? g v (b .cylinder) (b .head) (b .sector))
+          (λ in-it. rw (numbered-inside _ _ _ _ _ in-it) (λ x. (in-it, x), λ x. x .1))
+          (λ out. rw (numbered-outside _ _ _ _ _ out) (λ x. absurd x, λ x. out (x .0)))
+
+  -- The lines for a command in place of the block's, which line 10 alone looks at, and the checks of what it asks.
+  abbrev after10 : List Line → List Line
+  after10 [] = []
+  after10 (l ∷ ls) = ls
+
+  abbrev lines : ℕ → List Line
+  lines c = record { number = 10; for = λ x. true; Given = T (not (oneOf c listed)) } ∷ after10 (paper b a)
+
+  abbrev At : ℕ → Task → Type 0
+  At c t = AreLines c (lines c) (checks (on (a .controller) (a .unit) (a .image) t (a .host)))
+
+  abbrev Of : ℕ → Type 0
+  Of c = At c (taskAt c (tasks (a .host) b))
+
+  -- Each command's checks are its lines, most of them word for word.
+  of-81 : Of 0x81
+  of-81 = same (same (same (same (same (alike (outside (b .count)) (same (same tt)))))))
+
+  of-82 : Of 0x82
+  of-82 = same (same (same (same (same (alike (outside (b .count)) (same (same tt)))))))
+
+  of-86 : Of 0x86
+  of-86 = same tt
+
+  -- A UIB that is not in memory has no shape, and 13 is not asked.
+  of-87 : Of 0x87
+  of-87 =
+      same
+      (same
+      (by-cases (inMemory? (a .host) (b .address) 18)
+      (λ place. rw (shapeAt-inside (a .host) (b .address) place) (alike (λ x. absurd x, λ out. out place) (same tt)))
+      (λ out. rw (shapeAt-outside (a .host) (b .address) out) (refl, (λ x. out, λ x. tt), λ placed. absurd (placed tt)))))
+
+  of-89 : Of 0x89
+  of-89 = same (same (same tt))
+
+  of-8A : Of 0x8a
+  of-8A = same (same (same (same (alike (outside 1) tt))))
+
+  of-8C : Of 0x8c
+  of-8C = same (same (same (same (same (same tt)))))
+
+  of-A1 : Of 0xa1
+  of-A1 = same (same (same (same (same (alike (outside (b .count)) (same (same (same tt))))))))
+
+  of-A2 : Of 0xa2
+  of-A2 = same (same (same (same (same (alike (outside (b .count)) (same (same (same tt))))))))
+
+  of-85 : Of 0x85
+  of-85 = same (same (same (same (same (same tt)))))
+
+  of-unlisted : T (not (oneOf (b .command) listed)) → Of (b .command)
+  of-unlisted none =
+      subst (At (b .command)) (sym (no-task (b .command) (tasks (a .host) b) none))
+      (refl, (λ x. none, λ x. tt), λ listed. absurd (listed tt))
+
+  told-by-the-table : a .task ≡ taskOf (a .host) b → Told (b .command) (verdict a) (paper b a)
+  unfolding taskOf verdict
+  told-by-the-table is =
+      told (b .command) (planOf (a .unit) (a .task)) (paper b a) (checks a)
+      (subst (At (b .command)) (sym is)
+      (by-code Of (b .command) listed (of-81, (of-82, (of-86, (of-87, (of-89, (of-8A, (of-8C, (of-A1, (of-A2, (of-85, tt)))))))))) of-unlisted))
+
+-- ---- the verdict
+
+-- "Block answers, in order": a block is refused with a number exactly where the table's first line that applies has it,
+pub refused-by-the-table :
+    (b : Block) (a : Asked) → a .task ≡ taskOf (a .host) b → (r : Refusal) →
+    (verdict a ≡ Verdict.Refused r) ↔ AnsweredWith (refusalNumber r) (b .command) (paper b a)
+refused-by-the-table b a is r =
+    let so = told-by-the-table b a is in
+    (λ e. subst (λ (v : Verdict). Told (b .command) v (paper b a)) e so, by-verdict (verdict a) so)
   where
-    by-test :
-        (T (only P at ts) → T (P (taskAt c ts)) → T (oneOf c at)) → (this : Bool) → eqb c x ≡ this → (p : Bool) → P t ≡ p → T ((not p || oneOf x at) && only P at ts) →
-        T (P (cond this t (taskAt c ts))) → T (oneOf c at)
-    by-test rest true is true has all there = subst (λ (n : ℕ). T (oneOf n at)) (sym (eqb-true c x is)) (both (oneOf x at) (only P at ts) all .0)
-    by-test rest true is false has-not all there = absurd (subst T has-not there)
-    by-test rest false is p what all there = rest (both (not p || oneOf x at) (only P at ts) all .1) there
+    by-verdict : (v : Verdict) → Told (b .command) v (paper b a) → AnsweredWith (refusalNumber r) (b .command) (paper b a) → v ≡ Verdict.Refused r
+    by-verdict (Refused s) so x = ap Refused (refusals-differ s r (one-answer (b .command) _ _ (paper b a) so x))
+    by-verdict (Do p) so x = absurd (not-both (b .command) _ (paper b a) so x)
 
--- What is so at each of some codes is so of a command that is one of them.
-abbrev every : (ℕ → Bool) → List ℕ → Bool
-every P [] = true
-every P (x ∷ xs) = P x && every P xs
-
-one-of-every : (P : ℕ → Bool) (c : ℕ) (xs : List ℕ) → T (every P xs) → T (oneOf c xs) → T (P c)
-one-of-every P c [] all one = absurd one
-one-of-every P c (x ∷ xs) all one = by-test (one-of-every P c xs (both (P x) (every P xs) all .1)) (eqb c x) refl one
+-- and let through, with its own plan, exactly where none does.
+pub let-through-by-the-table :
+    (b : Block) (a : Asked) → a .task ≡ taskOf (a .host) b →
+    (verdict a ≡ Verdict.Do (planOf (a .unit) (a .task))) ↔ Unanswered (b .command) (paper b a)
+let-through-by-the-table b a is =
+    let so = told-by-the-table b a is in
+    (λ e. subst (λ (v : Verdict). Told (b .command) v (paper b a)) e so, by-verdict (verdict a) refl so)
   where
-    by-test : (T (oneOf c xs) → T (P c)) → (this : Bool) → eqb c x ≡ this → T (this || oneOf c xs) → T (P c)
-    by-test rest true is one = subst (λ (n : ℕ). T (P n)) (sym (eqb-true c x is)) (both (P x) (every P xs) all .0)
-    by-test rest false other one = rest one
+    by-verdict :
+        (v : Verdict) → verdict a ≡ v → Told (b .command) v (paper b a) → Unanswered (b .command) (paper b a) →
+        v ≡ Verdict.Do (planOf (a .unit) (a .task))
+    by-verdict (Refused s) e so none = absurd (not-both (b .command) _ (paper b a) none so)
+    by-verdict (Do p) e so none = ap Do (own-plan a p e)
 
--- The commands that are asked who holds the drive are those of its row: "not for 86".
-pub held-for : (host : List ℕ) (b : Block) → T (oneOf (b .command) (commandsOf DriveHeld)) ↔ T (asksHolder (taskOf host b))
-unfolding taskOf
-held-for host b = (
-  one-of-every (λ c. asksHolder (taskAt c (tasks host b))) (b .command) (commandsOf DriveHeld) tt,
-  only-at asksHolder (commandsOf DriveHeld) (b .command) (tasks host b) tt refl,
-)
+-- A refusal is one before transfer.
+pub refused-before-transfer : (a : Asked) (r : Refusal) → verdict a ≡ Verdict.Refused r → BeforeTransfer r
+unfolding verdict
+refused-before-transfer a r e is = never-asked-20 a (a .task) (rw is at (refused-among (checks a) _ r e))
+
+-- ---- what is reported
+
+-- What a plan reports tells the command: the identity that of 86, and a number of sectors that of 8C.
+abbrev Tells : ℕ → Report → Type 0
+Tells c Silent = Unit {0}
+Tells c Identity = c ≡ 0x86
+Tells c (Formatted n) = c ≡ 0x8c
 
 module _ (u : UnitRecord) (host : List ℕ) (b : Block) where
-  reported-at :
-      (P : Report → Bool) (code : ℕ) → T (only (λ t. P (planOf u t .report)) (code ∷ []) (tasks host b)) → P Silent ≡ false →
-      T (P (planOf u (taskOf host b) .report)) → b .command ≡ code
+  tells : Tells (b .command) (planOf u (taskOf host b) .report)
   unfolding taskOf
-  reported-at P code all none there =
-      only-one (b .command) code (only-at (λ t. P (planOf u t .report)) (code ∷ []) (b .command) (tasks host b) all none there)
+  tells =
+      by-code (λ c. Tells c (planOf u (taskAt c (tasks host b)) .report)) (b .command) listed
+      (tt, (tt, (refl, (tt, (tt, (tt, (refl, (tt, (tt, (tt, tt)))))))))) (λ none. rw (no-task (b .command) (tasks host b) none) tt)
 
   pub only-86-identifies : planOf u (taskOf host b) .report ≡ Identity → b .command ≡ 0x86
-  only-86-identifies is = reported-at identifies 0x86 tt refl (subst (λ (r : Report). T (identifies r)) (sym is) tt)
+  only-86-identifies is = subst (Tells (b .command)) is tells
 
   pub only-8C-counts : (n : ℕ) → planOf u (taskOf host b) .report ≡ Formatted n → b .command ≡ 0x8c
-  only-8C-counts n is = reported-at counts 0x8c tt refl (subst (λ (r : Report). T (counts r)) (sym is) tt)
+  only-8C-counts n is = subst (Tells (b .command)) is tells
 
   pub others-report-nothing : (b .command ≡ 0x86 → ⊥) → (b .command ≡ 0x8c → ⊥) → planOf u (taskOf host b) .report ≡ Silent
-  others-report-nothing no-handshake no-format = by-report (planOf u (taskOf host b) .report) refl
+  others-report-nothing no-handshake no-format = by-report (planOf u (taskOf host b) .report) tells
     where
-      by-report : (r : Report) → planOf u (taskOf host b) .report ≡ r → r ≡ Silent
+      by-report : (r : Report) → Tells (b .command) r → r ≡ Silent
       by-report Silent is = refl
-      by-report Identity is = absurd (no-handshake (only-86-identifies is))
-      by-report (Formatted n) is = absurd (no-format (only-8C-counts n is))
+      by-report Identity is = absurd (no-handshake is)
+      by-report (Formatted n) is = absurd (no-format is)

@@ -1,5 +1,5 @@
 -- What each command is asked, in the order of the answers (01, Answer numbers; 02, K5 and K10), and what it does where no check refuses it. Whatever
--- goes by command stands here; Table compares it with the paper's rows.
+-- goes by command stands here; that the lists are the paper's table is shown (Table and proofs/Table).
 use Prim.Native.Nat.{ℕ, _*_, _≤_, _<_}
 use mathlib.Core.Bool.{Bool, true, false, cond}
 use mathlib.Core.List.{List, [], _∷_, _++_}

@@ -32,8 +32,3 @@ None (k ∷ ks) = (k .Given → ⊥) × None ks
 abbrev pub before : Refusal → List Check → List Check
 before r [] = []
 before r (k ∷ ks) = cond (eqb (refusalNumber (k .answer)) (refusalNumber r)) [] (k ∷ before r ks)
-
--- The answers of a list of checks, in its order.
-abbrev pub answersOf : List Check → List Refusal
-answersOf [] = []
-answersOf (k ∷ ks) = k .answer ∷ answersOf ks
