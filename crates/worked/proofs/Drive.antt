@@ -5,7 +5,7 @@ use mathlib.Core.Path.{_≡_, refl}
 use native.Mathlib.Omega.{arith}
 use Rattle.geometry.specs.declared.VolumeNumber.{VolumeNumber}
 use Rattle.geometry.specs.declared.VolumeNumber.the-variants.{Zero, One}
-use Rattle.geometry.specs.Drive.{N, driveHeads, need, start, volume, volumeSectors}
+use Rattle.geometry.specs.Drive.{N, driveHeads, driveSectors, marksAt, need, start, volume, volumeSectors}
 use Rattle.geometry.specs.Drive.Inside.{driveHeads-is, driveSectors-is, marksAt-is, need-is, volumeSectors-is}
 use Rattle.geometry.specs.Limits.{Has, Present}
 use Rattle.geometry.specs.Sectors.Inside.{addressOf-is, placeOf-is}
@@ -51,8 +51,27 @@ heads-3 =
 pub sectors-80 : volumeSectors drive Zero ≡ 80
 sectors-80 = volumeSectors-is drive Zero
 
+pub sectors-40 : volumeSectors drive One ≡ 40
+sectors-40 = volumeSectors-is drive One
+
+-- "H = 3; 120 sectors; the image needs 7,800 bytes; marks start at 7,680" (01, Small drive, by hand)
+pub record Figures : Type 0 where
+  pub heads : driveHeads drive ≡ 3
+  pub sectors : driveSectors drive ≡ 120
+  pub needs : need drive ≡ 7800
+  pub marks : marksAt drive ≡ 7680
+
+pub figures : Figures
+figures =
+    record {
+      heads = heads-3;
+      sectors = omega (arith, driveSectors-is drive, heads-3);
+      needs = omega (arith, need-is drive, marksAt-is drive, driveSectors-is drive, heads-3);
+      marks = omega (arith, marksAt-is drive, driveSectors-is drive, heads-3);
+    }
+
 pub need-7800 : need drive ≡ 7800
-need-7800 = omega (arith, need-is drive, marksAt-is drive, driveSectors-is drive, heads-3)
+need-7800 = figures .needs
 
 abbrev pub place : VolumeNumber → ℕ → ℕ
 place v n = (n / (4 * N (volume drive v)) * 3 + (start (volume drive v) + n / 4 % N (volume drive v))) * 4 + n % 4

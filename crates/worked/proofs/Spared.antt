@@ -12,6 +12,7 @@ use Rattle.demands.proofs.Tables.{reached-counts}
 use Rattle.geometry.specs.declared.Address.{Address}
 use Rattle.geometry.specs.declared.VolumeNumber.{VolumeNumber}
 use Rattle.geometry.specs.declared.VolumeNumber.the-variants.{Zero, One}
+use Rattle.geometry.specs.Drive.{volumeSectors}
 use Rattle.geometry.specs.Drive.Inside.{driveSectors-is, marksAt-is}
 use Rattle.geometry.specs.Sectors.{OnDrive, SectorByte, address, addressOf, placeOf}
 use Rattle.geometry.specs.Sectors.Inside.{addressOf-is, firstByte-is, markByte-is, placeOf-is}
@@ -27,7 +28,7 @@ use Rattle.unit.proofs.Apart.{bad-lands-on-its-spare, number-lands, spare-lands
 use Rattle.unit.proofs.Laws.{lands-where-it-says}
 use Rattle.worked.specs.SmallDrive.{All, Holds, drive, spared, unit, withSpares}
 use Rattle.worked.specs.SmallDrive.Line.{lands, meet}
-use Rattle.worked.proofs.Drive.{counts, heads-3}
+use Rattle.worked.proofs.Drive.{counts, heads-3, sectors-40, sectors-80}
 use Rattle.worked.proofs.Starred.{_and_}
 
 -- ---- the two pairs
@@ -168,22 +169,33 @@ placeAt a = (a .cylinder * 3 + a .head) * 4 + a .sector
 place-at : (a : Address) → placeOf drive a ≡ placeAt a
 place-at a = rw (placeOf-is, heads-3)
 
-stands-at : (v : VolumeNumber) (n : ℕ) (a : Address) → landed withSpares (addressOf drive v n) ≡ a → Holds (lands v n (placeAt a) (placeAt a * 64))
-stands-at v n a is = (number-lands withSpares v n ∙ ap (placeOf drive) is ∙ place-at a, firstByte-is drive (placeAt a))
+-- Both volumes have 40 sectors or more.
+in-either : (v : VolumeNumber) (n : ℕ) → n < 40 → n < volumeSectors drive v
+in-either Zero n less = omega (arith, sectors-80)
+in-either One n less = omega (arith, sectors-40)
+
+stands-at :
+    (v : VolumeNumber) (n : ℕ) (a : Address) → n < 40 → landed withSpares (addressOf drive v n) ≡ a → Holds (lands v n (placeAt a) (placeAt a * 64))
+stands-at v n a less is =
+    record {
+      in-volume = in-either v n less;
+      there = number-lands withSpares v n ∙ ap (placeOf drive) is ∙ place-at a;
+      first-byte = firstByte-is drive (placeAt a);
+    }
 
 -- A number that leads to another track stands where it stood without the pairs,
 as-before :
-    (v : VolumeNumber) (n : ℕ) (a : Address) → addressOf drive v n ≡ a → (named a ≡ bad0 → ⊥) × (named a ≡ bad1 → ⊥) →
+    (v : VolumeNumber) (n : ℕ) (a : Address) → n < 40 → addressOf drive v n ≡ a → (named a ≡ bad0 → ⊥) × (named a ≡ bad1 → ⊥) →
     Holds (lands v n (placeAt a) (placeAt a * 64))
-as-before v n a leads other = stands-at v n a (ap (landed withSpares) leads ∙ stays a other)
+as-before v n a less leads other = stands-at v n a less (ap (landed withSpares) leads ∙ stays a other)
 
 -- and one that leads to a bad track on the spare of that.
 on-its-spare :
-    (v : VolumeNumber) (n : ℕ) (a : Address) (k : Track) → addressOf drive v n ≡ a → (a .cylinder < 10) × (a .head < 3) × (a .sector < 4) →
+    (v : VolumeNumber) (n : ℕ) (a : Address) (k : Track) → n < 40 → addressOf drive v n ≡ a → (a .cylinder < 10) × (a .head < 3) × (a .sector < 4) →
     Paired withSpares (trackNamed a) k →
     Holds (lands v n (placeAt (address (k .cylinder) (k .head) (a .sector))) (placeAt (address (k .cylinder) (k .head) (a .sector)) * 64))
-on-its-spare v n a k leads on pair =
-    stands-at v n (address (k .cylinder) (k .head) (a .sector))
+on-its-spare v n a k less leads on pair =
+    stands-at v n (address (k .cylinder) (k .head) (a .sector)) less
     (ap (landed withSpares) leads ∙ bad-lands-on-its-spare withSpares counts-still a (there a on) k pair)
 
 -- An address on a bad track and the one on its spare at the same sector, which is what lands there itself.
@@ -219,14 +231,14 @@ cylinders-differ a b differ same = differ (ap (λ (a : Address). a .cylinder) sa
 
 pub spared-hold : All spared
 spared-hold =
-    as-before Zero 7 (address 0 1 3) (addressOf-is drive Zero 7) (omega arith)
-    and on-its-spare Zero 8 (address 1 0 0) (track 9 2) (addressOf-is drive Zero 8) (omega arith) pair0
-    and on-its-spare Zero 10 (address 1 0 2) (track 9 2) (addressOf-is drive Zero 10) (omega arith) pair0
-    and as-before Zero 12 (address 1 1 0) (addressOf-is drive Zero 12) (omega arith)
-    and on-its-spare Zero 31 (address 3 1 3) (track 0 2) (addressOf-is drive Zero 31) (omega arith) pair1
-    and as-before One 3 (address 0 2 3) (addressOf-is drive One 3) (omega arith)
-    and as-before One 35 (address 8 2 3) (addressOf-is drive One 35) (omega arith)
-    and as-before One 38 (address 9 2 2) (addressOf-is drive One 38) (omega arith)
+    as-before Zero 7 (address 0 1 3) (omega arith) (addressOf-is drive Zero 7) (omega arith)
+    and on-its-spare Zero 8 (address 1 0 0) (track 9 2) (omega arith) (addressOf-is drive Zero 8) (omega arith) pair0
+    and on-its-spare Zero 10 (address 1 0 2) (track 9 2) (omega arith) (addressOf-is drive Zero 10) (omega arith) pair0
+    and as-before Zero 12 (address 1 1 0) (omega arith) (addressOf-is drive Zero 12) (omega arith)
+    and on-its-spare Zero 31 (address 3 1 3) (track 0 2) (omega arith) (addressOf-is drive Zero 31) (omega arith) pair1
+    and as-before One 3 (address 0 2 3) (omega arith) (addressOf-is drive One 3) (omega arith)
+    and as-before One 35 (address 8 2 3) (omega arith) (addressOf-is drive One 35) (omega arith)
+    and as-before One 38 (address 9 2 2) (omega arith) (addressOf-is drive One 38) (omega arith)
     and they-meet (address 1 0 2) (address 9 2 2) 7552 (omega arith) (omega arith) (cylinders-differ _ _ (λ is. omega arith))
     (record { paired = pair0; sector = refl }) (data-byte (omega (arith, firstByte-is drive 118)))
     and they-meet (address 1 0 2) (address 9 2 2) 7798 (omega arith) (omega arith) (cylinders-differ _ _ (λ is. omega arith))

@@ -1,17 +1,18 @@
 -- The small drive of 01 ("Small drive, by hand"): its starred lines in one table, and lines with bad tracks and spares (02, K7) in another.
-use Prim.Native.Nat.{ℕ, zero, suc}
+use Prim.Native.Nat.{ℕ, zero, suc, _<_}
 use mathlib.Core.Bool.{true, false}
 use mathlib.Core.List.{List, [], _∷_, _++_}
 use mathlib.Core.Path.{_≡_}
 use lib.ListN.{replicate}
-use Rattle.answers.specs.declared.Refusal.{Refusal}
+use Rattle.answers.specs.Numbers.{refusalNumber}
 use Rattle.geometry.specs.declared.Address.{Address}
 use Rattle.geometry.specs.declared.Geometry.{Geometry}
 use Rattle.geometry.specs.declared.VolumeNumber.{VolumeNumber}
-use Rattle.geometry.specs.Drive.{geometryOf, volumeOf}
+use Rattle.geometry.specs.Drive.{geometryOf, volumeOf, volumeSectors}
 use Rattle.geometry.specs.Sectors.{OnDrive, address, firstByte}
 use Rattle.demands.specs.Tables.{ReachedByCommands}
 use Rattle.judge.specs.declared.Verdict.{Verdict}
+use Rattle.judge.specs.declared.Verdict.the-variants.{Refused, Do}
 use Rattle.judge.specs.Given.{Asked}
 use Rattle.judge.specs.Asks.{carrying, jobOf}
 use Rattle.judge.specs.Verdict.{verdict}
@@ -61,12 +62,17 @@ asking m image = record { task = Task.Move m; controller = First; unit = unit; i
 
 pub data Says : Type 0 where
   passes : Says
-  refused : Refusal → Says
+  answer : ℕ → Says
 
--- What the table says of a request from a number on: the verdict refuses it so, or has it done from there.
+-- A verdict refuses with a number.
+abbrev pub RefusesWith : ℕ → Verdict → Type 0
+RefusesWith n (Refused r) = refusalNumber r ≡ n
+RefusesWith n (Do plan) = ⊥
+
+-- What the table says of a request from a number on: the verdict refuses it with that answer, or has it done from there.
 abbrev pub Judged : Move → ℕ → ℕ → Says → Type 0
-Judged m n image (refused r) = verdict (asking m image) ≡ Verdict.Refused r
-Judged m n image passes = verdict (asking m image) ≡ Verdict.Do (carrying (jobOf m n))
+Judged m n image (answer k) = RefusesWith k (verdict (asking m image))
+Judged m n image passes = verdict (asking m image) ≡ Do (carrying (jobOf m n))
 
 -- A spare named directly meets the bad track that it serves: two addresses of the unit with spares, and a byte of the image that both reach. All
 -- that K7 asks of a table and two addresses holds of these, except that the second is on a spare.
@@ -78,6 +84,12 @@ pub record Meeting (a b : Address) (x : ℕ) : Type 0 where
   pub first-no-spare : OnSpare withSpares a → ⊥
   pub second-spare : OnSpare withSpares b
   pub both : Reaches withSpares a x × Reaches withSpares b x
+
+-- A number is in its volume, stands at a place, and the first byte there is so.
+pub record Stands (u : UnitRecord) (v : VolumeNumber) (n place byte : ℕ) : Type 0 where
+  pub in-volume : n < volumeSectors drive v
+  pub there : spotOf u v n .place ≡ place
+  pub first-byte : firstByte drive place ≡ byte
 
 -- A line of a table.
 pub data Line : Type 0 where
@@ -93,10 +105,10 @@ pub data Line : Type 0 where
   meet : Address → Address → ℕ → Line
 
 abbrev pub Holds : Line → Type 0
-Holds (stands v n place byte) = (spotOf unit v n .place ≡ place) × (firstByte drive place ≡ byte)
+Holds (stands v n place byte) = Stands unit v n place byte
 Holds (reads n count image says) = Judged (move n count (Buffer.Piece 512)) n image says
 Holds (scatters k says) = Judged (move 0 k (Buffer.List 0 k)) 0 7800 says
-Holds (lands v n place byte) = (spotOf withSpares v n .place ≡ place) × (firstByte drive place ≡ byte)
+Holds (lands v n place byte) = Stands withSpares v n place byte
 Holds (meet a b x) = Meeting a b x
 
 -- The starred lines.
@@ -107,14 +119,14 @@ starred =
     stands VolumeNumber.Zero 8 12 768 ∷
     stands VolumeNumber.Zero 79 115 7360 ∷
     stands VolumeNumber.One 0 8 512 ∷
-    reads 80 1 7800 (refused Refusal.SectorOutside) ∷
+    reads 80 1 7800 (answer 16) ∷
     reads 0 80 7800 passes ∷
-    reads 0 81 7800 (refused Refusal.SectorOutside) ∷
-    reads 79 2 7800 (refused Refusal.SectorOutside) ∷
-    reads 0 1 7799 (refused Refusal.ImageShort) ∷
+    reads 0 81 7800 (answer 16) ∷
+    reads 79 2 7800 (answer 16) ∷
+    reads 0 1 7799 (answer 17) ∷
     reads 0 1 7800 passes ∷
     scatters 64 passes ∷
-    scatters 65 (refused Refusal.ListBad) ∷
+    scatters 65 (answer 18) ∷
     []
 
 -- Lines with spares, worked out by hand as those are: volume 0's 8 to 11 and 28 to 31 are on bad tracks, volume 1's 36 to 39 and 0 to 3 on the
