@@ -3,4 +3,6 @@ pub mod Controllers
 pub mod Demand3
 pub mod Local
 pub mod Reads
+pub mod TwoChains
+pub mod TwoControllers
 pub mod Worlds

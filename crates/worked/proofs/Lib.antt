@@ -1,10 +1,4 @@
-pub mod Carried
 pub mod Drive
-pub mod Formats
 pub mod Memory
-pub mod OneBlock
 pub mod Spared
 pub mod Starred
-pub mod Tiny
-pub mod TwoChains
-pub mod TwoControllers

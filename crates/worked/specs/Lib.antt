@@ -1,3 +1,1 @@
 pub mod SmallDrive
-pub mod TwoChains
-pub mod TwoControllers

@@ -1,3 +1,3 @@
-// Worked examples, proved: the starred lines of paper 01 in one table under one statement, and pairs of chains for demand 3.
-// It is the one crate besides the geometry itself that may look inside the geometry.
+// Worked examples, proved: the starred lines of paper 01 in one table under one statement, and lines with bad tracks and spares.
+// It may look inside the geometry, as no crate of the run may.
 // Nothing depends on it.

@@ -19,10 +19,10 @@ use Rattle.demands.specs.Footprint.HostWritten.{report}
 use Rattle.demands.specs.Visits.{Passes, Visit, blockOf}
 use Rattle.demands.proofs.Reports.{FormatTold, format-told}
 use Rattle.block.specs.World.{World}
-use Rattle.worked.specs.TwoChains.{driveWith}
-use Rattle.worked.proofs.Carried.{Alone, alone, no-list, no-uib, no-way, v}
-use Rattle.worked.proofs.OneBlock.{by-block}
-use Rattle.worked.proofs.Tiny.{format-passes, track, unit}
+use Rattle.independence.specs.TwoChains.{driveWith}
+use Rattle.independence.proofs.Carried.{Alone, alone, no-list, no-uib, no-way, v}
+use Rattle.independence.proofs.OneBlock.{by-block}
+use Rattle.independence.proofs.Tiny.{format-passes, track, unit}
 
 module _
     (w : World) (passes : Passes 0 1 w) (byte mark : ℕ)

@@ -15,7 +15,8 @@ use Rattle.geometry.specs.declared.VolumeNumber.the-variants.{Zero, One}
 use Rattle.geometry.specs.Drive.{driveHeads, marksAt, need, volume, volumeSectors}
 use Rattle.geometry.specs.Drive.Inside.{driveHeads-is, driveSectors-is, marksAt-is, need-is, volumeSectors-is}
 use Rattle.geometry.specs.Limits.{Has, Present}
-use Rattle.geometry.specs.Sectors.Inside.{addressOf-is, markByte-is, placeOf-is}
+use Rattle.geometry.specs.Sectors.{firstByte}
+use Rattle.geometry.specs.Sectors.Inside.{addressOf-is, firstByte-is, markByte-is, placeOf-is}
 use Rattle.geometry.proofs.Ends.{end-absent, end-present}
 use Rattle.judge.specs.declared.Moving.{Moving}
 use Rattle.judge.specs.declared.Verdict.{Verdict}
@@ -40,7 +41,7 @@ use Rattle.unit.specs.Holding.{heldByOther}
 use Rattle.unit.specs.Landing.{spotOf, trackOf}
 use Rattle.unit.specs.Landing.Behind.{spotAt-is, spotOf-is, trackOf-is}
 use Rattle.unit.specs.Standing.{CountsAsInitialized, UnitRecord, fresh, holder, movedTo, noTracks}
-use Rattle.worked.specs.TwoChains.{tiny}
+use Rattle.independence.specs.TwoChains.{tiny}
 
 -- With its heads on a cylinder.
 abbrev pub unit : ℕ → UnitRecord
@@ -90,6 +91,9 @@ need-130 = omega (arith, need-is tiny, marksAt-is tiny, driveSectors-is tiny, he
 -- Sector n stands at place n.
 pub place-is : (c n : ℕ) → spotOf (unit c) Zero n .place ≡ n
 place-is c n = rw (spotOf-is, no-pairs-lands-there (unit c) refl, spotAt-is, placeOf-is, addressOf-is, heads-1) (omega arith)
+
+pub starts-at : (place : ℕ) → firstByte tiny place ≡ place * 64
+starts-at place = firstByte-is tiny place
 
 -- ---- what passes
 

@@ -37,14 +37,14 @@ use Rattle.demands.specs.Visits.{Passes, Visit, blockOf, effectOf}
 use Rattle.demands.proofs.Fits.{drives-geometry}
 use Rattle.demands.proofs.BlockLaws.{refusal-moves-nothing}
 use Rattle.demands.proofs.Written.{effect-is, sectors-come}
 use Rattle.independence.specs.Chains.{Both, First, Second, Told, runOf, told, worldFor}
 use Rattle.independence.specs.Demand3.{EitherWay, Independent, NoUnitInCommon, NoByteReadByOther, NoByteWrittenByBoth}
 use Rattle.independence.specs.Reads.{ReadsHost, RunReads}
 use Rattle.request.specs.declared.UnitNumber.{UnitNumber}
 use Rattle.request.specs.declared.UnitNumber.the-variants.{Zero, One}
-use Rattle.worked.specs.TwoChains.{come, driveWith, oneBy, twoBy}
-use Rattle.worked.proofs.OneBlock.{Apart, In, done, failed, no-data, no-words, none-in-both, of-block, reads-in, writes-in}
-use Rattle.worked.proofs.Tiny.{carriedOn, move-passes, moveOf, read-of-one, read-stopped, write-of-one}
+use Rattle.independence.specs.TwoChains.{come, driveWith, oneBy, twoBy}
+use Rattle.independence.proofs.OneBlock.{Apart, In, done, failed, no-data, no-words, none-in-both, of-block, reads-in, writes-in}
+use Rattle.independence.proofs.Tiny.{carriedOn, move-passes, moveOf, read-of-one, read-stopped, write-of-one}
 
 pub passes-at :
     (w : World) (at : ℕ) → length (w .events) ≡ 512 → at % 2 ≡ 0 → at + 28 ≤ length (w .host) → Passes at 1 w

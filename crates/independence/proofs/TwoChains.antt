@@ -38,28 +38,27 @@ use Rattle.block.specs.World.{World, buffersOf, changed}
 use Rattle.block.specs.Block.{begun, finish, transferOf, worldAfter, wordsOf}
 use Rattle.iopb.specs.Identity.{identityBytes}
 use lib.IntN.{pos}
-use Rattle.geometry.specs.Sectors.Inside.{firstByte-is}
 use Rattle.demands.specs.Footprint.{RunWrites, WritesHost, askedOf, namedDrive, names, reportOf, transferBy, verdictOf}
 use Rattle.demands.specs.Footprint.HostWritten.{moved as given, report, status-word}
 use Rattle.demands.specs.Visits.{Passes, Visit, worldLeft}
 use Rattle.demands.proofs.Reports.{FormatTold}
 use Rattle.demands.proofs.VersionTwo.{disk-byte-is-there}
 use Rattle.demands.proofs.Written.{effect-is}
 use Rattle.independence.specs.Chains.{Both, Cell, First, HostReads, HostWrites, Second, both, drive, eventBuffer, hostByte, leaving, runOf, told}
 use Rattle.independence.specs.Demand3.{EitherWay, Independent, NoUnitInCommon, NoByteReadByOther, NoByteWrittenByBoth}
 use Rattle.independence.specs.Local.{LeadsAlike}
 use Rattle.independence.specs.Reads.{ReadsHost}
 use Rattle.independence.specs.Reads.HostRead.{its-uib, moved as taken}
 use Rattle.independence.proofs.Both.{no-chain-is-both}
 use Rattle.independence.proofs.Demand3.{run-local}
 use Rattle.independence.proofs.Steps.{unnoticed}
 use Rattle.request.specs.declared.Task.{Task}
 use Rattle.request.specs.declared.UnitNumber.the-variants.{Zero, One}
-use Rattle.worked.specs.TwoChains.{adjacent, besideFormat, come, driveWith, firstIn, formatRead, newDrive, ofFirst, ofSecond, one, readByOther, refusedData, refusedFormat, secondIn, sharedUnit, stoppedRead, tiny, two, writtenTwice, Met, Fails}
-use Rattle.worked.proofs.Carried.{Alone, Carried, alone, came, comes-done, comes-refused, data-byte, differ, fails-otherwise, host-byte-is, idle, initialized, met, no-list, no-list-of-a-piece, no-uib, no-unit, no-way, none-read, none-twice, passes-at, read-carried, read-stopped-carried, silent, still, v, write-carried}
-use Rattle.worked.proofs.Formats.{format-alone, format-comes, format-judged-so, format-wrote}
-use Rattle.worked.proofs.OneBlock.{In, by-block, done, failed, leaves}
-use Rattle.worked.proofs.Tiny.{counts, heads-there, moveOf, place-is, track, unit}
+use Rattle.independence.specs.TwoChains.{adjacent, besideFormat, come, driveWith, firstIn, formatRead, newDrive, ofFirst, ofSecond, one, readByOther, refusedData, refusedFormat, secondIn, sharedUnit, stoppedRead, tiny, two, writtenTwice, Met, Fails}
+use Rattle.independence.proofs.Carried.{Alone, Carried, alone, came, comes-done, comes-refused, data-byte, differ, fails-otherwise, host-byte-is, idle, initialized, met, no-list, no-list-of-a-piece, no-uib, no-unit, no-way, none-read, none-twice, passes-at, read-carried, read-stopped-carried, silent, still, v, write-carried}
+use Rattle.independence.proofs.Formats.{format-alone, format-comes, format-judged-so, format-wrote}
+use Rattle.independence.proofs.OneBlock.{In, by-block, done, failed, leaves}
+use Rattle.independence.proofs.Tiny.{counts, heads-there, moveOf, place-is, starts-at, track, unit}
 
 abbrev first-of : Both → Visit
 first-of s = record { at = 0; index = 0; world = firstIn s }
@@ -277,7 +276,7 @@ module _
         ap (λ (n : ℕ). getD (worldLeft u .host) n 0) (sym (lies 0)) ∙
         disk-byte-is-there u reads 0 (came w at passes byte mark same true 56 1 1 Ended c 0 (omega arith)) (omega (arith, lies 0))
         (λ i later less again. omega (arith, lies i, lies 0, again)) (λ among. clear (omega (arith, lies 0, among))) ∙
-        rw (c .verdict, same, place-is 0 0, firstByte-is tiny 0)
+        rw (c .verdict, same, place-is 0 0, starts-at 0)
 
 -- A second chain that names another unit and reads no byte that the first writes goes after the first as it goes alone.
 module _ (s : Both) (units : NoUnitInCommon one two s) (read : NoByteReadByOther one two s) where

@@ -34,17 +34,17 @@ use Rattle.demands.specs.Footprint.HostWritten.{moved as given, status-word}
 use Rattle.demands.specs.Visits.{Passes}
 use Rattle.demands.proofs.BlockLaws.{refusal-moves-nothing}
 use Rattle.demands.proofs.Written.{effect-is}
 use Rattle.independence.specs.Chains.{Both, First, leaving, runOf, told}
 use Rattle.independence.specs.Demand3.{Independent}
 use Rattle.independence.specs.Reads.{ReadsHost}
 use Rattle.independence.specs.Reads.HostRead.{block}
 use Rattle.independence.proofs.Held.{reads-its-28-bytes-alone}
-use Rattle.worked.specs.TwoChains.{come, firstIn, one, secondIn}
-use Rattle.worked.specs.TwoControllers.{FailsByTwo, MetByTwo, heldDrive, heldList, heldUib, ofOther, other, otherIn, sameBytes, sharedDrive}
-use Rattle.worked.proofs.Carried.{Alone, Carried, comes-done, comes-refused, data-byte, differ, fails-otherwise, met, no-unit, passes-at, read-carried, silent, still, v}
-use Rattle.worked.proofs.OneBlock.{by-block, done, leaves, of-block, writes-in}
-use Rattle.worked.proofs.Tiny.{counts, unit}
-use Rattle.worked.proofs.TwoChains.{both-pass, wrote-56}
+use Rattle.independence.specs.TwoChains.{come, firstIn, one, secondIn}
+use Rattle.independence.specs.TwoControllers.{FailsByTwo, MetByTwo, heldDrive, heldList, heldUib, ofOther, other, otherIn, sameBytes, sharedDrive}
+use Rattle.independence.proofs.Carried.{Alone, Carried, comes-done, comes-refused, data-byte, differ, fails-otherwise, met, no-unit, passes-at, read-carried, silent, still, v}
+use Rattle.independence.proofs.OneBlock.{by-block, done, leaves, of-block, writes-in}
+use Rattle.independence.proofs.Tiny.{counts, unit}
+use Rattle.independence.proofs.TwoChains.{both-pass, wrote-56}
 
 -- A block that is refused by 24 reads its 28 bytes and writes its word 1, whatever it asked for.
 held-alone :

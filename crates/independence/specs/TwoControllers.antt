@@ -9,9 +9,9 @@ use Rattle.block.specs.World.{Drive, World}
 use Rattle.unit.specs.declared.Controller.the-variants.{Second as SecondController}
 use Rattle.unit.specs.declared.Holder.the-variants.{TheSecond}
 use Rattle.unit.specs.Standing.{heldBy}
 use Rattle.independence.specs.Chains.{Both, Chain, First, HostReads, HostWrites, Second, Told, runOf, worldFor}
 use Rattle.independence.specs.Demand3.{EitherWay, Independent, NoUnitInCommon, NoByteReadByOther, NoByteWrittenByBoth}
-use Rattle.worked.specs.TwoChains.{block, come, driveWith, firstIn, ofFirst, ofSecond, one, starting, two, twoBy}
+use Rattle.independence.specs.TwoChains.{block, come, driveWith, firstIn, ofFirst, ofSecond, one, starting, two, twoBy}
 
 -- ---- on one controller, the first
 
