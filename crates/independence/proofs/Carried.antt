@@ -6,7 +6,7 @@ use mathlib.Core.List.{List, [], _∷_}
 use mathlib.Core.Logic.{_⊎_, inl, inr, ⊎-elim}
 use mathlib.Core.Path.{_≡_, refl, sym, ap, subst, _∙_}
 use native.Mathlib.Omega.{arith}
-use lib.ListN.{length}
+use lib.ListN.{getD, length}
 use Rattle.wire.specs.Memory.{Among, InMemory}
 use Rattle.wire.proofs.Promises.{never as impossible}
 use Rattle.answers.specs.declared.BlockAnswer.{BlockAnswer}
@@ -27,7 +27,6 @@ use Rattle.transfer.specs.Progress.{progress}
 use Rattle.block.specs.Block.{transferOf}
 use Rattle.block.specs.World.{World}
 use Rattle.board.specs.Chain.{ran}
-use Rattle.unit.specs.declared.Controller.{Controller}
 use Rattle.request.specs.declared.Buffer.{Buffer}
 use Rattle.request.specs.declared.Move.{Move}
 use Rattle.request.specs.declared.Shape.{Shape}
@@ -37,46 +36,61 @@ use Rattle.demands.specs.Visits.{Passes, Visit, blockOf, effectOf}
 use Rattle.demands.proofs.Fits.{drives-geometry}
 use Rattle.demands.proofs.BlockLaws.{refusal-moves-nothing}
 use Rattle.demands.proofs.Written.{effect-is, sectors-come}
-use Rattle.independence.specs.Chains.{Both, First, Second, Told, runOf, told, worldFor}
+use Rattle.independence.specs.Chains.{Both, Chain, First, HostReads, HostWrites, Names, Second, Told, runOf, told, worldFor}
 use Rattle.independence.specs.Demand3.{EitherWay, Independent, NoUnitInCommon, NoByteReadByOther, NoByteWrittenByBoth}
 use Rattle.independence.specs.Reads.{ReadsHost, RunReads}
 use Rattle.request.specs.declared.UnitNumber.{UnitNumber}
 use Rattle.request.specs.declared.UnitNumber.the-variants.{Zero, One}
-use Rattle.independence.specs.TwoChains.{come, driveWith, oneBy, twoBy}
+use Rattle.independence.specs.TwoChains.{come, driveOn, driveWith}
 use Rattle.independence.proofs.OneBlock.{Apart, In, done, failed, no-data, no-words, none-in-both, of-block, reads-in, writes-in}
-use Rattle.independence.proofs.Tiny.{carriedOn, move-passes, moveOf, read-of-one, read-stopped, write-of-one}
+use Rattle.independence.proofs.Tiny.{carriedOn, move-passes, moveOf, read-of-one, read-stopped, unit, write-of-one}
 
 pub passes-at :
     (w : World) (at : ℕ) → length (w .events) ≡ 512 → at % 2 ≡ 0 → at + 28 ≤ length (w .host) → Passes at 1 w
 passes-at w at events even inside =
     record { events = omega (arith, events); least = omega arith; most = omega arith; place = record { even = even; inside = inside } }
 
--- ---- a chain of one block in a pair
+-- ---- a pair
 
--- What it names, and the ranges that its reads and its writes lie in.
-pub record Alone (at : ℕ) (w : World) (unit : UnitNumber) (reads writes : List (ℕ × ℕ)) : Type 0 where
-  pub passes : Passes at 1 w
-  pub names-it : (n : UnitNumber) → RunNames at 1 w n → unit ≡ n
-  pub reads-there : (x : ℕ) → RunReads at 1 w x → In reads x
-  pub writes-there : (x : ℕ) → RunWrites at 1 w x → In writes x
+-- What names, reads and writes comes to: one unit, and the ranges that the bytes lie in.
+pub record Lies (names : UnitNumber → Type 0) (reads writes : ℕ → Type 0) (unit : UnitNumber) (rs ws : List (ℕ × ℕ)) : Type 0 where
+  pub names-it : (n : UnitNumber) → names n → unit ≡ n
+  pub reads-there : (x : ℕ) → reads x → In rs x
+  pub writes-there : (x : ℕ) → writes x → In ws x
 
--- Two of them are apart where their units and their ranges are.
+-- That of a chain, as demand 3 has it; and that of a run of one block. In a pair the one is the other by computation, so that each pair has its own
+-- say on what demand 3 counts.
+abbrev pub LiesOf : Chain → World → UnitNumber → List (ℕ × ℕ) → List (ℕ × ℕ) → Type 0
+LiesOf k w = Lies (Names k w) (HostReads k w) (HostWrites k w)
+
+abbrev pub Alone : ℕ → World → UnitNumber → List (ℕ × ℕ) → List (ℕ × ℕ) → Type 0
+Alone at w = Lies (RunNames at 1 w) (RunReads at 1 w) (RunWrites at 1 w)
+
+-- What is counted as read or written of a run of one block on some world lies where it lies on that world.
+module _ (at x : ℕ) (w : World) {unit : UnitNumber} {rs ws : List (ℕ × ℕ)} where
+  pub reading : RunReads at 1 w x → Passes at 1 w → (Passes at 1 w → Alone at w unit rs ws) → In rs x
+  reading r passes there = there passes .reads-there x r
+
+  pub writing : RunWrites at 1 w x → Passes at 1 w → (Passes at 1 w → Alone at w unit rs ws) → In ws x
+  writing r passes there = there passes .writes-there x r
+
+-- Two chains are apart where their units and their ranges are.
 module _
-    {c d : Controller} (s : Both) {m n : UnitNumber} {rs ws qs vs : List (ℕ × ℕ)}
-    (f : Alone 0 (worldFor First c s) m rs ws) (g : Alone 28 (worldFor Second d s) n qs vs) where
-  pub no-unit : (m ≡ n → ⊥) → NoUnitInCommon (oneBy c) (twoBy d) s
-  no-unit differ k a b = differ (f .names-it k a ∙ sym (g .names-it k b))
+    (k l : Chain) (s : Both) {m n : UnitNumber} {rs ws qs vs : List (ℕ × ℕ)}
+    (f : LiesOf k (worldFor First (k .controller) s) m rs ws) (g : LiesOf l (worldFor Second (l .controller) s) n qs vs) where
+  pub no-unit : (m ≡ n → ⊥) → NoUnitInCommon k l s
+  no-unit differ u a b = differ (f .names-it u a ∙ sym (g .names-it u b))
 
-  pub none-twice : Apart ws vs → NoByteWrittenByBoth (oneBy c) (twoBy d) s
+  pub none-twice : Apart ws vs → NoByteWrittenByBoth k l s
   none-twice apart same x a b = none-in-both ws vs x apart (f .writes-there x a) (g .writes-there x b)
 
-  pub none-read : Apart ws qs → Apart vs rs → NoByteReadByOther (oneBy c) (twoBy d) s
+  pub none-read : Apart ws qs → Apart vs rs → NoByteReadByOther k l s
   none-read forth back same x = (
     λ w r. none-in-both ws qs x forth (f .writes-there x w) (g .reads-there x r),
     λ w r. none-in-both vs rs x back (g .writes-there x w) (f .reads-there x r),
   )
 
-  pub met : (m ≡ n → ⊥) → Apart ws vs → Apart ws qs → Apart vs rs → Independent (oneBy c) (twoBy d) s
+  pub met : (m ≡ n → ⊥) → Apart ws vs → Apart ws qs → Apart vs rs → Independent k l s
   met differ twice forth back = record { units = no-unit differ; written = none-twice twice; read = none-read forth back }
 
 unit-number : UnitNumber → ℕ
@@ -103,7 +117,6 @@ module _ (w : World) (at : ℕ) (passes : Passes at 1 w) where
         Alone at w (names v) ((at, 28) ∷ rs) ((at + 2, 2) ∷ ws)
     alone judged from reported to =
         record {
-          passes = passes;
           names-it = λ n. of-block at _ passes (λ v. names v ≡ n);
           reads-there = λ x r. reads-in v rs x (judged x) (from x) (of-block at _ passes (λ v. ReadsHost v x) r);
           writes-there = λ x w. writes-in v ws x (reported x) (to x) (of-block at _ passes (λ v. WritesHost v x) w);
@@ -179,11 +192,10 @@ module _ (w : World) (at : ℕ) (passes : Passes at 1 w) where
 
 -- The orders differ where the second fails otherwise after the first than it does alone.
 pub fails-otherwise :
-    (c d : Controller) (s then : Both) (after-it alone-it : Told) → runOf First (oneBy c) .left s ≡ then →
-    runOf Second (twoBy d) .out then ≡ after-it → runOf Second (twoBy d) .out s ≡ alone-it →
-    (after-it .failed ≡ alone-it .failed → ⊥) → EitherWay (oneBy c) (twoBy d) s → ⊥
-fails-otherwise c d s then after-it alone-it left comes comes-alone differs e =
-    differs (ap (λ t. t .failed) (sym comes ∙ ap (runOf Second (twoBy d) .out) (sym left) ∙ e .second ∙ comes-alone))
+    (k l : Chain) (s then : Both) (after-it alone-it : Told) → runOf First k .left s ≡ then → runOf Second l .out then ≡ after-it →
+    runOf Second l .out s ≡ alone-it → (after-it .failed ≡ alone-it .failed → ⊥) → EitherWay k l s → ⊥
+fails-otherwise k l s then after-it alone-it left comes comes-alone differs e =
+    differs (ap (λ t. t .failed) (sym comes ∙ ap (runOf Second l .out) (sym left) ∙ e .second ∙ comes-alone))
 
 -- ---- a transfer of the pairs
 
@@ -200,13 +212,14 @@ pub record Carried (w : World) (at : ℕ) (to-host : Bool) (buffer count n : ℕ
   pub verdict : verdictOf (record { at = at; index = 0; world = w }) ≡ carries to-host count buffer
   pub sectors : effectOf (record { at = at; index = 0; world = w }) .sectors ≡ n
   pub answer : effectOf (record { at = at; index = 0; world = w }) .answer ≡ a
+  pub unit-is : namedDrive (record { at = at; index = 0; world = w }) .unit ≡ unit 0
   pub footprint :
       Alone at w (names (record { at = at; index = 0; world = w })) ((at, 28) ∷ going (not to-host) (buffer, n * 64))
       ((at + 2, 2) ∷ going to-host (buffer, n * 64))
 
 module _
-    (w : World) (at : ℕ) (passes : Passes at 1 w) (byte mark : ℕ)
-    (same : namedDrive (v w at passes) ≡ driveWith byte mark) (to-host : Bool) (buffer count : ℕ)
+    (w : World) (at : ℕ) (passes : Passes at 1 w) (image : List ℕ) (long : length image ≡ 130)
+    (same : namedDrive (v w at passes) ≡ driveOn image) (to-host : Bool) (buffer count : ℕ)
     (task : taskOf (w .host) (blockOf (v w at passes)) ≡ Task.Move (moveOf to-host 0 count buffer))
     (some : 0 < count) (fits : count ≤ 2) (held : InMemory (w .host) buffer (count * 64))
   where
@@ -214,7 +227,7 @@ module _
     b = v w at passes
 
     judged-so : verdictOf b ≡ carries to-host count buffer
-    judged-so = rw (task, same) (move-passes (w .controller) (w .host) 0 (omega arith) to-host 0 count buffer some (omega arith) held)
+    judged-so = rw (task, same, long) (move-passes (w .controller) (w .host) 0 (omega arith) to-host 0 count buffer some (omega arith) held)
 
     judged-alone : (x : ℕ) → InUib (askedOf b) (blockOf b .address) 18 x ⊎ InList (askedOf b) x → ⊥
     judged-alone x (inl uib) = no-uib (askedOf b) _ _ x (λ s is. impossible (cc (task, is))) uib
@@ -241,7 +254,7 @@ module _
 
     carried :
         (n : ℕ) (a : BlockAnswer) →
-        carriedOn (driveWith byte mark .image) refl buffer to-host count ≡ record { sectors = n; answer = a } →
+        carriedOn image long buffer to-host count ≡ record { sectors = n; answer = a } →
         Carried w at to-host buffer count n a
     carried n a p =
         let moved : effectOf b .sectors ≡ n = ap (λ e. e .sectors) (effect-is b) ∙ rw (judged-so, same) (ap (λ p. p .sectors) p) in
@@ -249,6 +262,7 @@ module _
           verdict = judged-so;
           sectors = moved;
           answer = ap (λ e. e .answer) (effect-is b) ∙ rw (judged-so, same) (ap (λ p. p .answer) p);
+          unit-is = ap (λ d. d .unit) same;
           footprint =
               alone w at passes (going (not to-host) (buffer, n * 64)) (going to-host (buffer, n * 64))
               (λ x j. absurd (judged-alone x j)) (λ x d. ranged n moved to-host false x (λ same. there n moved false x d) (goes-so false x d))
@@ -258,37 +272,42 @@ module _
 
 -- Byte k of a transfer of the pairs, where it was moved.
 module _
-    (w : World) (at : ℕ) (passes : Passes at 1 w) (byte mark : ℕ)
-    (same : namedDrive (v w at passes) ≡ driveWith byte mark) (to-host : Bool) (buffer count n : ℕ) (a : BlockAnswer)
+    (w : World) (at : ℕ) (passes : Passes at 1 w) {to-host : Bool} {buffer count n : ℕ} {a : BlockAnswer}
     (c : Carried w at to-host buffer count n a)
   where
     pub host-byte-is : (k : ℕ) → transferBy (askedOf (v w at passes)) .host-byte k ≡ buffer + k
     host-byte-is k = rw (c .verdict)
 
     pub came : (k : ℕ) → k < n * 64 → k < comes (askedOf (v w at passes)) (namedDrive (v w at passes)) .sectors * B (transferBy (askedOf (v w at passes)) .geometry)
-    came k less = rw (sectors-come (v w at passes), c .sectors, drives-geometry (askedOf (v w at passes)), same) less
+    came k less = rw (sectors-come (v w at passes), c .sectors, drives-geometry (askedOf (v w at passes)), c .unit-is) less
 
     pub data-byte : (k : ℕ) → k < n * 64 → HostData (askedOf (v w at passes)) (namedDrive (v w at passes)) to-host (buffer + k)
     data-byte k less = record { goes = rw (c .verdict); byte = k; moved = came k less; here = host-byte-is k }
 
 -- The transfers of one sector, and the read of two that a mark stops.
+module _ (w : World) (at : ℕ) (passes : Passes at 1 w) (buffer : ℕ) where
+  abbrev Asks : Bool → ℕ → Type 0
+  Asks to-host count = taskOf (w .host) (blockOf (v w at passes)) ≡ Task.Move (moveOf to-host 0 count buffer)
+
+  pub read-carried-from :
+      (image : List ℕ) → namedDrive (v w at passes) ≡ driveOn image → length image ≡ 130 → getD image 128 0 ≡ 0 → Asks true 1 →
+      InMemory (w .host) buffer 64 → Carried w at true buffer 1 1 Ended
+  read-carried-from image same long good task held =
+      carried w at passes image long same true buffer 1 task (omega arith) (omega arith) held 1 Ended (read-of-one image long buffer good)
+
 module _
     (w : World) (at : ℕ) (passes : Passes at 1 w) (byte mark : ℕ)
     (same : namedDrive (v w at passes) ≡ driveWith byte mark) (buffer : ℕ)
   where
-    abbrev Asks : Bool → ℕ → Type 0
-    Asks to-host count = taskOf (w .host) (blockOf (v w at passes)) ≡ Task.Move (moveOf to-host 0 count buffer)
+    pub read-carried : Asks w at passes buffer true 1 → InMemory (w .host) buffer 64 → Carried w at true buffer 1 1 Ended
+    read-carried = read-carried-from w at passes buffer (driveWith byte mark .image) same refl refl
 
-    pub read-carried : Asks true 1 → InMemory (w .host) buffer 64 → Carried w at true buffer 1 1 Ended
-    read-carried task held =
-        carried w at passes byte mark same true buffer 1 task (omega arith) (omega arith) held 1 Ended (read-of-one _ refl buffer refl)
-
-    pub write-carried : Asks false 1 → InMemory (w .host) buffer 64 → Carried w at false buffer 1 1 Ended
+    pub write-carried : Asks w at passes buffer false 1 → InMemory (w .host) buffer 64 → Carried w at false buffer 1 1 Ended
     write-carried task held =
-        carried w at passes byte mark same false buffer 1 task (omega arith) (omega arith) held 1 Ended (write-of-one _ refl buffer)
+        carried w at passes (driveWith byte mark .image) refl same false buffer 1 task (omega arith) (omega arith) held 1 Ended (write-of-one _ refl buffer)
 
     pub read-stopped-carried :
-        mark ≡ 1 → Asks true 2 → InMemory (w .host) buffer 128 → Carried w at true buffer 2 1 (Failed Refusal.Unreadable)
+        mark ≡ 1 → Asks w at passes buffer true 2 → InMemory (w .host) buffer 128 → Carried w at true buffer 2 1 (Failed Refusal.Unreadable)
     read-stopped-carried bad task held =
-        carried w at passes byte mark same true buffer 2 task (omega arith) (omega arith) held 1 _
+        carried w at passes (driveWith byte mark .image) refl same true buffer 2 task (omega arith) (omega arith) held 1 _
         (read-stopped _ refl buffer refl bad)

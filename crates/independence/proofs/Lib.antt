@@ -7,11 +7,15 @@ pub mod Controllers
 pub mod Demand3
 pub mod Followed
 pub mod Formats
+pub mod FromDisk
 pub mod Held
 pub mod Lengths
+pub mod Linked
 pub mod Meets
+pub mod NotCounted
 pub mod OneBlock
 pub mod Places
+pub mod Refused
 pub mod Runs
 pub mod Sources
 pub mod Steps

@@ -3,7 +3,7 @@
 use Prim.Native.Nat.{ℕ, _+_, _*_, _<_}
 use mathlib.Core.Bool.{Bool, true, false}
 use mathlib.Core.List.{List, [], _∷_}
-use mathlib.Core.Logic.{_⊎_, inl, inr, if-pos}
+use mathlib.Core.Logic.{_⊎_, inl, inr, if-neg, if-pos}
 use mathlib.Core.Path.{_≡_, refl, sym, ap, subst, _∙_}
 use native.Mathlib.Nat.{zero-mul}
 use native.Mathlib.Omega.{arith}
@@ -32,7 +32,7 @@ use Rattle.independence.specs.Reads.{ReadsHost}
 use Rattle.independence.specs.Reads.HostRead.{block, its-list, its-uib, moved as taken}
 use Rattle.unit.specs.Standing.{geometry}
 
-none-onwards : (a : BlockAnswer) (linked : Bool) → onwards a linked [] ≡ []
+pub none-onwards : (a : BlockAnswer) (linked : Bool) → onwards a linked [] ≡ []
 none-onwards (Failed r) linked = refl
 none-onwards Ended false = refl
 none-onwards Ended true = refl
@@ -82,6 +82,12 @@ module _ (at : ℕ) (w : World) (passes : Passes at 1 w) where
   failed r n ended moved =
       ran-chain at 1 w (passes .events) (passes .least, passes .most) (passes .place) ∙
       fetched-step 0 nothing at w (passes .place) ∙ rw (ended, moved)
+
+-- A run that is refused fetches no block.
+pub none-fetched :
+    (first allowance : ℕ) (w : World) (P : Visit → Type 0) → Some P (fetchedBy first allowance w) → (Passes first allowance w → ⊥) → ⊥
+unfolding fetchedBy
+none-fetched first allowance w P does refused = subst (Some P) (if-neg (passes? first allowance w) refused _ _) does
 
 -- ---- what a block reads and writes
 

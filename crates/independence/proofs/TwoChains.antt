@@ -27,7 +27,7 @@ use Rattle.judge.proofs.EachTask.{passes-first}
 use Rattle.judge.proofs.First.{never}
 use Rattle.judge.proofs.Locality.{placed-uib-read}
 use Rattle.wire.proofs.Promises.{never as impossible}
-use Rattle.judge.proofs.Tasks.{format-11, handshake, move-11, own, restore-done, restore-refused, shape-given, shape-outside}
+use Rattle.judge.proofs.Tasks.{format-11, handshake, own, restore-done, restore-refused, shape-given, shape-outside}
 use Rattle.unit.specs.declared.Controller.the-variants.{First as FirstController}
 use Rattle.unit.specs.Standing.{CountsAsInitialized, fresh}
 use Rattle.transfer.specs.Data.{dataOn}
@@ -55,10 +55,11 @@ use Rattle.independence.proofs.Steps.{unnoticed}
 use Rattle.request.specs.declared.Task.{Task}
 use Rattle.request.specs.declared.UnitNumber.the-variants.{Zero, One}
 use Rattle.independence.specs.TwoChains.{adjacent, besideFormat, come, driveWith, firstIn, formatRead, newDrive, ofFirst, ofSecond, one, readByOther, refusedData, refusedFormat, secondIn, sharedUnit, stoppedRead, tiny, two, writtenTwice, Met, Fails}
-use Rattle.independence.proofs.Carried.{Alone, Carried, alone, came, comes-done, comes-refused, data-byte, differ, fails-otherwise, host-byte-is, idle, initialized, met, no-list, no-list-of-a-piece, no-uib, no-unit, no-way, none-read, none-twice, passes-at, read-carried, read-stopped-carried, silent, still, v, write-carried}
-use Rattle.independence.proofs.Formats.{format-alone, format-comes, format-judged-so, format-wrote}
+use Rattle.independence.proofs.Carried.{Alone, Carried, alone, came, comes-done, comes-refused, data-byte, differ, fails-otherwise, host-byte-is, idle, initialized, met, no-list, no-uib, no-unit, no-way, none-read, none-twice, passes-at, read-carried, read-stopped-carried, still, v, write-carried, writing}
+use Rattle.independence.proofs.Formats.{format-alone, format-comes, format-wrote}
 use Rattle.independence.proofs.OneBlock.{In, by-block, done, failed, leaves}
-use Rattle.independence.proofs.Tiny.{counts, heads-there, moveOf, place-is, starts-at, track, unit}
+use Rattle.independence.proofs.Refused.{Bare, unready-unread}
+use Rattle.independence.proofs.Tiny.{counts, format-passes, heads-there, moveOf, place-is, starts-at, track, unit}
 
 abbrev first-of : Both → Visit
 first-of s = record { at = 0; index = 0; world = firstIn s }
@@ -87,7 +88,7 @@ unfolding word taskOf
 adjacent-write = write-carried (secondIn adjacent) 28 (adjacent-pass .1) 9 0 refl 120 refl (omega arith)
 
 adjacent-met : Independent one two adjacent
-adjacent-met = met adjacent (adjacent-read .footprint) (adjacent-write .footprint) differ (omega arith) (omega arith) (omega arith)
+adjacent-met = met one two adjacent (adjacent-read .footprint) (adjacent-write .footprint) differ (omega arith) (omega arith) (omega arith)
 
 both-move : (ofFirst adjacent ≡ come RunAnswer.Done 0 1) × (ofSecond adjacent ≡ come RunAnswer.Done 0 1)
 both-move = (
@@ -103,33 +104,30 @@ not-ready counts = no-way (sym (counts .said))
 refused-pass : Passes 0 1 (firstIn refusedData) × Passes 28 1 (secondIn refusedData)
 refused-pass = both-pass refusedData refl refl (omega arith)
 
-refused-write : verdictOf (first-of refusedData) ≡ Verdict.Refused Refusal.NotInitialized
+refused-first : Bare (firstIn refusedData) 0 (come RunAnswer.BlockFailed 11 0)
 unfolding word taskOf
-refused-write = own _ _ _ _ _ never refl ∙ move-11 FirstController (newDrive .unit) 0 (refusedData .host1) (moveOf false 0 1 28) not-ready
-
-refused-first : Alone 0 (firstIn refusedData) Zero ((0, 28) ∷ []) ((2, 2) ∷ [])
-unfolding word taskOf
-refused-first =
-    alone (firstIn refusedData) 0 (refused-pass .0) [] []
-    (λ x j. ⊎-elim (λ uib. absurd (no-uib _ _ _ x (λ s is. impossible cc) uib)) (λ list. absurd (no-list-of-a-piece _ (moveOf false 0 1 28) 28 x refl refl list)) j)
-    (still (firstIn refusedData) 0 (refused-pass .0) _ refused-write refl false) (silent (firstIn refusedData) 0 (refused-pass .0) _ refused-write refl)
-    (still (firstIn refusedData) 0 (refused-pass .0) _ refused-write refl true)
+refused-first = unready-unread (firstIn refusedData) 0 (refused-pass .0) refl (moveOf false 0 1 28) refl not-ready
 
 refused-read : Carried (secondIn refusedData) 28 true 56 1 1 Ended
 unfolding word taskOf
 refused-read = read-carried (secondIn refusedData) 28 (refused-pass .1) 9 0 refl 56 refl (omega arith)
 
 refused-met : Independent one two refusedData
-refused-met = met refusedData refused-first (refused-read .footprint) differ (omega arith) (omega arith) (omega arith)
+refused-met = met one two refusedData (refused-first .footprint) (refused-read .footprint) differ (omega arith) (omega arith) (omega arith)
 
 data-not-read :
     (ofFirst refusedData ≡ come RunAnswer.BlockFailed 11 0) × (Among 28 64 30 × HostWrites two (secondIn refusedData) 30)
 data-not-read = (
-  comes-refused (firstIn refusedData) 0 (refused-pass .0) _ refused-write,
+  refused-first .comes,
   (omega arith, by-block 28 _ (refused-pass .1) (λ v. WritesHost v 30) (status-word (omega arith))),
 )
 
 -- ---- the rest of a stopped read
+
+one-of-two : (p q : ℕ × ℕ) (x : ℕ) → In (p ∷ q ∷ []) x → Among (p .0) (p .1) x ⊎ Among (q .0) (q .1) x
+one-of-two p q x (inl here) = inl here
+one-of-two p q x (inr (inl here)) = inr here
+one-of-two p q x (inr (inr none)) = absurd none
 
 stopped-pass : Passes 0 1 (firstIn stoppedRead) × Passes 28 1 (secondIn stoppedRead)
 stopped-pass = both-pass stoppedRead refl refl (omega arith)
@@ -143,7 +141,12 @@ unfolding word taskOf
 stopped-write = write-carried (secondIn stoppedRead) 28 (stopped-pass .1) 9 0 refl 120 refl (omega arith)
 
 stopped-met : Independent one two stoppedRead
-stopped-met = met stoppedRead (stopped-read .footprint) (stopped-write .footprint) differ (omega arith) (omega arith) (omega arith)
+stopped-met = met one two stoppedRead (stopped-read .footprint) (stopped-write .footprint) differ (omega arith) (omega arith) (omega arith)
+
+stopped-writes : (x : ℕ) → HostWrites one (firstIn stoppedRead) x → In ((2, 2) ∷ (56, 64) ∷ []) x
+unfolding word taskOf
+stopped-writes x w =
+    writing 0 x _ w (passes-at _ 0 refl refl (omega arith)) (λ p. read-stopped-carried _ 0 p 7 1 refl 56 refl refl (omega arith) .footprint)
 
 rest-not-written :
     (ofFirst stoppedRead ≡ come RunAnswer.BlockFailed 20 1) × (Among 56 128 120 × HostReads two (secondIn stoppedRead) 120)
@@ -152,7 +155,7 @@ rest-not-written = (
   (
     omega arith,
     by-block 28 _ (stopped-pass .1) (λ v. ReadsHost v 120)
-        (taken (data-byte (secondIn stoppedRead) 28 (stopped-pass .1) 9 0 refl false 120 1 1 Ended stopped-write 0 (omega arith))),
+        (taken (data-byte (secondIn stoppedRead) 28 (stopped-pass .1) stopped-write 0 (omega arith))),
   ),
 )
 
@@ -161,25 +164,24 @@ rest-not-written = (
 beside-pass : Passes 0 1 (firstIn besideFormat) × Passes 28 1 (secondIn besideFormat)
 beside-pass = both-pass besideFormat refl refl (omega arith)
 
+beside-judged : verdictOf (first-of besideFormat) ≡ Verdict.Do (planOf (unit 0) (Task.Format (track 256)))
+unfolding word taskOf
+beside-judged = format-passes FirstController (besideFormat .host1) 2 1 256 (omega arith) refl (omega arith)
+
 beside-first : Alone 0 (firstIn besideFormat) Zero ((0, 28) ∷ (256, 64) ∷ []) ((2, 2) ∷ (7, 3) ∷ [])
 unfolding word taskOf
-beside-first = format-alone (firstIn besideFormat) (beside-pass .0) 7 0 refl refl (omega arith)
+beside-first = format-alone (firstIn besideFormat) (beside-pass .0) 256 refl refl beside-judged
 
 beside-told : FormatTold (first-of besideFormat)
 unfolding word taskOf
-beside-told = format-comes (firstIn besideFormat) (beside-pass .0) 7 0 refl refl (omega arith)
+beside-told = format-comes (firstIn besideFormat) (beside-pass .0) 256 refl refl beside-judged
 
 beside-second : Carried (secondIn besideFormat) 28 false 10 1 1 Ended
 unfolding word taskOf
 beside-second = write-carried (secondIn besideFormat) 28 (beside-pass .1) 9 0 refl 10 refl (omega arith)
 
 beside-met : Independent one two besideFormat
-beside-met = met besideFormat beside-first (beside-second .footprint) differ (omega arith) (omega arith) (omega arith)
-
-word-1-or-words : (x : ℕ) → In ((2, 2) ∷ (7, 3) ∷ []) x → Among 2 2 x ⊎ Among 7 3 x
-word-1-or-words x (inl here) = inl here
-word-1-or-words x (inr (inl here)) = inr here
-word-1-or-words x (inr (inr none)) = absurd none
+beside-met = met one two besideFormat beside-first (beside-second .footprint) differ (omega arith) (omega arith) (omega arith)
 
 three-bytes-written :
     (ofFirst besideFormat ≡ come RunAnswer.Done 0 1) ×
@@ -190,13 +192,13 @@ three-bytes-written = (
   ap told (done 0 _ (beside-pass .0) refl 1 (beside-told .ended) (beside-told .counted)),
   (
     λ x. (
-      λ w. word-1-or-words x (beside-first .writes-there x w),
+      λ w. one-of-two (2, 2) (7, 3) x (beside-first .writes-there x w),
       λ lies.
           ⊎-elim (λ word-1. by-block 0 _ (beside-pass .0) (λ v. WritesHost v x) (status-word word-1))
-          (format-wrote (firstIn besideFormat) (beside-pass .0) 7 0 refl refl (omega arith) x) lies,
+          (format-wrote (firstIn besideFormat) (beside-pass .0) 256 refl refl beside-judged x) lies,
     ),
     by-block 28 _ (beside-pass .1) (λ v. ReadsHost v 10)
-        (taken (data-byte (secondIn besideFormat) 28 (beside-pass .1) 9 0 refl false 10 1 1 Ended beside-second 0 (omega arith))),
+        (taken (data-byte (secondIn besideFormat) 28 (beside-pass .1) beside-second 0 (omega arith))),
   ),
 )
 
@@ -207,7 +209,7 @@ refused-format-pass = both-pass refusedFormat refl refl (omega arith)
 
 refused-format : verdictOf (first-of refusedFormat) ≡ Verdict.Refused Refusal.NotInitialized
 unfolding word taskOf
-refused-format = own _ _ _ _ _ never refl ∙ format-11 FirstController (newDrive .unit) 0 (refusedFormat .host1) track not-ready
+refused-format = own _ _ _ _ _ never refl ∙ format-11 FirstController (newDrive .unit) 0 (refusedFormat .host1) (track 256) not-ready
 
 refused-format-first : Alone 0 (firstIn refusedFormat) Zero ((0, 28) ∷ []) ((2, 2) ∷ [])
 unfolding word taskOf
@@ -218,7 +220,7 @@ unfolding word taskOf
 refused-format-second = write-carried (secondIn refusedFormat) 28 (refused-format-pass .1) 9 0 refl 6 refl (omega arith)
 
 refused-format-met : Independent one two refusedFormat
-refused-format-met = met refusedFormat refused-format-first (refused-format-second .footprint) differ (omega arith) (omega arith) (omega arith)
+refused-format-met = met one two refusedFormat refused-format-first (refused-format-second .footprint) differ (omega arith) (omega arith) (omega arith)
 
 words-not-written :
     (ofFirst refusedFormat ≡ come RunAnswer.BlockFailed 11 0) × ((x : ℕ) → Among 7 3 x → HostReads two (secondIn refusedFormat) x)
@@ -227,7 +229,7 @@ words-not-written = (
   λ x among.
       let here : 6 + (x - 6) ≡ x = omega arith in
       by-block 28 _ (refused-format-pass .1) (λ v. ReadsHost v x)
-      (taken (rw here at (data-byte (secondIn refusedFormat) 28 (refused-format-pass .1) 9 0 refl false 6 1 1 Ended refused-format-second (x - 6) (omega arith)))),
+      (taken (rw here at (data-byte (secondIn refusedFormat) 28 (refused-format-pass .1) refused-format-second (x - 6) (omega arith)))),
 )
 
 pub met-pairs : Met
@@ -238,6 +240,7 @@ met-pairs =
       refused-block = refused-met;
       data-not-read = data-not-read;
       stopped-read = stopped-met;
+      sector-written = λ x w. one-of-two (2, 2) (56, 64) x (stopped-writes x w);
       rest-not-written = rest-not-written;
       beside-format = beside-met;
       three-bytes-written = three-bytes-written;
@@ -259,24 +262,23 @@ unfolding word taskOf
 twice-second = read-carried (secondIn writtenTwice) 28 (twice-pass .1) 9 0 refl 56 refl (omega arith)
 
 -- Byte 56 gets the byte of the disk that was read.
-module _
-    (w : World) (at : ℕ) (passes : Passes at 1 w) (byte mark : ℕ)
-    (same : namedDrive (v w at passes) ≡ driveWith byte mark) (c : Carried w at true 56 1 1 Ended)
-  where
-    abbrev u : Visit
-    u = v w at passes
+module _ (w : World) (at : ℕ) (passes : Passes at 1 w) (c : Carried w at true 56 1 1 Ended) where
+  abbrev u : Visit
+  u = v w at passes
 
-    pub wrote-56 : RunWrites at 1 w 56
-    wrote-56 = by-block at _ passes (λ v. WritesHost v 56) (given (data-byte w at passes byte mark same true 56 1 1 Ended c 0 (omega arith)))
+  pub wrote-56 : RunWrites at 1 w 56
+  wrote-56 = by-block at _ passes (λ v. WritesHost v 56) (given (data-byte w at passes c 0 (omega arith)))
 
-    left-56 : (Among (at + 2) 2 56 → ⊥) → 56 < length (w .host) → getD (worldLeft u .host) 56 0 ≡ byte
-    left-56 clear room =
-        let lies = host-byte-is w at passes byte mark same true 56 1 1 Ended c in
-        let reads : transferBy (askedOf u) .to-host ≡ true = rw (c .verdict) in
-        ap (λ (n : ℕ). getD (worldLeft u .host) n 0) (sym (lies 0)) ∙
-        disk-byte-is-there u reads 0 (came w at passes byte mark same true 56 1 1 Ended c 0 (omega arith)) (omega (arith, lies 0))
-        (λ i later less again. omega (arith, lies i, lies 0, again)) (λ among. clear (omega (arith, lies 0, among))) ∙
-        rw (c .verdict, same, place-is 0 0, starts-at 0)
+  left-56 :
+      (byte mark : ℕ) → namedDrive u ≡ driveWith byte mark → (Among (at + 2) 2 56 → ⊥) → 56 < length (w .host) →
+      getD (worldLeft u .host) 56 0 ≡ byte
+  left-56 byte mark same clear room =
+      let lies = host-byte-is w at passes c in
+      let reads : transferBy (askedOf u) .to-host ≡ true = rw (c .verdict) in
+      ap (λ (n : ℕ). getD (worldLeft u .host) n 0) (sym (lies 0)) ∙
+      disk-byte-is-there u reads 0 (came w at passes c 0 (omega arith)) (omega (arith, lies 0))
+      (λ i later less again. omega (arith, lies i, lies 0, again)) (λ among. clear (omega (arith, lies 0, among))) ∙
+      rw (c .verdict, same, place-is 0 0, starts-at 0)
 
 -- A second chain that names another unit and reads no byte that the first writes goes after the first as it goes alone.
 module _ (s : Both) (units : NoUnitInCommon one two s) (read : NoByteReadByOther one two s) where
@@ -289,26 +291,26 @@ module _ (s : Both) (units : NoUnitInCommon one two s) (read : NoByteReadByOther
   as-alone = unnoticed both (runOf Second two) (runOf First one) (run-local Second two) (run-local First one) s unread
 
 wrote-first : HostWrites one (firstIn writtenTwice) 56
-wrote-first = wrote-56 (firstIn writtenTwice) 0 (twice-pass .0) 7 0 refl twice-first
+wrote-first = wrote-56 (firstIn writtenTwice) 0 (twice-pass .0) twice-first
 
 wrote-second : HostWrites two (secondIn writtenTwice) 56
-wrote-second = wrote-56 (secondIn writtenTwice) 28 (twice-pass .1) 9 0 refl twice-second
+wrote-second = wrote-56 (secondIn writtenTwice) 28 (twice-pass .1) twice-second
 
 units-apart : NoUnitInCommon one two writtenTwice
-units-apart = no-unit writtenTwice (twice-first .footprint) (twice-second .footprint) differ
+units-apart = no-unit one two writtenTwice (twice-first .footprint) (twice-second .footprint) differ
 
 reads-apart : NoByteReadByOther one two writtenTwice
-reads-apart = none-read writtenTwice (twice-first .footprint) (twice-second .footprint) (omega arith) (omega arith)
+reads-apart = none-read one two writtenTwice (twice-first .footprint) (twice-second .footprint) (omega arith) (omega arith)
 
 twice-differs : EitherWay one two writtenTwice → ⊥
 twice-differs e =
     let s = writtenTwice in
     let by-one : getD (runOf First one .left s .host1) 56 0 ≡ 7 =
     ap (λ w. getD (w .host) 56 0) (leaves 0 (firstIn s) (twice-pass .0) refl) ∙
-    left-56 (firstIn s) 0 (twice-pass .0) 7 0 refl twice-first (λ among. omega arith) (omega arith) in
+    left-56 (firstIn s) 0 (twice-pass .0) twice-first 7 0 refl (λ among. omega arith) (omega arith) in
     let by-two : getD (runOf Second two .left s .host1) 56 0 ≡ 9 =
     ap (λ w. getD (w .host) 56 0) (leaves 28 (secondIn s) (twice-pass .1) refl) ∙
-    left-56 (secondIn s) 28 (twice-pass .1) 9 0 refl twice-second (λ among. omega arith) (omega arith) in
+    left-56 (secondIn s) 28 (twice-pass .1) twice-second 9 0 refl (λ among. omega arith) (omega arith) in
     omega (
       arith,
       by-one,
@@ -372,7 +374,7 @@ then-comes = comes-done (secondIn then-shared) 28 then-passes refl _ then-restor
 
 shared-differs : EitherWay one two sharedUnit → ⊥
 shared-differs =
-    fails-otherwise FirstController FirstController sharedUnit then-shared _ _ initialize-leaves then-comes (comes-refused (secondIn sharedUnit) 28 (shared-pass .1) _ shared-restore)
+    fails-otherwise one two sharedUnit then-shared _ _ initialize-leaves then-comes (comes-refused (secondIn sharedUnit) 28 (shared-pass .1) _ shared-restore)
     (λ same. omega arith)
 
 shared-unit :
@@ -381,8 +383,8 @@ shared-unit :
 shared-unit = (
   λ none. none Zero (by-block 0 _ (shared-pass .0) (λ v. names v ≡ Zero) refl) (by-block 28 _ (shared-pass .1) (λ v. names v ≡ Zero) refl),
   (
-    none-twice sharedUnit shared-first shared-second (omega arith),
-    (none-read sharedUnit shared-first shared-second (omega arith) (omega arith), shared-differs),
+    none-twice one two sharedUnit shared-first shared-second (omega arith),
+    (none-read one two sharedUnit shared-first shared-second (omega arith) (omega arith), shared-differs),
   ),
 )
 
@@ -442,7 +444,7 @@ then-outside =
 
 read-differs : EitherWay one two readByOther → ⊥
 read-differs =
-    fails-otherwise FirstController FirstController readByOther then-read _ _ report-leaves (comes-refused (secondIn then-read) 28 then-read-passes _ then-outside)
+    fails-otherwise one two readByOther then-read _ _ report-leaves (comes-refused (secondIn then-read) 28 then-read-passes _ then-outside)
     (comes-done (secondIn readByOther) 28 (read-pass .1) refl _ read-initialize refl) (λ same. omega arith)
 
 read-by-other :
@@ -456,7 +458,7 @@ read-by-other = (
       (its-uib
       (placed-uib-read _ _ _ _ _ refl (passes-first (askedOf (second-of readByOther)) never never) (λ bad. rw (shapeAt-inside (readByOther .host1) 4 (omega arith)) at bad)
       (omega arith)))),
-  (no-unit readByOther read-first read-second differ, (none-twice readByOther read-first read-second (omega arith), read-differs)),
+  (no-unit one two readByOther read-first read-second differ, (none-twice one two readByOther read-first read-second (omega arith), read-differs)),
 )
 
 -- ---- what a format reports, read by the other
@@ -464,17 +466,19 @@ read-by-other = (
 format-pass : Passes 0 1 (firstIn formatRead) × Passes 28 1 (secondIn formatRead)
 format-pass = both-pass formatRead refl refl (omega arith)
 
+format-accepted : verdictOf (first-of formatRead) ≡ Verdict.Do (planOf (unit 0) (Task.Format (track 256)))
+unfolding word taskOf
+format-accepted = format-passes FirstController (formatRead .host1) 2 1 256 (omega arith) refl (omega arith)
+
 format-first : Alone 0 (firstIn formatRead) Zero ((0, 28) ∷ (256, 64) ∷ []) ((2, 2) ∷ (7, 3) ∷ [])
 unfolding word taskOf
-format-first = format-alone (firstIn formatRead) (format-pass .0) 7 0 refl refl (omega arith)
+format-first = format-alone (firstIn formatRead) (format-pass .0) 256 refl refl format-accepted
 
 abbrev format-plan : ℕ → Plan
-format-plan c = let p = planOf (unit 0) (Task.Format track) in plan (p .moving) (p .report) (Leaving.HeadsAt c)
+format-plan c = let p = planOf (unit 0) (Task.Format (track 256)) in plan (p .moving) (p .report) (Leaving.HeadsAt c)
 
 format-judged : verdictOf (first-of formatRead) ≡ Verdict.Do (format-plan 0)
-unfolding word taskOf
-format-judged =
-    format-judged-so (firstIn formatRead) (format-pass .0) 7 0 refl refl (omega arith) ∙ ap (λ c. Verdict.Do (format-plan c)) heads-there
+format-judged = format-accepted ∙ ap (λ c. Verdict.Do (format-plan c)) heads-there
 
 -- Alone the UIB says that volume 0 has no heads.
 format-outside : verdictOf (second-of formatRead) ≡ Verdict.Refused Refusal.UibOutsideLimits
@@ -492,7 +496,7 @@ format-second = initialized (secondIn formatRead) 28 (format-pass .1) _ format-o
 abbrev formatted-world : World
 formatted-world =
     let w = firstIn formatRead in
-    let data-stores = dataOn (driveWith 7 0 .image) (transferOf (w .host) (unit 0) (planOf (unit 0) (Task.Format track) .moving)) in
+    let data-stores = dataOn (driveWith 7 0 .image) (transferOf (w .host) (unit 0) (planOf (unit 0) (Task.Format (track 256)) .moving)) in
     changed w Zero (after (begun 0 ++ data-stores ++ bytesFrom Stores.hostByte 7 (0 ∷ 0 ∷ 1 ∷ []) ++ finish (blockAt (w .host) 0) 0 0 Ended (pos 0)) (buffersOf w Zero)) (unit 0)
 
 format-leaves : runOf First one .left formatRead ≡ leaving First FirstController formatRead formatted-world
@@ -520,7 +524,7 @@ then-format-comes = comes-done (secondIn then-format) 28 then-format-passes refl
 
 format-differs : EitherWay one two formatRead → ⊥
 format-differs =
-    fails-otherwise FirstController FirstController formatRead then-format _ _ format-leaves then-format-comes (comes-refused (secondIn formatRead) 28 (format-pass .1) _ format-outside)
+    fails-otherwise one two formatRead then-format _ _ format-leaves then-format-comes (comes-refused (secondIn formatRead) 28 (format-pass .1) _ format-outside)
     (λ same. omega arith)
 
 format-read :
@@ -529,12 +533,12 @@ format-read :
 unfolding word taskOf None
 format-read = (
   λ none.
-      none refl 9 .0 (format-wrote (firstIn formatRead) (format-pass .0) 7 0 refl refl (omega arith) 9 (omega arith))
+      none refl 9 .0 (format-wrote (firstIn formatRead) (format-pass .0) 256 refl refl format-accepted 9 (omega arith))
       (by-block 28 _ (format-pass .1) (λ v. ReadsHost v 9)
       (its-uib
       (placed-uib-read _ _ _ _ _ refl (passes-first (askedOf (second-of formatRead)) never never) (λ bad. rw (shapeAt-inside (formatRead .host1) 8 (omega arith)) at bad)
       (omega arith)))),
-  (no-unit formatRead format-first format-second differ, (none-twice formatRead format-first format-second (omega arith), format-differs)),
+  (no-unit one two formatRead format-first format-second differ, (none-twice one two formatRead format-first format-second (omega arith), format-differs)),
 )
 
 pub failing-pairs : Fails

@@ -39,7 +39,7 @@ use Rattle.independence.specs.Demand3.{Independent}
 use Rattle.independence.specs.Reads.{ReadsHost}
 use Rattle.independence.specs.Reads.HostRead.{block}
 use Rattle.independence.proofs.Held.{reads-its-28-bytes-alone}
-use Rattle.independence.specs.TwoChains.{come, firstIn, one, secondIn}
+use Rattle.independence.specs.TwoChains.{come, firstIn, one, secondIn, two}
 use Rattle.independence.specs.TwoControllers.{FailsByTwo, MetByTwo, heldDrive, heldList, heldUib, ofOther, other, otherIn, sameBytes, sharedDrive}
 use Rattle.independence.proofs.Carried.{Alone, Carried, comes-done, comes-refused, data-byte, differ, fails-otherwise, met, no-unit, passes-at, read-carried, silent, still, v}
 use Rattle.independence.proofs.OneBlock.{by-block, done, leaves, of-block, writes-in}
@@ -52,7 +52,6 @@ held-alone :
     Alone at w (names (v w at passes)) ((at, 28) ∷ []) ((at + 2, 2) ∷ [])
 held-alone w at passes is =
     record {
-      passes = passes;
       names-it = λ n. of-block at w passes (λ v. names v ≡ n);
       reads-there =
           λ x r.
@@ -119,7 +118,7 @@ same-met : Independent one other sameBytes
 unfolding word
 same-met =
     record {
-      units = no-unit sameBytes (same-first .footprint) (same-second .footprint) differ;
+      units = no-unit one other sameBytes (same-first .footprint) (same-second .footprint) differ;
       written = λ same. absurd (two-controllers same);
       read = λ same. absurd (two-controllers same);
     }
@@ -128,15 +127,15 @@ pub met-by-two : MetByTwo
 unfolding word
 met-by-two =
     record {
-      held-uib = met heldUib (uib-first .footprint) uib-second differ (omega arith) (omega arith) (omega arith);
+      held-uib = met one two heldUib (uib-first .footprint) uib-second differ (omega arith) (omega arith) (omega arith);
       uib-not-read = (
         comes-refused (secondIn heldUib) 28 (uib-pass .1) _ uib-held,
-        (omega arith, wrote-56 (firstIn heldUib) 0 (uib-pass .0) 7 0 refl uib-first),
+        (omega arith, wrote-56 (firstIn heldUib) 0 (uib-pass .0) uib-first),
       );
-      held-list = met heldList (list-first .footprint) list-second differ (omega arith) (omega arith) (omega arith);
+      held-list = met one two heldList (list-first .footprint) list-second differ (omega arith) (omega arith) (omega arith);
       list-not-read = (
         comes-refused (secondIn heldList) 28 (list-pass .1) _ list-held,
-        (omega arith, wrote-56 (firstIn heldList) 0 (list-pass .0) 7 0 refl list-first),
+        (omega arith, wrote-56 (firstIn heldList) 0 (list-pass .0) list-first),
       );
       same-bytes = same-met;
       both-move = (
@@ -145,7 +144,7 @@ met-by-two =
       );
       byte-30 = (
         by-block 0 _ (same-pass .0) (λ v. WritesHost v 30)
-            (given (data-byte (firstIn sameBytes) 0 (same-pass .0) 7 0 refl true 28 1 1 Ended same-first 2 (omega arith))),
+            (given (data-byte (firstIn sameBytes) 0 (same-pass .0) same-first 2 (omega arith))),
         (
           by-block 28 _ (same-pass .1) (λ v. WritesHost v 30) (status-word (omega arith)),
           by-block 28 _ (same-pass .1) (λ v. ReadsHost v 30) (block (omega arith)),
@@ -207,7 +206,7 @@ fails-by-two =
           λ same. absurd (two-controllers same),
           (
             λ same. absurd (two-controllers same),
-            fails-otherwise FirstController SecondController sharedDrive then _ _ takes then-refused alone-done (λ same. omega arith),
+            fails-otherwise one other sharedDrive then _ _ takes then-refused alone-done (λ same. omega arith),
           ),
         ),
       );

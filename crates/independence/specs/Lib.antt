@@ -1,7 +1,9 @@
 pub mod Chains
 pub mod Controllers
 pub mod Demand3
+pub mod FromDisk
 pub mod Local
+pub mod NotCounted
 pub mod Reads
 pub mod TwoChains
 pub mod TwoControllers

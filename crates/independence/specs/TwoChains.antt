@@ -1,6 +1,6 @@
 -- Pairs of chains for demand 3 (00; 02, K10): what its condition lets through, and what goes wrong where one part of it fails. In every pair the
--- first chain is the block at 0 and the second the block at 28, each with an allowance of 1. Both are run by the first controller; TwoControllers has
--- the others.
+-- first chain is the block at 0 and the second the block at 28, each with an allowance of 1. Both are run by the first controller. NotCounted has
+-- pairs that show what does not count, FromDisk a chain of two blocks, and TwoControllers the pairs of K10.
 use Prim.Native.Nat.{ℕ}
 use mathlib.Core.Bool.{false}
 use mathlib.Core.List.{List, [], _∷_, _++_}
@@ -18,13 +18,20 @@ use Rattle.unit.specs.Standing.{fresh, noTracks, recordOf}
 use Rattle.independence.specs.Chains.{Both, Chain, First, HostReads, HostWrites, Second, Told, runOf, worldFor}
 use Rattle.independence.specs.Demand3.{EitherWay, Independent, NoUnitInCommon, NoByteReadByOther, NoByteWrittenByBoth}
 
--- Two cylinders with one sector of 64 bytes each; an image has 130 bytes, of which the last two are the marks.
-abbrev pub tiny : Geometry
-tiny = geometryOf 2 1 64 (volumeOf 0 1) (volumeOf 0 0)
+-- One head, and so many cylinders with so many sectors of 64 bytes each. The pairs have two cylinders with one sector; an image has 130 bytes, of
+-- which the last two are the marks.
+abbrev pub shaped : (cylinders sectors : ℕ) → Geometry
+shaped cylinders sectors = geometryOf cylinders sectors 64 (volumeOf 0 1) (volumeOf 0 0)
 
--- A drive with the heads on cylinder 0, whose data bytes are all alike, with the mark of its second sector.
+abbrev pub tiny : Geometry
+tiny = shaped 2 1
+
+-- A drive with the heads on cylinder 0; and one whose data bytes are all alike, with the mark of its second sector.
+abbrev pub driveOn : List ℕ → Drive
+driveOn image = record { unit = fresh tiny; image = image }
+
 abbrev pub driveWith : ℕ → ℕ → Drive
-driveWith byte mark = record { unit = fresh tiny; image = replicate 128 byte ++ (0 ∷ mark ∷ []) }
+driveWith byte mark = driveOn (replicate 128 byte ++ (0 ∷ mark ∷ []))
 
 -- One that is not initialized.
 abbrev pub newDrive : Drive
@@ -35,6 +42,10 @@ newDrive = record { unit = recordOf false tiny 0 0 noTracks; image = [] }
 abbrev pub block : (command options number count address : ℕ) → List ℕ
 block command options number count address =
     command ∷ options ∷ 0 ∷ 0 ∷ 0 ∷ 0 ∷ 0 ∷ number ∷ 0 ∷ count ∷ 0 ∷ 0 ∷ 0 ∷ address ∷ replicate 14 0
+
+-- A scatter of the first sector, with a list of so many elements at an address.
+abbrev pub scatter : (options elements list : ℕ) → List ℕ
+scatter options elements list = 0xa1 ∷ options ∷ 0 ∷ 0 ∷ 0 ∷ 0 ∷ 0 ∷ 0 ∷ 0 ∷ 1 ∷ 0 ∷ 0 ∷ 0 ∷ list ∷ replicate 13 0 ++ (elements ∷ [])
 
 -- A block of which the words from 2 on are a UIB that says `tiny`, as long as nobody has written them: 1 head from head 0 on, no second
 -- volume, 1 sector, 64 bytes, 2 cylinders.
@@ -49,17 +60,20 @@ abbrev pub formatOverUib : List ℕ
 formatOverUib =
     0x8c ∷ 0 ∷ 0 ∷ 0 ∷ 0 ∷ 0 ∷ 0 ∷ 9 ∷ 0 ∷ 0 ∷ 0 ∷ 0 ∷ 1 ∷ 0 ∷ 0 ∷ 64 ∷ 0 ∷ 0 ∷ 0 ∷ 0 ∷ 0 ∷ 2 ∷ replicate 6 0
 
--- Two blocks at 0 and 28, and 264 bytes from 56 on.
-abbrev pub starting : List ℕ → List ℕ → Drive → Drive → Both
-starting one two drive0 drive1 =
+-- Two blocks at 0 and 28, and what stands behind them from 56 on: 264 bytes, where nothing else is said.
+abbrev pub startingOn : List ℕ → List ℕ → List ℕ → Drive → Drive → Both
+startingOn behind one two drive0 drive1 =
     record {
-      host1 = one ++ two ++ replicate 264 0;
+      host1 = one ++ two ++ behind;
       host2 = [];
       drive0 = drive0;
       drive1 = drive1;
       events1 = replicate 512 0;
       events2 = replicate 512 0;
     }
+
+abbrev pub starting : List ℕ → List ℕ → Drive → Drive → Both
+starting = startingOn (replicate 264 0)
 
 abbrev pub oneBy : Controller → Chain
 oneBy c = record { controller = c; first = 0; allowance = 1 }
@@ -87,8 +101,11 @@ ofFirst s = runOf First one .out s
 abbrev pub ofSecond : Both → Told
 ofSecond s = runOf Second two .out s
 
-abbrev pub come : RunAnswer → ℕ → ℕ → Told
-come answer failed sectors = record { answer = answer; failed = failed; tally = record { blocks = 1; sectors = sectors } }
+abbrev pub comeBy : (blocks : ℕ) → RunAnswer → (failed sectors : ℕ) → Told
+comeBy blocks answer failed sectors = record { answer = answer; failed = failed; tally = record { blocks = blocks; sectors = sectors } }
+
+abbrev pub come : RunAnswer → (failed sectors : ℕ) → Told
+come = comeBy 1
 
 -- ---- the condition is met
 
@@ -121,6 +138,8 @@ pub record Met : Type 0 where
   -- byte 30, which the second writes, lies in the data that it asked for
   pub data-not-read : (ofFirst refusedData ≡ come RunAnswer.BlockFailed 11 0) × (Among 28 64 30 × HostWrites two (secondIn refusedData) 30)
   pub stopped-read : Independent one two stoppedRead
+  -- beside word 1 it writes the sector that it moved
+  pub sector-written : (x : ℕ) → HostWrites one (firstIn stoppedRead) x → Among 2 2 x ⊎ Among 56 64 x
   -- byte 120, which the second reads, lies in the buffer that it asked for
   pub rest-not-written : (ofFirst stoppedRead ≡ come RunAnswer.BlockFailed 20 1) × (Among 56 128 120 × HostReads two (secondIn stoppedRead) 120)
   pub beside-format : Independent one two besideFormat

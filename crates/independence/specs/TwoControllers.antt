@@ -1,6 +1,6 @@
 -- Pairs of chains where a drive is held, and pairs on two controllers (02, K10).
 use Prim.Native.Nat.{ℕ}
-use mathlib.Core.List.{List, [], _∷_, _++_}
+use mathlib.Core.List.{List, _++_}
 use mathlib.Core.Path.{_≡_}
 use lib.ListN.{replicate}
 use Rattle.wire.specs.Memory.{Among}
@@ -11,7 +11,7 @@ use Rattle.unit.specs.declared.Holder.the-variants.{TheSecond}
 use Rattle.unit.specs.Standing.{heldBy}
 use Rattle.independence.specs.Chains.{Both, Chain, First, HostReads, HostWrites, Second, Told, runOf, worldFor}
 use Rattle.independence.specs.Demand3.{EitherWay, Independent, NoUnitInCommon, NoByteReadByOther, NoByteWrittenByBoth}
-use Rattle.independence.specs.TwoChains.{block, come, driveWith, firstIn, ofFirst, ofSecond, one, starting, two, twoBy}
+use Rattle.independence.specs.TwoChains.{block, come, driveWith, firstIn, ofFirst, ofSecond, one, scatter, starting, two, twoBy}
 
 -- ---- on one controller, the first
 
@@ -19,17 +19,13 @@ use Rattle.independence.specs.TwoChains.{block, come, driveWith, firstIn
 abbrev pub heldDrive : Drive
 heldDrive = let d = driveWith 9 0 in record { unit = heldBy (d .unit) TheSecond; image = d .image }
 
--- A scatter of one sector from unit 1, with a list of one element at an address.
-abbrev pub scatter : (list : ℕ) → List ℕ
-scatter list = 0xa1 ∷ 0x90 ∷ 0 ∷ 0 ∷ 0 ∷ 0 ∷ 0 ∷ 0 ∷ 0 ∷ 1 ∷ 0 ∷ 0 ∷ 0 ∷ list ∷ replicate 13 0 ++ (1 ∷ [])
-
 -- A read from unit 0 to bytes 56 to 119, and an initialize of unit 1 whose UIB begins at 56.
 abbrev pub heldUib : Both
 heldUib = starting (block 0x81 0x10 0 1 56) (block 0x87 0x80 0 0 56) (driveWith 7 0) heldDrive
 
--- The same read, and a scatter from unit 1 whose list begins at 56.
+-- The same read, and a scatter from unit 1 whose list of one element begins at 56.
 abbrev pub heldList : Both
-heldList = starting (block 0x81 0x10 0 1 56) (scatter 56) (driveWith 7 0) heldDrive
+heldList = starting (block 0x81 0x10 0 1 56) (scatter 0x90 1 56) (driveWith 7 0) heldDrive
 
 -- ---- on two controllers: the first chain is the first one's, and the second chain the second one's
 
