@@ -8,10 +8,10 @@ use native.Mathlib.Omega.{arith}
 use lib.Seq.{take-at}
 use Rattle.spares.specs.Table.{counted}
 use Rattle.unit.specs.Standing.{UnitRecord, byValue, noTracks, pairs, table}
-use Rattle.block.specs.Steps.{written}
 use Rattle.abi.specs.Calls.{StandsIn, recordLeft, standsIn?}
 use Rattle.abi.specs.Layouts.{pairsIn, recordBytes, recordIn, tracksIn, wordsFrom}
 use Rattle.abi.proofs.Tracks.{at-the-head, length-words}
+use Rattle.wire.specs.Words.{written}
 
 -- The record that is read from some bytes stands in them.
 pub stands-as-read : (bytes : List ℕ) {u : UnitRecord} → recordIn bytes ≡ u → StandsIn bytes u

@@ -7,10 +7,8 @@ use native.Mathlib.Nat.{add-assoc, add-zero, zero-add}
 use native.Mathlib.Omega.{arith}
 use lib.ListN.{drop, getD, length, set, take}
 use lib.Seq.{ext-getD, getD-append-add, getD-set-other, getD-take, length-take-le, sets-eq, take-suc}
-use Rattle.wire.specs.Words.{be32, with32, word}
+use Rattle.wire.specs.Words.{be32, fourBytes, with32, word, written}
 use Rattle.wire.proofs.Laws.{word-same}
-use Rattle.block.specs.Events.{bigEndian}
-use Rattle.block.specs.Steps.{written}
 use Rattle.block.proofs.Entries.{with32-is, written-row}
 use Rattle.abi.specs.Layouts.{trackBytes, wordsFrom}
 
@@ -95,7 +93,7 @@ unfolding trackBytes
 tracks-row [] us = refl
 tracks-row (t ∷ ts) us = rw (tracks-row ts us)
 
-word-in-a-row : (bytes : List ℕ) (at v : ℕ) → with32 bytes at v ≡ written bytes at (bigEndian v)
+word-in-a-row : (bytes : List ℕ) (at v : ℕ) → with32 bytes at v ≡ written bytes at (fourBytes v)
 unfolding written
 word-in-a-row bytes at v = with32-is bytes at v
 
@@ -108,7 +106,7 @@ one-more-stored bytes table i less =
     let before = trackBytes (take i table) in
     let place : 20 + length before ≡ 20 + 4 * i = omega (arith, length-tracks (take i table), length-take-le i table (omega arith)) in
     word-in-a-row (written bytes 20 before) (20 + 4 * i) (getD table i 0) ∙
-    rw place at (written-row bytes 20 before (bigEndian (getD table i 0))) ∙
+    rw place at (written-row bytes 20 before (fourBytes (getD table i 0))) ∙
     rw (take-suc table i 0, tracks-row)
 
 -- Tracks that were stored are read back.
@@ -117,6 +115,6 @@ pub tracks-back :
 unfolding wordsFrom trackBytes word
 tracks-back [] rest low = refl
 tracks-back (t ∷ ts) rest low =
-    let first : be32 (bigEndian t ++ (trackBytes ts ++ rest)) 0 ≡ t = omega (arith, low 0 (omega arith)) in
-    let others = words-past (bigEndian t) (trackBytes ts ++ rest) 0 (length ts) ∙ tracks-back ts rest (λ i less. low (suc i) (omega arith)) in
+    let first : be32 (fourBytes t ++ (trackBytes ts ++ rest)) 0 ≡ t = omega (arith, low 0 (omega arith)) in
+    let others = words-past (fourBytes t) (trackBytes ts ++ rest) 0 (length ts) ∙ tracks-back ts rest (λ i less. low (suc i) (omega arith)) in
     cc

@@ -8,12 +8,11 @@ use mathlib.Core.Path.{_≡_, refl, sym, ap, _∙_}
 use native.Mathlib.Decide.{decLe}
 use native.Mathlib.Omega.{arith}
 use lib.ListN.{getD, length}
-use Rattle.request.specs.declared.UnitNumber.the-variants.{Zero, One}
+use Rattle.unit.specs.declared.UnitNumber.the-variants.{Zero, One}
 use Rattle.unit.specs.Standing.{UnitRecord, pairs, table}
 use Rattle.demands.specs.Footprint.{RunWritesRecord}
 use Rattle.demands.proofs.Keeps.{run-keeps-record}
 use Rattle.demands.proofs.Tables.{run-keeps-blank}
-use Rattle.block.specs.World.{World}
 use Rattle.board.specs.Chain.{ran}
 use Rattle.abi.specs.Calls.{Called, Lent, calledAs, calledOf, controllerOf, made, recordLeft, standsIn?, worldIn}
 use Rattle.abi.specs.Layouts.{recordBytes, recordIn}
@@ -21,6 +20,7 @@ use Rattle.abi.proofs.Called.{called-made, called-refused-0, called-ref
 use Rattle.abi.proofs.Laws.{Narrow, left-reads-back, read-blank, record-length}
 use Rattle.abi.proofs.Left.{left-anew, left-as-it-came, stands-as-read}
 use Rattle.abi.proofs.Tracks.{past-written}
+use Rattle.board.specs.World.{World}
 
 module _ (controller first allowance : ℕ) (l : Lent) where
   abbrev before : World

@@ -7,8 +7,8 @@ use mathlib.Core.Path.{_≡_}
 use native.Mathlib.Decide.{decLt, ℕ-discrete}
 use lib.ListN.{length}
 use Rattle.answers.specs.Numbers.{runNumber}
-use Rattle.request.specs.declared.UnitNumber.{UnitNumber}
-use Rattle.request.specs.declared.UnitNumber.the-variants.{Zero, One}
+use Rattle.unit.specs.declared.UnitNumber.{UnitNumber}
+use Rattle.unit.specs.declared.UnitNumber.the-variants.{Zero, One}
 use Rattle.unit.proofs.Decided.{same?}
 use Rattle.spares.specs.Table.{counted}
 use Rattle.unit.specs.declared.Controller.{Controller}
@@ -17,9 +17,9 @@ use Rattle.unit.specs.Standing.{UnitRecord, byValue, pairs, table}
 use Rattle.board.specs.declared.inspection.Part.{Part}
 use Rattle.board.specs.Chain.{Ending, ran}
 use Rattle.board.specs.Inspection.{partOf}
-use Rattle.block.specs.Steps.{written}
-use Rattle.block.specs.World.{World}
 use Rattle.abi.specs.Layouts.{endingBytes, outcomeLength, recordBytes, recordIn, recordLength, tracksIn}
+use Rattle.wire.specs.Words.{written}
+use Rattle.board.specs.World.{World}
 
 -- All that a caller lends to a run, no two of them overlapping: what a caller in C has to see to.
 pub record Lent : Type 0 where

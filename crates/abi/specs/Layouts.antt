@@ -16,12 +16,12 @@
 --   17        the holder: 00 nobody, 01 the first controller, 02 the second
 --   18, 19    the pairs that count
 --   20..275   32 pairs of tracks, bad and spare: cylinder (2), head, 00
-use Prim.Native.Nat.{ℕ, zero, suc, _+_, _*_, _/_, _%_, min}
+use Prim.Native.Nat.{ℕ, zero, suc, _+_, _*_, min}
 use mathlib.Core.Bool.{Bool, cond, _&&_}
 use mathlib.Core.List.{List, [], _∷_, _++_}
 use lib.Dec.{eqb, leb}
 use lib.ListN.{getD}
-use Rattle.wire.specs.Words.{be16, be32}
+use Rattle.wire.specs.Words.{be16, be32, fourBytes, twoBytes, written}
 use Rattle.geometry.specs.declared.Geometry.{Geometry}
 use Rattle.geometry.specs.declared.Volume.{Volume}
 use Rattle.geometry.specs.declared.VolumeNumber.the-variants.{Zero, One}
@@ -33,8 +33,6 @@ use Rattle.unit.specs.Holding.{holderNumber, holderOf}
 use Rattle.unit.specs.Standing.{UnitRecord, cylinder, geometry, heldBy, holder, initialized, noTracks, pairs, recordOf, table}
 use Rattle.answers.specs.Numbers.{runNumber}
 use Rattle.board.specs.Chain.{Ending}
-use Rattle.block.specs.Events.{bigEndian}
-use Rattle.block.specs.Steps.{written}
 
 abbrev pub recordLength : ℕ
 recordLength = 276
@@ -77,9 +75,6 @@ abbrev pub recordIn : List ℕ → UnitRecord
 recordIn bytes =
     heldBy (recordOf (saysInitialized bytes) (geometryIn bytes) (be16 bytes 14) (pairsIn bytes) (tracksIn bytes)) (holderIn bytes)
 
-abbrev pub twoBytes : ℕ → List ℕ
-twoBytes n = n / 256 % 256 ∷ n % 256 ∷ []
-
 abbrev pub volumeBytes : Volume → List ℕ
 volumeBytes v = start v ∷ N v ∷ []
 
@@ -92,7 +87,7 @@ openingBytes initialized = 0x02 ∷ cond initialized 0x01 0x00 ∷ 0x01 ∷ 0x14
 
 unfoldable pub trackBytes : List ℕ → List ℕ
 trackBytes [] = []
-trackBytes (t ∷ ts) = bigEndian t ++ trackBytes ts
+trackBytes (t ∷ ts) = fourBytes t ++ trackBytes ts
 
 -- The bytes of a record, to the last pair that counts. Those past it are not stored: an initialize, after which none counts, leaves them all.
 abbrev pub recordBytes : UnitRecord → List ℕ
@@ -103,7 +98,7 @@ recordBytes u =
 -- The bytes of an outcome.
 abbrev pub outcomeBytes : (answer failed blocks sectors : ℕ) → List ℕ
 outcomeBytes answer failed blocks sectors =
-    (0x02 ∷ 0x00 ∷ 0x00 ∷ 0x10 ∷ answer ∷ failed ∷ 0x00 ∷ 0x00 ∷ []) ++ bigEndian blocks ++ bigEndian sectors
+    (0x02 ∷ 0x00 ∷ 0x00 ∷ 0x10 ∷ answer ∷ failed ∷ 0x00 ∷ 0x00 ∷ []) ++ fourBytes blocks ++ fourBytes sectors
 
 abbrev pub endingBytes : Ending → List ℕ
 endingBytes e = outcomeBytes (runNumber (e .answer)) (e .failed) (e .tally .blocks) (e .tally .sectors)

@@ -2,8 +2,8 @@
 // Records and outcomes cross as bytes, by the layouts of specs/Layouts; what is done with them is board's, by its promise.
 // A buffer that is too short for its layout is refused, and nothing is changed. That pointers are good and apart only the caller knows.
 use board::Units;
-use request::UnitNumber;
 use unit::Controller;
+use unit::UnitNumber;
 ghost use mathlib.Core.Path.{_≡_};
 ghost use Prim.Native.Nat.{_≤_};
 ghost use lib.ListN.{length};

@@ -1,6 +1,6 @@
--- The numbers stay distinct (01, What the board answers for): a number leads back to its answer.
+-- The numbers stay distinct (01, What the board answers for), and there are no others: a number leads back to its answer.
 -- Each answer is found again by its number, so two answers with one number are one answer.
-use Prim.Native.Nat.{ℕ}
+use Prim.Native.Nat.{ℕ, _≤_}
 use mathlib.Core.Bool.{cond}
 use mathlib.Core.Path.{_≡_, refl, sym, ap, _∙_}
 use native.Mathlib.Omega.{arith}
@@ -71,7 +71,16 @@ answer-back AllowanceSpent = refl
 pub answers-differ : (a b : RunAnswer) → runNumber a ≡ runNumber b → a ≡ b
 answers-differ a b same = sym (answer-back a) ∙ ap answer same ∙ answer-back b
 
--- Every answer of a failed block has one of its numbers.
+-- Every answer of a run has one of its numbers, and every answer of a failed block one of those.
+pub answers-in-range : (a : RunAnswer) → runNumber a ≤ 6
+answers-in-range Done = omega arith
+answers-in-range EventsShort = omega arith
+answers-in-range AllowanceBad = omega arith
+answers-in-range FirstBad = omega arith
+answers-in-range BlockFailed = omega arith
+answers-in-range LinkBad = omega arith
+answers-in-range AllowanceSpent = omega arith
+
 pub refusals-in-range : (a : Refusal) → OfABlock (refusalNumber a)
 refusals-in-range CommandUnknown = (omega arith, omega arith, λ is. omega arith)
 refusals-in-range NotInitialized = (omega arith, omega arith, λ is. omega arith)

@@ -3,7 +3,7 @@
 use Prim.Native.Nat.{ℕ, _+_, _*_}
 use mathlib.Core.Bool.{Bool}
 use mathlib.Core.List.{List, [], _∷_, _++_}
-use mathlib.Core.Path.{_≡_, refl, sym, ap, _∙_}
+use mathlib.Core.Path.{_≡_, sym, ap, _∙_}
 use lib.IntN.{ℤ}
 use Rattle.answers.specs.declared.BlockAnswer.{BlockAnswer}
 use Rattle.answers.specs.Numbers.{statusOf}
@@ -22,10 +22,10 @@ use Rattle.transfer.proofs.Stays.{event-bytes-stored, host-bytes-stored}
 use Rattle.transfer.proofs.Stores.{after-append}
 use Rattle.block.specs.declared.Done.{Done}
 use Rattle.unit.specs.declared.Controller.{Controller}
-use Rattle.block.specs.Block.{Effect, asking, effectOn, finish, finished, holding, judged}
+use Rattle.block.specs.Block.{Drive, Effect, asking, effectOn, finish, finished, holding, judged}
 use Rattle.block.specs.Events.{entry}
-use Rattle.block.specs.Steps.{doneOf, three, written}
-use Rattle.block.specs.World.{Drive}
+use Rattle.block.specs.Steps.{doneOf, three}
+use Rattle.wire.specs.Words.{written}
 
 pub host-written :
     (ns host image events : List ℕ) (at : ℕ) →

@@ -14,9 +14,8 @@ use Rattle.answers.specs.declared.BlockAnswer.{BlockAnswer}
 use Rattle.answers.specs.Numbers.{statusOf}
 use Rattle.iopb.specs.declared.Block.{Block}
 use Rattle.iopb.specs.Errors.{errorByte}
-use Rattle.wire.specs.Words.{stored, with32}
-use Rattle.block.specs.Steps.{written}
-use Rattle.block.specs.Events.{bigEndian, entry, levelOf, twosComplement, vectorOf}
+use Rattle.wire.specs.Words.{fourBytes, stored, with32, written}
+use Rattle.block.specs.Events.{entry, levelOf, twosComplement, vectorOf}
 
 two : (n : ℕ) → n + 2 ≡ suc (suc n)
 two n = omega arith
@@ -27,14 +26,14 @@ three n = omega arith
 four : (n : ℕ) → n + 4 ≡ suc (suc (suc (suc n)))
 four n = omega arith
 
-pub with32-is : (bytes : List ℕ) (at v : ℕ) → with32 bytes at v ≡ sets bytes at (bigEndian v)
+pub with32-is : (bytes : List ℕ) (at v : ℕ) → with32 bytes at v ≡ sets bytes at (fourBytes v)
 unfolding stored
 with32-is bytes at v = simp (add-zero, add-one, two, three)
 
 in-a-row :
     (bytes : List ℕ) (at status error level vector travel : ℕ) →
     with32 (set (set (set (set bytes at status) (at + 1) error) (at + 2) level) (at + 3) vector) (at + 4) travel
-    ≡ sets bytes at (status ∷ error ∷ level ∷ vector ∷ bigEndian travel)
+    ≡ sets bytes at (status ∷ error ∷ level ∷ vector ∷ fourBytes travel)
 in-a-row bytes at status error level vector travel = simp (with32-is, add-one, two, three, four)
 
 -- What stands in the buffer once the code has stored what its functions answered.

@@ -21,12 +21,12 @@ use Rattle.transfer.specs.Stores.{Buffers, after}
 use Rattle.transfer.proofs.Stays.{lengths-stay}
 use Rattle.transfer.proofs.Stores.{after-append}
 use Rattle.unit.specs.declared.Controller.{Controller}
-use Rattle.block.specs.Block.{Performance, asking, effectOn, finish, finished, holding, judged}
-use Rattle.block.specs.Events.{bigEndian, entry, twosComplement}
-use Rattle.block.specs.Steps.{Room, three, written}
+use Rattle.block.specs.Block.{Drive, Performance, asking, effectOn, finish, finished, holding, judged}
+use Rattle.block.specs.Events.{entry, twosComplement}
+use Rattle.block.specs.Steps.{Room, three}
 use Rattle.block.specs.Tells.{Tells}
-use Rattle.block.specs.World.{Drive}
 use Rattle.block.proofs.Effects.{finish-leaves}
+use Rattle.wire.specs.Words.{fourBytes, written}
 
 -- Numbers stored in a row stand there in their order.
 pub row-stands : (ns l : List ℕ) (at k : ℕ) → at + length ns ≤ length l → k < length ns → getD (sets l at ns) (at + k) 0 ≡ getD ns k 0
@@ -50,7 +50,7 @@ finish-tells b at i answer travel host image events room =
       entry-error = row 1 _ (omega arith) (omega arith);
       entry-level = row 2 _ (omega arith) (omega arith);
       entry-vector = row 3 _ (omega arith) (omega arith);
-      entry-travel = λ k k<. row (4 + k) _ (omega arith) (omega arith) ∙ getD-append-add (take 4 (entry b answer travel)) (bigEndian (twosComplement travel)) k 0;
+      entry-travel = λ k k<. row (4 + k) _ (omega arith) (omega arith) ∙ getD-append-add (take 4 (entry b answer travel)) (fourBytes (twosComplement travel)) k 0;
     })
   where
     word : (k x : ℕ) → x ≡ at + 2 + k → k < 2 → getD (sets host (at + 2) (statusOf answer ∷ errorByte answer ∷ [])) x 0 ≡ getD (statusOf answer ∷ errorByte answer ∷ []) k 0

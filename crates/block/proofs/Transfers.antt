@@ -12,9 +12,10 @@ use Rattle.transfer.specs.Stores.{Buffers, Store, after, upTo}
 use Rattle.transfer.proofs.Stores.{after-more}
 use Rattle.judge.specs.declared.Moving.{Moving}
 use Rattle.block.specs.Block.{begun, transferWith}
-use Rattle.block.specs.Steps.{Stores, three, written}
+use Rattle.block.specs.Steps.{Stores, three}
 use Rattle.block.proofs.Effects.{host-written, then-made}
 use Rattle.unit.specs.Standing.{UnitRecord}
+use Rattle.wire.specs.Words.{written}
 
 abbrev beside : Buffers → List ℕ → Buffers
 beside m events = three (m .host) (m .image) events

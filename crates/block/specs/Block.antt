@@ -13,7 +13,6 @@ use Rattle.geometry.specs.declared.VolumeNumber.{VolumeNumber}
 use Rattle.request.specs.declared.Buffer.{Buffer}
 use Rattle.request.specs.declared.Buffer.the-variants.{Piece, List as Elements}
 use Rattle.request.specs.declared.Task.{Task}
-use Rattle.request.specs.declared.UnitNumber.{UnitNumber}
 use Rattle.unit.specs.declared.Controller.{Controller}
 use Rattle.unit.specs.Holding.{reservedBy}
 use Rattle.unit.specs.Landing.{spotOf}
@@ -21,9 +20,9 @@ use Rattle.unit.specs.Standing.{UnitRecord, cylinder, fresh, heldBy, mapped, mo
 use Rattle.transfer.specs.Data.{Transfer, dataOn, formatting, moving, progressOn}
 use Rattle.transfer.specs.Pieces.{joined}
 use Rattle.transfer.specs.Progress.{lastTried}
-use Rattle.transfer.specs.Stores.{Store, after, bytesFrom, eventByte, hostByte}
+use Rattle.transfer.specs.Stores.{Store, bytesFrom, eventByte, hostByte}
 use Rattle.iopb.specs.declared.Block.{Block}
-use Rattle.iopb.specs.Ask.{taskOf, unitOf}
+use Rattle.iopb.specs.Ask.{taskOf}
 use Rattle.iopb.specs.Errors.{errorByte}
 use Rattle.iopb.specs.Identity.{identityBytes}
 use Rattle.iopb.specs.Layout.{blockAt}
@@ -40,9 +39,13 @@ use Rattle.judge.specs.declared.Verdict.the-variants.{Refused, Do}
 use Rattle.judge.specs.Given.{Asked}
 use Rattle.judge.specs.Verdict.{verdict}
 use Rattle.block.specs.Events.{entry, travelTo}
-use Rattle.block.specs.World.{Drive, World, buffersOf, changed, driveOf}
 
 -- ---- judged
+
+-- A unit's drive: its record and its image.
+pub record Drive : Type 0 where
+  pub unit : UnitRecord
+  pub image : List ℕ
 
 -- What is judged of a task that a controller asks on a drive.
 abbrev pub asking : Controller → Task → Drive → List ℕ → Asked
@@ -200,15 +203,3 @@ effectOn c host d at i =
     let b = blockAt host at in
     let v = verdict (asking c (taskOf host b) d host) in
     finished b at i (holding c (b .options .reserve) v (judged host d at v))
-
--- The unit that the block at an address names, and what the block does to the world: it works on that unit's drive.
-abbrev pub unitAt : World → ℕ → UnitNumber
-unitAt w at = unitOf (blockAt (w .host) at)
-
-unfoldable pub effectAt : ℕ → ℕ → World → Effect
-effectAt at i w = effectOn (w .controller) (w .host) (driveOf w (unitAt w at)) at i
-
-unfoldable pub worldAfter : ℕ → ℕ → World → World
-worldAfter at i w =
-    let e = effectAt at i w in
-    changed w (unitAt w at) (after (e .stores) (buffersOf w (unitAt w at))) (e .unit)

@@ -1,7 +1,7 @@
 -- The event entry of a block (01, One run: "status, error, level, vector, then travel").
-use Prim.Native.Nat.{ℕ, _+_, _-_, _/_, _%_, _^_}
+use Prim.Native.Nat.{ℕ, _+_, _-_, _^_}
 use mathlib.Core.Bool.{cond}
-use mathlib.Core.List.{List, [], _∷_}
+use mathlib.Core.List.{List, _∷_}
 use lib.IntN.{ℤ, pos, negsuc, _-ℤ_}
 use lib.Signed.{_≤ℤ_}
 use Rattle.answers.specs.declared.BlockAnswer.{BlockAnswer}
@@ -9,6 +9,7 @@ use Rattle.answers.specs.declared.BlockAnswer.the-variants.{Ended, Failed}
 use Rattle.answers.specs.Numbers.{statusOf}
 use Rattle.iopb.specs.declared.Block.{Block}
 use Rattle.iopb.specs.Errors.{errorByte}
+use Rattle.wire.specs.Words.{fourBytes}
 
 -- "Travel is the new cylinder minus the old one"
 abbrev pub travelTo : ℕ → ℕ → ℤ
@@ -23,9 +24,6 @@ abbrev pub twosComplement : ℤ → ℕ
 twosComplement (pos n) = n
 twosComplement (negsuc n) = 2 ^ 32 - (n + 1)
 
-abbrev pub bigEndian : ℕ → List ℕ
-bigEndian n = n / 256 / 256 / 256 % 256 ∷ n / 256 / 256 % 256 ∷ n / 256 % 256 ∷ n % 256 ∷ []
-
 -- "Level and vector are zero unless IE is set; the vector is the normal one at status 80, else the error one."
 abbrev pub levelOf : Block → ℕ
 levelOf b = cond (b .options .interrupt) (b .level) 0
@@ -37,4 +35,4 @@ vectorOf b (Failed r) = cond (b .options .interrupt) (b .«error_vector») 0
 -- The 8 bytes.
 abbrev pub entry : Block → BlockAnswer → ℤ → List ℕ
 entry b answer travel =
-    statusOf answer ∷ errorByte answer ∷ levelOf b ∷ vectorOf b answer ∷ bigEndian (twosComplement travel)
+    statusOf answer ∷ errorByte answer ∷ levelOf b ∷ vectorOf b answer ∷ fourBytes (twosComplement travel)

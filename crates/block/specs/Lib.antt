@@ -2,4 +2,3 @@ pub mod Block
 pub mod Events
 pub mod Steps
 pub mod Tells
-pub mod World

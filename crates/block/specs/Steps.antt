@@ -5,7 +5,6 @@ use mathlib.Core.List.{List, _++_}
 use mathlib.Core.Logic.{ite}
 use mathlib.Core.Path.{_≡_}
 use lib.ListN.{length}
-use lib.Seq.{sets}
 use Rattle.iopb.specs.declared.Block.{Block}
 use Rattle.judge.specs.declared.Leaving.{Leaving}
 use Rattle.judge.specs.declared.Moving.{Moving}
@@ -19,15 +18,10 @@ use Rattle.block.specs.declared.Done.{Done}
 use Rattle.block.specs.declared.Known.{Known}
 use Rattle.block.specs.declared.Known.the-variants.{Unasked, Counts}
 use Rattle.block.specs.declared.Performed.{Performed}
-use Rattle.block.specs.Block.{Effect, Performance, begun, leftBy, performed, transferOf}
-use Rattle.block.specs.World.{Drive}
+use Rattle.block.specs.Block.{Drive, Effect, Performance, begun, leftBy, performed, transferOf}
 use Rattle.wire.specs.Promise.{Says}
 use Rattle.unit.specs.Standing.{CountsAsInitialized, UnitRecord, byValue, geometry, table}
 use Rattle.unit.proofs.Decided.{counts?}
-
--- Bytes once some numbers are stored in them one after the other, from an index on.
-unfoldable pub written : List ℕ → ℕ → List ℕ → List ℕ
-written bytes at ns = sets bytes at ns
 
 -- What a block works on, as it is lent.
 abbrev pub three : List ℕ → List ℕ → List ℕ → Buffers

@@ -8,7 +8,8 @@ use Rattle.answers.specs.Numbers.{statusOf}
 use Rattle.iopb.specs.declared.Block.{Block}
 use Rattle.iopb.specs.Errors.{errorByte}
 use Rattle.transfer.specs.Stores.{Buffers}
-use Rattle.block.specs.Events.{bigEndian, levelOf, twosComplement, vectorOf}
+use Rattle.block.specs.Events.{levelOf, twosComplement, vectorOf}
+use Rattle.wire.specs.Words.{fourBytes}
 
 -- A block at an address, run after i others, that came to an answer and went so far.
 pub record Tells (b : Block) (at i : ℕ) (answer : BlockAnswer) (travel : ℤ) (m : Buffers) : Type 0 where
@@ -20,4 +21,4 @@ pub record Tells (b : Block) (at i : ℕ) (answer : BlockAnswer) (travel : ℤ) 
   pub entry-error : getD (m .events) (8 * i + 1) 0 ≡ errorByte answer
   pub entry-level : getD (m .events) (8 * i + 2) 0 ≡ levelOf b
   pub entry-vector : getD (m .events) (8 * i + 3) 0 ≡ vectorOf b answer
-  pub entry-travel : (k : ℕ) → k < 4 → getD (m .events) (8 * i + 4 + k) 0 ≡ getD (bigEndian (twosComplement travel)) k 0
+  pub entry-travel : (k : ℕ) → k < 4 → getD (m .events) (8 * i + 4 + k) 0 ≡ getD (fourBytes (twosComplement travel)) k 0

@@ -33,7 +33,7 @@ ghost use Rattle.judge.specs.Fits.{JobGood, LeavingFits, MovingFits, PlanFits, 
 ghost use Rattle.answers.specs.declared.BlockAnswer.{BlockAnswer};
 ghost use Rattle.request.specs.declared.Buffer.{Buffer};
 ghost use Rattle.block.specs.Block.{effectOn, finish, heldAfter, holderLeft, leftBy, performed, refused, transferOf, transferWith, travelled, wordsOf};
-ghost use Rattle.block.specs.Steps.{Carries, Did, Knows, Made, Performs, Ready, Room, driveWith, performedOf, tableBy, three, written};
+ghost use Rattle.block.specs.Steps.{Carries, Did, Knows, Made, Performs, Ready, Room, driveWith, performedOf, tableBy, three};
 ghost use Rattle.transfer.specs.declared.Attempt.{Attempt};
 ghost use Rattle.transfer.specs.declared.Moved.{Moved};
 ghost use Rattle.transfer.specs.Progress.{lastTried};
@@ -42,6 +42,7 @@ ghost use Rattle.transfer.specs.Stores.{after};
 ghost use Rattle.unit.specs.Landing.{spotOf};
 ghost use Rattle.wire.specs.Promise.{Says};
 ghost use Rattle.unit.specs.Standing.{CountsAsInitialized, UnitRecord, bare, byValue, cylinder, geometry, unitOf};
+ghost use Rattle.wire.specs.Words.{written};
 
 mod events;
 

@@ -15,7 +15,7 @@ use Rattle.wire.specs.Memory.{InMemory, inMemory?}
 use Rattle.iopb.specs.declared.Block.{Block}
 use Rattle.iopb.specs.Ask as ask
 use Rattle.iopb.specs.Layout.{blockAt}
-use Rattle.request.specs.declared.UnitNumber.{UnitNumber}
+use Rattle.unit.specs.declared.UnitNumber.{UnitNumber}
 use Rattle.transfer.specs.Stores.{Buffers}
 use Rattle.board.specs.declared.Units.{Units}
 use Rattle.block.specs.declared.Done.{Done}
@@ -23,15 +23,15 @@ use Rattle.board.specs.declared.chain.Count.{Count}
 use Rattle.board.specs.declared.chain.End.{End}
 use Rattle.board.specs.declared.chain.Stepped.{Stepped}
 use Rattle.block.specs.declared.Known.the-variants.{Counts}
-use Rattle.block.specs.Block.{Effect, effectAt, effectOn, unitAt, worldAfter}
+use Rattle.block.specs.Block.{Effect, effectOn}
 use Rattle.board.specs.Chain.{Ending, Tally, ends, executed, fetched, nothing}
 use Rattle.board.specs.Steps.{CameTo, EndedIn, Spare, SteppedTo, countedOf, endedOf, nothingCounted, outcomeWith, steppedOf, tallyOf, toldOf}
 use Rattle.block.specs.Steps.{Did, Knows}
 use Rattle.unit.specs.Standing.{unitOf}
 use Rattle.unit.proofs.Decided.{counts?}
 use Rattle.wire.proofs.Promises.{decided-says}
-use Rattle.block.specs.World.{World, buffersOf, changed, driveOf}
 use Rattle.board.specs.Lent.{unitsOf}
+use Rattle.board.specs.World.{World, buffersOf, changed, driveOf, effectAt, unitAt, worldAfter}
 
 module _ (w : World) (at i : ℕ) (n : UnitNumber) (named : unitAt w at ≡ n) where
   effect-named : effectAt at i w ≡ effectOn (w .controller) (w .host) (driveOf w n) at i

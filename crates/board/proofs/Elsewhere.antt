@@ -1,17 +1,16 @@
 -- A part that lies elsewhere does not meet the promise of an inspection, whatever bytes it has: not in the other unit's image, where there may be the same
 -- bytes, and not, where there is nothing to inspect, at any byte but the first of unit 0's image.
 -- The promise says where the part lies, and there is one such place.
-use Prim.Native.Nat.{ℕ, _+_, _<_}
+use Prim.Native.Nat.{ℕ, _<_}
 use mathlib.Core.Path.{_≡_, _∙_, ap, sym}
 use native.Mathlib.Omega.{arith}
 use denote.Ref.{now, ptr}
 use lib.ListN.{length}
-use Rattle.request.specs.declared.UnitNumber.the-variants.{Zero, One}
-use Rattle.board.specs.declared.inspection.Part.{Part}
+use Rattle.unit.specs.declared.UnitNumber.the-variants.{One}
 use Rattle.board.specs.Inspection.{Inspectable, liesAt}
 use Rattle.board.proofs.Parts.{of-no-unit, of-unit-one, sector-there}
 use Rattle.board.proofs.inspection.inspect.Reads as inspect
-use Rattle.unit.specs.Standing.{UnitRecord, unitOf}
+use Rattle.unit.specs.Standing.{unitOf}
 
 -- No result that is wrong in a way is allowed by a promise.
 abbrev Refuted {ℓ₀ ℓ₁ ℓ₂ ℓ₃} :

@@ -12,9 +12,8 @@ use Rattle.board.specs.declared.chain.Stepped.{Stepped}
 use Rattle.iopb.specs.declared.Block.{Block}
 use Rattle.iopb.specs.Layout.{blockAt}
 use Rattle.board.specs.Chain.{Ending}
-use Rattle.block.specs.Block.{Effect, effectAt, worldAfter}
+use Rattle.block.specs.Block.{Effect}
 use Rattle.board.specs.Steps.{CameTo, RanOne, SteppedTo}
-use Rattle.block.specs.World.{World}
 use Rattle.unit.specs.declared.Controller.the-variants.{First}
 use Rattle.board.specs.Lent.{worldOf}
 use Rattle.unit.specs.Standing.{byValue, table}
@@ -22,6 +21,7 @@ use Rattle.board.proofs.chain.run.Reads as run
 use Rattle.board.proofs.chain.run_one.Reads as run-one
 use Rattle.board.proofs.inspection.inspect.Reads as inspect
 use Rattle.board.proofs.inspection.part_of.Reads as part-of
+use Rattle.board.specs.World.{World, effectAt, worldAfter}
 
 part-of-once : OneResult part-of.Post
 part-of-once κ a x y e f p q = p ∙ sym q

@@ -10,8 +10,8 @@ use lib.ListN.{drop, length, take}
 use Rattle.geometry.specs.Drive.{B}
 use Rattle.geometry.specs.Sectors.{firstByte}
 use Rattle.geometry.proofs.Laws.{sector-in-image}
-use Rattle.request.specs.declared.UnitNumber.{UnitNumber}
-use Rattle.request.specs.declared.UnitNumber.the-variants.{Zero, One}
+use Rattle.unit.specs.declared.UnitNumber.{UnitNumber}
+use Rattle.unit.specs.declared.UnitNumber.the-variants.{Zero, One}
 use Rattle.board.specs.Inspection.{Inspectable, baseOf, bytesOf, imageOf, inspectable?, liesAt, noPart, partOf, sectorPart}
 use Rattle.board.specs.declared.inspection.Part.{Part}
 use Rattle.spares.proofs.Laws.{empty-is-good}

@@ -9,7 +9,7 @@ use lib.ListN.{length}
 use Rattle.answers.specs.declared.RunAnswer.{RunAnswer}
 use Rattle.wire.specs.Memory.{InMemory, inMemory?}
 use Rattle.board.specs.Chain.{ends, fetched, nothing, ran}
-use Rattle.block.specs.World.{World}
+use Rattle.board.specs.World.{World}
 
 module _ (first allowance : ℕ) (w : World) where
   pub ran-events-short : length (w .events) < 512 → ran first allowance w ≡ ends RunAnswer.EventsShort 0 nothing w

@@ -10,8 +10,7 @@ use Rattle.answers.specs.declared.RunAnswer.{RunAnswer}
 use Rattle.answers.specs.Numbers.{refusalNumber}
 use Rattle.iopb.specs.Layout.{blockAt}
 use Rattle.wire.specs.Memory.{inMemory?}
-use Rattle.block.specs.Block.{effectAt, worldAfter}
-use Rattle.block.specs.World.{World}
+use Rattle.board.specs.World.{World, effectAt, worldAfter}
 
 -- What is counted along a chain: the blocks run and the sectors moved.
 pub record Tally : Type 0 where

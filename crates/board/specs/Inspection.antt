@@ -7,8 +7,8 @@ use native.Mathlib.Decide.{decLe, decLt, map-dec}
 use lib.ListN.{drop, take}
 use Rattle.geometry.specs.Drive.{B, driveSectors, need}
 use Rattle.geometry.specs.Sectors.{firstByte}
-use Rattle.request.specs.declared.UnitNumber.{UnitNumber}
-use Rattle.request.specs.declared.UnitNumber.the-variants.{Zero, One}
+use Rattle.unit.specs.declared.UnitNumber.{UnitNumber}
+use Rattle.unit.specs.declared.UnitNumber.the-variants.{Zero, One}
 use Rattle.unit.specs.Standing.{CountsAsInitialized, UnitRecord, geometry}
 use Rattle.unit.proofs.Decided.{counts?}
 use Rattle.board.specs.declared.inspection.Part.{Part}

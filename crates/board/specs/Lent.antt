@@ -3,8 +3,8 @@ use Prim.Native.Nat.{ℕ}
 use mathlib.Core.List.{List}
 use Rattle.unit.specs.declared.Controller.{Controller}
 use Rattle.unit.specs.Standing.{byValue, unitOf}
-use Rattle.block.specs.World.{World}
 use Rattle.board.specs.declared.Units.{Units}
+use Rattle.board.specs.World.{World}
 
 abbrev pub worldOf : Controller → (host image0 image1 events tracks0 tracks1 : List ℕ) → Units → World
 worldOf c host image0 image1 events tracks0 tracks1 units =

@@ -3,3 +3,4 @@ pub mod Inspection
 pub mod Lent
 pub mod Records
 pub mod Steps
+pub mod World

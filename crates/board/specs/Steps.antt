@@ -6,12 +6,10 @@ use lib.ListN.{length}
 use Rattle.wire.specs.Memory.{InMemory}
 use Rattle.answers.specs.declared.RunAnswer.{RunAnswer}
 use Rattle.iopb.specs.Layout.{blockAt}
-use Rattle.block.specs.Block.{effectAt, worldAfter}
 use Rattle.block.specs.declared.Done.{Done}
 use Rattle.block.specs.declared.Known.the-variants.{Unasked}
 use Rattle.block.specs.Steps.{Knows}
 use Rattle.unit.specs.Standing.{UnitRecord, byValue}
-use Rattle.block.specs.World.{World}
 use Rattle.board.specs.declared.Units.{Units}
 use Rattle.board.specs.declared.chain.Count.{Count}
 use Rattle.board.specs.declared.chain.End.{End}
@@ -24,6 +22,7 @@ use Rattle.board.specs.declared.chain.Stepped.{Stepped}
 use Rattle.board.specs.declared.chain.Told.{Told}
 use Rattle.board.specs.Chain.{Ending, Tally}
 use Rattle.board.specs.Lent.{unitsOf, worldOf}
+use Rattle.board.specs.World.{World, effectAt, worldAfter}
 
 -- What is returned of a block, in two parts: what it told, and the record that it left of its unit.
 abbrev pub toldOf : Done → Told

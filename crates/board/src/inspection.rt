@@ -1,8 +1,8 @@
 // The inspection call: the bytes of one sector, as a part of its unit's image.
 use crate::Units;
 use geometry::Sector;
-use request::UnitNumber;
 use unit::Record;
+use unit::UnitNumber;
 ghost use mathlib.Core.Path.{_≡_};
 ghost use lib.ListN.{length};
 ghost use Rattle.board.specs.Inspection.{bytesOf, liesAt, noPart, partOf, sectorPart};

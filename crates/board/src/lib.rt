@@ -2,7 +2,6 @@
 // What one block does is block's, and is used by its promise alone; here is which block comes next, and on whose drive.
 // It trusts no caller: any memory, images, records, address and allowance get an answer.
 use unit::Record;
-ghost use mathlib.Core.Path.{_≡_};
 
 mod chain;
 mod inspection;

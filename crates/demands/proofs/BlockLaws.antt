@@ -18,13 +18,12 @@ use Rattle.judge.specs.declared.Verdict.the-variants.{Refused, Do}
 use Rattle.judge.specs.Table.{AnsweredWith, BeforeTransfer, listed, oneOf, paper}
 use Rattle.judge.proofs.Table.{answered-by-one-line, one-of, refused-before-transfer, refused-by-the-table}
 use Rattle.unit.specs.Holding.{heldByOther}
-use Rattle.request.specs.declared.UnitNumber.{UnitNumber}
+use Rattle.unit.specs.declared.UnitNumber.{UnitNumber}
 use Rattle.transfer.specs.Progress.{Progress}
 use Rattle.transfer.specs.Stores.{Stored, imageByte}
 use Rattle.transfer.proofs.Marks.{no-mark-stored}
 use Rattle.transfer.proofs.Stops.{stopped-with, stops-before-the-first, unreadable-exactly}
 use Rattle.block.specs.Block.{Effect, judged, transferOf, wordsOf}
-use Rattle.block.specs.World.{driveOf}
 use Rattle.demands.specs.Footprint.{FirstUnreadable, Unreadable, WritesHost, WritesImage, askedOf, changes, comes, leavingOf, movingOf, namedDrive, names, reportOf, transferBy, verdictOf}
 use Rattle.demands.specs.Footprint.HostWritten.{moved, report, status-word}
 use Rattle.demands.specs.Visits.{Visit, blockOf, effectOf, worldLeft}
@@ -32,6 +31,7 @@ use Rattle.demands.proofs.Fits.{drives-geometry, on-drive}
 use Rattle.demands.proofs.Keeps.{block-keeps-events, block-keeps-host, block-keeps-image, block-keeps-record}
 use Rattle.demands.proofs.Written.{data-disk, effect-is, event-written-exactly, host-written-exactly, image-written-exactly, sectors-come}
 use Rattle.unit.specs.Standing.{geometry, holder}
+use Rattle.board.specs.World.{driveOf}
 
 module _ (v : Visit) where
   -- ---- a block refused before transfer

@@ -15,8 +15,8 @@ use Rattle.answers.specs.declared.BlockAnswer.the-variants.{Ended, Failed}
 use Rattle.answers.specs.declared.RunAnswer.{RunAnswer}
 use Rattle.board.specs.Chain.{Ending, Tally, counted, ends, executed, fetched, follows}
 use Rattle.demands.specs.Visits.{EndsWith, Linked, Told, Visit, blockOf, effectOf, leadsOn, onwards, sectorsOf, visits, worldLeft}
-use Rattle.block.specs.World.{World}
 use Rattle.board.proofs.Chains.{fetched-bad, fetched-spent}
+use Rattle.board.specs.World.{World}
 
 module _ (left : ℕ) (t : Tally) (at : ℕ) (w : World) where
   abbrev pub here : Visit

@@ -18,19 +18,19 @@ use Rattle.judge.specs.Given.{Asked, on}
 use Rattle.judge.specs.Verdict.{verdict}
 use Rattle.judge.proofs.Tasks.{handshake, held-24, unknown}
 use Rattle.request.specs.declared.Task.{Task}
-use Rattle.request.specs.declared.UnitNumber.{UnitNumber}
+use Rattle.unit.specs.declared.UnitNumber.{UnitNumber}
 use Rattle.unit.specs.Holding.{heldByOther}
 use Rattle.wire.specs.Memory.{inMemory?}
 use Rattle.unit.specs.Standing.{holder}
 use Rattle.transfer.specs.Stores.{after}
-use Rattle.block.specs.Block.{transferOf, worldAfter}
-use Rattle.block.specs.World.{World, buffersOf, changed, driveOf}
+use Rattle.block.specs.Block.{transferOf}
 use Rattle.board.specs.Chain.{ran}
 use Rattle.demands.specs.Footprint.{DiskData, RunWritesImage, RunWritesRecord, Some, WritesImage, WritesRecord, askedOf, changes, leavingOf, movingOf, namedDrive, names, verdictOf}
 use Rattle.demands.specs.Visits.{Visit, blockOf, effectOf, fetchedBy, onwards, passes?, visits, worldLeft}
 use Rattle.demands.proofs.Keeps.{block-keeps-image, block-keeps-lengths, block-keeps-record, run-hands, some-none}
 use Rattle.demands.proofs.Places.{data-is-touched}
 use Rattle.demands.proofs.Written.{image-written-exactly}
+use Rattle.board.specs.World.{World, buffersOf, changed, driveOf, worldAfter}
 
 -- What is judged for a drive that the other holds moves nothing and leaves the record as it was.
 pub record Idle (v : Verdict) : Type 0 where

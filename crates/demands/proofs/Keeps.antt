@@ -9,12 +9,12 @@ use native.Mathlib.Omega.{arith}
 use lib.ListN.{getD, length}
 use Rattle.answers.specs.declared.BlockAnswer.{BlockAnswer}
 use Rattle.answers.specs.declared.BlockAnswer.the-variants.{Ended, Failed}
-use Rattle.request.specs.declared.UnitNumber.{UnitNumber}
-use Rattle.request.specs.declared.UnitNumber.the-variants.{Zero, One}
+use Rattle.unit.specs.declared.UnitNumber.{UnitNumber}
+use Rattle.unit.specs.declared.UnitNumber.the-variants.{Zero, One}
 use Rattle.transfer.specs.Stores.{Buffers, Cell, Stored, after, eventByte, held, hostByte, imageByte}
 use Rattle.transfer.proofs.Stays.{lengths-stay, unstored-stays}
 use Rattle.wire.specs.Memory.{inMemory?}
-use Rattle.block.specs.Block.{Effect, heldUnit, holderLeft, judged, leftBy, worldAfter}
+use Rattle.block.specs.Block.{Drive, Effect, heldUnit, holderLeft, judged, leftBy}
 use Rattle.block.proofs.Held.{holder-keeps}
 use Rattle.board.specs.Chain.{Ending, Tally, fetched, follows, nothing, ran}
 use Rattle.demands.specs.Footprint.{Renews, RunNames, RunWrites, RunWritesEvents, RunWritesImage, RunWritesRecord, Some, WritesEvents, WritesHost, WritesImage, WritesRecord, askedOf, changes, leavingOf, namedDrive, names, verdictOf}
@@ -28,11 +28,11 @@ use Rattle.judge.specs.declared.Verdict.the-variants.{Refused, Do}
 use Rattle.judge.specs.Fits.{LeavingFits}
 use Rattle.demands.proofs.Fits.{leaving-fits}
 use Rattle.demands.specs.Visits.{Visit, blockOf, effectOf, fetchedBy, onwards, passes?, visits, worldLeft}
-use Rattle.block.specs.World.{Drive, World, buffersOf, changed, driveOf}
 use Rattle.board.proofs.Chains.{fetched-bad, fetched-spent}
 use Rattle.demands.proofs.Endings.{fetched-step, here, then, visits-step}
 use Rattle.board.proofs.Runs.{ran-chain}
 use Rattle.demands.proofs.RunAnswers.{not-passed}
+use Rattle.board.specs.World.{World, buffersOf, changed, driveOf, worldAfter}
 
 -- Every block of some does.
 abbrev Every : (Visit → Type 0) → List Visit → Type 0

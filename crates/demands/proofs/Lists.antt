@@ -27,8 +27,7 @@ use Rattle.judge.proofs.LetThrough.{format-reports, handshake-reports, mover-le
 use Rattle.transfer.specs.Data.{progressOn}
 use Rattle.transfer.specs.Progress.{progress}
 use Rattle.unit.specs.Standing.{geometry}
-use Rattle.block.specs.Block.{transferOf, wordsOf}
-use Rattle.block.specs.World.{Drive}
+use Rattle.block.specs.Block.{Drive, transferOf, wordsOf}
 use Rattle.demands.specs.Footprint.{HostData, HostWritten, movingOf, reportOf, transferBy}
 use Rattle.demands.specs.Footprint.HostWritten.{moved, report, status-word}
 

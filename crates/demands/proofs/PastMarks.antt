@@ -13,14 +13,13 @@ use Rattle.answers.specs.declared.BlockAnswer.{BlockAnswer}
 use Rattle.answers.specs.declared.BlockAnswer.the-variants.{Ended, Failed}
 use Rattle.answers.specs.declared.RunAnswer.{RunAnswer}
 use Rattle.geometry.specs.declared.Geometry.{Geometry}
-use Rattle.request.specs.declared.UnitNumber.{UnitNumber}
-use Rattle.request.specs.declared.UnitNumber.the-variants.{Zero, One}
+use Rattle.unit.specs.declared.UnitNumber.{UnitNumber}
+use Rattle.unit.specs.declared.UnitNumber.the-variants.{Zero, One}
 use Rattle.transfer.specs.SameSectors.{SameSectors}
-use Rattle.transfer.specs.Stores.{Buffers, after}
-use Rattle.unit.specs.Standing.{UnitRecord, geometry}
+use Rattle.transfer.specs.Stores.{after}
+use Rattle.unit.specs.Standing.{geometry}
 use Rattle.wire.specs.Memory.{InMemory, inMemory?}
-use Rattle.block.specs.Block.{Effect, effectAt, effectOn, unitAt, worldAfter}
-use Rattle.block.specs.World.{Drive, World, buffersOf, changed, driveOf}
+use Rattle.block.specs.Block.{Effect, effectOn}
 use Rattle.block.proofs.PastMarks.{left-alike, one-effect}
 use Rattle.board.specs.Chain.{Ending, Tally, counted, ends, fetched, follows, nothing, ran}
 use Rattle.board.proofs.Chains.{fetched-bad, fetched-spent}
@@ -30,6 +29,7 @@ use Rattle.demands.specs.PastMarks.{EndsAlike, SameOn, imaged}
 use Rattle.demands.specs.Visits.{Passes, Visit, blockOf, effectOf, fetchedBy, onwards, passes?, visits, worldLeft}
 use Rattle.demands.proofs.Endings.{fetched-step, here, then, visits-step}
 use Rattle.demands.proofs.RunMarks.{block-keeps-geometry}
+use Rattle.board.specs.World.{World, buffersOf, changed, driveOf, effectAt, unitAt, worldAfter}
 
 -- ---- a block
 

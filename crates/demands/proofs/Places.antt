@@ -42,8 +42,7 @@ use Rattle.request.specs.declared.Track.{Track}
 use Rattle.transfer.specs.Progress.{stopsAt}
 use Rattle.transfer.proofs.Progress.{progress-most}
 use Rattle.transfer.proofs.Wholes.{some-bytes}
-use Rattle.block.specs.Block.{transferOf}
-use Rattle.block.specs.World.{Drive, driveOf}
+use Rattle.block.specs.Block.{Drive, transferOf}
 use Rattle.demands.specs.Footprint.{DiskData, askedOf, comes, movingOf, namedDrive, names, transferBy}
 use Rattle.demands.specs.Tables.{NamesSector, ReachedByCommands, Touches}
 use Rattle.demands.specs.Tables.NamesSector.{by-number, on-its-track}
@@ -52,6 +51,7 @@ use Rattle.demands.proofs.Fits.{drives-geometry}
 use Rattle.demands.proofs.Keeps.{block-keeps-image}
 use Rattle.demands.proofs.Tables.{reached-counts}
 use Rattle.demands.proofs.Written.{image-written-exactly}
+use Rattle.board.specs.World.{driveOf}
 
 -- A place where an address that a block names lands, on a unit that counts as initialized.
 record Lands (a : Asked) (place : ℕ) : Type 0 where

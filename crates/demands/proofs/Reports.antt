@@ -2,10 +2,9 @@
 -- Nothing is stored after the words but word 1, which lies elsewhere, and the entry; the data is taken before them.
 use Prim.Native.Nat.{ℕ, _+_, _-_, _*_, _%_, _≤_, _<_}
 use mathlib.Core.Bool.{false}
-use mathlib.Core.List.{List, [], _∷_, _++_}
+use mathlib.Core.List.{List, _++_}
 use mathlib.Core.Logic.{inl, inr}
-use mathlib.Core.Path.{_≡_, refl, sym, ap, _∙_}
-use native.Mathlib.Nat.{zero-add}
+use mathlib.Core.Path.{_≡_, ap, _∙_}
 use native.Mathlib.Omega.{arith}
 use lib.ListN.{getD, length}
 use Rattle.wire.specs.Words.{be16, word}
@@ -19,7 +18,7 @@ use Rattle.judge.specs.declared.Plan.{Plan}
 use Rattle.judge.specs.declared.Verdict.{Verdict}
 use Rattle.judge.specs.declared.Verdict.the-variants.{Do}
 use Rattle.judge.specs.Asks.{planOf}
-use Rattle.judge.proofs.LetThrough.{own-plan, plan-fits}
+use Rattle.judge.proofs.LetThrough.{own-plan}
 use Rattle.request.specs.declared.Task.the-variants.{Format}
 use Rattle.request.specs.declared.Track.{Track}
 use Rattle.transfer.specs.Data.{Transfer, dataOn, diskByte, formatting}
@@ -28,15 +27,15 @@ use Rattle.transfer.proofs.Stays.{host-bytes-stored, lengths-stay}
 use Rattle.transfer.proofs.Stores.{after-append}
 use Rattle.unit.specs.Landing.{trackOf}
 use Rattle.unit.specs.Standing.{geometry}
-use Rattle.block.specs.Block.{Effect, begun, reported, transferOf, wordsOf}
-use Rattle.block.specs.World.{buffersOf, driveOf}
+use Rattle.block.specs.Block.{begun, reported, transferOf, wordsOf}
 use Rattle.block.proofs.Told.{row-stands}
 use Rattle.demands.specs.Footprint.{WritesHost, askedOf, movingOf, namedDrive, names, transferBy, verdictOf}
 use Rattle.demands.specs.Visits.{Visit, effectOf, worldLeft}
 use Rattle.demands.proofs.Keeps.{block-keeps-host, buffers-left}
 use Rattle.demands.proofs.Lists.{Formats, Listed, written-for}
 use Rattle.demands.proofs.Whole.{disk-has-the-hosts-bytes, markedHost, write-ends-whole}
-use Rattle.demands.proofs.Written.{closing-keeps-host, closing-keeps-image, effect-is, host-written-exactly, performance, performed-then-closed}
+use Rattle.demands.proofs.Written.{closing-keeps-host, host-written-exactly, performance, performed-then-closed}
+use Rattle.board.specs.World.{buffersOf, driveOf}
 
 -- The words of a report lie in the block, and not in word 1.
 words-lie : (r : Report) → (4 ≤ wordsOf r .from) × (wordsOf r .from + length (wordsOf r .bytes) ≤ 28)

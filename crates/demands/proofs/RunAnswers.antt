@@ -18,9 +18,9 @@ use Rattle.answers.specs.declared.RunAnswer.the-variants.{Done, EventsShort, Al
 use Rattle.answers.specs.Numbers.{refusalNumber, runNumber}
 use Rattle.board.specs.Chain.{Ending, Tally, ends, nothing, ran}
 use Rattle.demands.specs.Visits.{EndsWith, Passes, Told, Visit, blockOf, effectOf, fetchedBy, lastOf, passes?, sectorsOf, visits}
-use Rattle.block.specs.World.{World}
 use Rattle.demands.proofs.Endings.{chain-told, visits-few}
 use Rattle.board.proofs.Runs.{ran-allowance-bad, ran-chain, ran-events-short, ran-first-bad}
+use Rattle.board.specs.World.{World}
 
 -- ---- one answer for one last block
 

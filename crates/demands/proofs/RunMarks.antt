@@ -10,15 +10,15 @@ use Rattle.geometry.specs.declared.Geometry.{Geometry}
 use Rattle.geometry.specs.Drive.{marksAt}
 use Rattle.judge.specs.declared.Leaving.{Leaving}
 use Rattle.judge.specs.declared.Leaving.the-variants.{AsItWas, HeadsAt, HeadsAtLastTried, Fresh, Mapped}
-use Rattle.request.specs.declared.UnitNumber.{UnitNumber}
-use Rattle.block.specs.Block.{leftBy}
+use Rattle.unit.specs.declared.UnitNumber.{UnitNumber}
+use Rattle.block.specs.Block.{Drive, leftBy}
 use Rattle.board.specs.Chain.{ran}
 use Rattle.demands.specs.Footprint.{Renews, Some, askedOf, leavingOf, namedDrive, names, verdictOf}
 use Rattle.demands.specs.Visits.{Visit, effectOf, fetchedBy, worldLeft}
-use Rattle.block.specs.World.{Drive, World, driveOf}
 use Rattle.demands.proofs.BlockLaws.{no-mark}
 use Rattle.demands.proofs.Keeps.{block-keeps-drive, block-keeps-image, left-keeps, run-hands, run-keeps, same-unit?}
 use Rattle.unit.specs.Standing.{UnitRecord, geometry}
+use Rattle.board.specs.World.{World, driveOf}
 
 -- A block keeps an image byte of a unit that it does not name, and one from the marks on of the unit that it names.
 block-keeps-marks :

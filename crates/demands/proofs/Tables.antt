@@ -36,13 +36,12 @@ use Rattle.request.specs.declared.Shape.{Shape}
 use Rattle.request.specs.declared.Shape.the-variants.{Given, Misplaced}
 use Rattle.request.specs.declared.Task.{Task}
 use Rattle.request.specs.declared.Task.the-variants.{Initialize, Map}
-use Rattle.request.specs.declared.UnitNumber.{UnitNumber}
+use Rattle.unit.specs.declared.UnitNumber.{UnitNumber}
 use Rattle.spares.specs.Table.{BlankPast}
 use Rattle.transfer.specs.Data.{dataOn, moveAt}
 use Rattle.transfer.specs.Progress.{progress}
 use Rattle.transfer.specs.Stores.{Store, bytesFrom, upTo}
-use Rattle.block.specs.Block.{Effect, Performance, begun, finish, finished, holding, reported, judged, leftBy, transferOf}
-use Rattle.block.specs.World.{Drive, World, driveOf}
+use Rattle.block.specs.Block.{Drive, Effect, Performance, begun, finish, finished, holding, judged, leftBy, reported, transferOf}
 use Rattle.block.proofs.Held.{held-counts}
 use Rattle.block.proofs.Kept.{still-blank, still-counts}
 use Rattle.board.specs.Chain.{ran}
@@ -53,6 +52,7 @@ use Rattle.demands.specs.Visits.{Visit, blockOf, effectOf, fetchedBy, wo
 use Rattle.demands.proofs.Fits.{leaving-fits}
 use Rattle.demands.proofs.Keeps.{block-keeps-drive, left-keeps, leftThen, named-record, run-hands, run-keeps, same-unit?, some-none, unit-left}
 use Rattle.demands.proofs.Written.{effect-is}
+use Rattle.board.specs.World.{World, driveOf}
 
 -- ---- an 85
 

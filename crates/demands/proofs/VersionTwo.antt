@@ -22,12 +22,12 @@ use Rattle.transfer.proofs.Earlier.{host-has-byte}
 use Rattle.transfer.proofs.Stays.{host-bytes-stored, lengths-stay}
 use Rattle.transfer.proofs.Stores.{after-append}
 use Rattle.block.specs.Block.{begun, judged, reported, transferOf, wordsOf}
-use Rattle.block.specs.World.{buffersOf}
 use Rattle.demands.specs.Footprint.{HostData, WritesHost, askedOf, comes, movingOf, namedDrive, names, reportOf, transferBy, verdictOf, wordsBy}
 use Rattle.demands.specs.Footprint.HostWritten.{moved, report, status-word}
 use Rattle.demands.specs.Visits.{Visit, effectOf, worldLeft}
 use Rattle.demands.proofs.Keeps.{block-keeps-host, buffers-left}
 use Rattle.demands.proofs.Written.{closing-keeps-host, host-written-exactly, performance, performed-then-closed, sectors-come}
+use Rattle.board.specs.World.{buffersOf}
 
 -- A block that moves sectors to host memory was accepted, and reports nothing.
 module _ (v : Visit) (reads : transferBy (askedOf v) .to-host ≡ true) where

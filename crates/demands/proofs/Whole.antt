@@ -15,7 +15,7 @@ use Rattle.judge.specs.declared.Moving.{Moving}
 use Rattle.judge.specs.declared.Moving.the-variants.{Nothing, Sectors, Track}
 use Rattle.judge.specs.declared.Plan.{Plan}
 use Rattle.judge.specs.declared.Verdict.{Verdict}
-use Rattle.judge.specs.declared.Verdict.the-variants.{Refused, Do}
+use Rattle.judge.specs.declared.Verdict.the-variants.{Do}
 use Rattle.judge.specs.Asks.{planOf}
 use Rattle.judge.proofs.LetThrough.{own-plan}
 use Rattle.request.specs.declared.Task.{Task}
@@ -27,13 +27,13 @@ use Rattle.transfer.proofs.Stays.{host-bytes-stored}
 use Rattle.transfer.proofs.Stops.{whole-unheeding}
 use Rattle.transfer.proofs.Stores.{after-append}
 use Rattle.block.specs.Block.{Effect, begun, judged, reported, transferOf, wordsOf}
-use Rattle.block.specs.World.{buffersOf, driveOf}
 use Rattle.demands.specs.Footprint.{askedOf, movingOf, namedDrive, names, transferBy, verdictOf}
 use Rattle.unit.specs.Standing.{geometry}
 use Rattle.demands.specs.Visits.{Visit, blockOf, effectOf, worldLeft}
 use Rattle.demands.proofs.Fits.{all-in-image}
 use Rattle.demands.proofs.Keeps.{buffers-left}
 use Rattle.demands.proofs.Written.{closing-keeps-image, effect-is, performance, performed-then-closed, sectors-come}
+use Rattle.board.specs.World.{buffersOf, driveOf}
 
 -- Host memory as a transfer finds it: the block is marked with 81 00.
 abbrev pub markedHost : Visit → List ℕ

@@ -23,12 +23,12 @@ use Rattle.transfer.specs.Progress.{progress}
 use Rattle.transfer.specs.Stores.{Buffers, Cell, Store, Stored, after, bytesFrom, eventByte, hostByte, imageByte, upTo}
 use Rattle.transfer.proofs.Stays.{append-stored, bytes-stored, image-stays, stored-of-append, stored-of-bytes, stored-of-upTo, unstored-stays, upTo-stored}
 use Rattle.transfer.proofs.Stores.{after-append}
-use Rattle.block.specs.Block.{Effect, Performance, Words, begun, effectAt, effectOn, finish, finished, holding, judged, reported, transferOf, wordsOf}
+use Rattle.block.specs.Block.{Drive, Effect, Performance, Words, begun, effectOn, finish, finished, holding, judged, reported, transferOf, wordsOf}
 use Rattle.block.specs.Events.{entry}
-use Rattle.block.specs.World.{Drive}
 use Rattle.demands.specs.Footprint.{WritesEvents, WritesHost, WritesImage, askedOf, comes, movingOf, namedDrive, reportOf, transferBy, verdictOf, wordsBy}
 use Rattle.demands.specs.Footprint.HostWritten.{moved, report, status-word}
 use Rattle.demands.specs.Visits.{Visit, blockOf, effectOf}
+use Rattle.board.specs.World.{effectAt}
 
 index : Cell → ℕ
 index (hostByte x) = x

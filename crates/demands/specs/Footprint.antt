@@ -19,13 +19,13 @@ use Rattle.judge.specs.declared.Verdict.{Verdict}
 use Rattle.judge.specs.declared.Verdict.the-variants.{Refused, Do}
 use Rattle.judge.specs.Given.{Asked}
 use Rattle.judge.specs.Verdict.{verdict}
-use Rattle.request.specs.declared.UnitNumber.{UnitNumber}
+use Rattle.unit.specs.declared.UnitNumber.{UnitNumber}
 use Rattle.transfer.specs.Data.{Transfer, diskByte, progressOn}
 use Rattle.transfer.specs.Progress.{Progress}
 use Rattle.transfer.specs.Unreadable.{MeetsUnreadable, StopsBefore}
-use Rattle.block.specs.Block.{Words, asking, transferOf, unitAt, wordsOf}
-use Rattle.block.specs.World.{Drive, World, driveOf}
+use Rattle.block.specs.Block.{Drive, Words, asking, transferOf, wordsOf}
 use Rattle.demands.specs.Visits.{Visit, blockOf, fetchedBy}
+use Rattle.board.specs.World.{World, driveOf, unitAt}
 
 -- What a verdict has moved, reported and left: a refused block moves nothing, reports nothing and leaves the record as it was.
 abbrev pub movingOf : Verdict → Moving

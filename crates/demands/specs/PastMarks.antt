@@ -4,11 +4,12 @@ use Prim.Native.Nat.{ℕ}
 use mathlib.Core.List.{List}
 use mathlib.Core.Path.{_≡_}
 use Rattle.board.specs.Chain.{Ending}
-use Rattle.block.specs.World.{Drive, World, driveOf}
-use Rattle.request.specs.declared.UnitNumber.{UnitNumber}
-use Rattle.request.specs.declared.UnitNumber.the-variants.{Zero, One}
+use Rattle.unit.specs.declared.UnitNumber.{UnitNumber}
+use Rattle.unit.specs.declared.UnitNumber.the-variants.{Zero, One}
 use Rattle.transfer.specs.SameSectors.{SameSectors}
 use Rattle.unit.specs.Standing.{geometry}
+use Rattle.block.specs.Block.{Drive}
+use Rattle.board.specs.World.{World, driveOf}
 
 -- A drive with another image, and the drive of unit m where unit n is to have it.
 abbrev withImage : List ℕ → Drive → Drive

@@ -18,10 +18,10 @@ use Rattle.iopb.specs.declared.Block.{Block}
 use Rattle.iopb.specs.Layout.{blockAt}
 use Rattle.wire.specs.Memory.{InMemory, inMemory?}
 use Rattle.transfer.specs.Stores.{Store, bytesFrom, eventByte}
-use Rattle.block.specs.Block.{Effect, effectAt, worldAfter}
+use Rattle.block.specs.Block.{Effect}
 use Rattle.block.specs.Events.{InRange, entry}
-use Rattle.block.specs.World.{World}
 use Rattle.board.specs.Chain.{Ending, Tally}
+use Rattle.board.specs.World.{World, effectAt, worldAfter}
 
 -- A block that was fetched: its address, how many were run before it, and the world before it.
 pub record Visit : Type 0 where

@@ -1,6 +1,6 @@
 -- The statements about a geometry are decided, so that definitions elsewhere can go by cases on them.
 -- The limits on the volumes are decided by their ends, as the program decides them; the rest are comparisons.
-use Prim.Native.Nat.{_<_, _≤_, _%_}
+use Prim.Native.Nat.{_%_}
 use mathlib.Core.Logic.{Dec·and, inl, inr, by-cases}
 use native.Mathlib.Decide.{decLe, decLt, map-dec, ℕ-discrete}
 use native.Mathlib.Omega.{arith}

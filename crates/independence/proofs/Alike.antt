@@ -30,15 +30,15 @@ use Rattle.judge.proofs.LetThrough.{list-let-through}
 use Rattle.judge.proofs.Locality.{block-local}
 use Rattle.transfer.specs.Data.{Transfer, dataOn, progressOn}
 use Rattle.transfer.proofs.Joined.{joined-same}
-use Rattle.block.specs.Block.{Performance, asking, begun, bufferOf, dataByte, finished, holding, judged, leftBy, reported, transferOf, transferWith, travelled}
+use Rattle.block.specs.Block.{Drive, Performance, asking, begun, bufferOf, dataByte, finished, holding, judged, leftBy, reported, transferOf, transferWith, travelled}
 use Rattle.unit.specs.Standing.{cylinder}
-use Rattle.block.specs.World.{Drive, World, driveOf}
 use Rattle.demands.specs.Footprint.{askedOf, movingOf, namedDrive, names, transferBy, verdictOf}
 use Rattle.demands.specs.Visits.{Visit, blockOf, effectOf}
 use Rattle.demands.proofs.Written.{effect-is}
 use Rattle.independence.specs.Reads.{HostRead, ReadsHost}
 use Rattle.independence.specs.Reads.HostRead.{block, its-list, its-uib, moved}
 use Rattle.independence.proofs.Lengths.{list-read-alike, uib-read-alike}
+use Rattle.board.specs.World.{World, driveOf}
 
 block-same : (h k : List ℕ) (at : ℕ) → ((x : ℕ) → Among at 28 x → getD h x 0 ≡ getD k x 0) → blockAt h at ≡ blockAt k at
 block-same h k at alike =

@@ -5,7 +5,6 @@ use mathlib.Core.Bool.{Bool}
 use mathlib.Core.Path.{_≡_, refl, ap}
 use lib.ListN.{getD}
 use Rattle.answers.specs.declared.BlockAnswer.{BlockAnswer}
-use Rattle.block.specs.World.{World}
 use Rattle.demands.specs.Footprint.{WritesHost, names}
 use Rattle.demands.specs.Visits.{Visit, blockOf, effectOf}
 use Rattle.demands.proofs.Written.{host-written-exactly}
@@ -15,6 +14,7 @@ use Rattle.independence.specs.Worlds.{byte, disk, worlds}
 use Rattle.independence.proofs.Alike.{block-alike, effect-alike, names-alike, reads-alike}
 use Rattle.independence.proofs.Sources.{sources-are-read}
 use Rattle.independence.proofs.Works.{GoesAlike, Work, work-local, working}
+use Rattle.board.specs.World.{World}
 
 -- What a chain goes by after a block.
 pub record Next : Type 0 where

@@ -7,15 +7,15 @@ use Prim.Native.Nat.{ℕ}
 use lib.ListN.{getD, length}
 use lib.Seq.{ext-getD}
 use Rattle.wire.proofs.Promises.{never}
-use Rattle.request.specs.declared.UnitNumber.the-variants.{Zero, One}
+use Rattle.unit.specs.declared.UnitNumber.the-variants.{Zero, One}
 use Rattle.unit.specs.declared.Controller.{Controller}
 use Rattle.unit.specs.declared.Controller.the-variants.{First as FirstController, Second as SecondController}
-use Rattle.block.specs.World.{World}
 use Rattle.independence.specs.Chains.{Both, Cell, First, Holds, Second, Which, both, cellsOf, drive, eventBuffer, holds, hostByte, hostOf, leaving, placeOf, worldFor}
 use Rattle.independence.specs.Local.{Extensional, Stable}
 use Rattle.independence.specs.Worlds.{byte, disk, events, holds as found, worlds}
 use Rattle.independence.proofs.Places.{Faithful}
 use Rattle.independence.proofs.Worlds.{buffer-certain, byte-certain, drive-certain}
+use Rattle.board.specs.World.{World}
 
 -- ---- the kind of state
 

@@ -25,7 +25,6 @@ use Rattle.judge.specs.Given.{Asked}
 use Rattle.judge.specs.Reads.{InList, InUib}
 use Rattle.transfer.specs.Progress.{progress}
 use Rattle.block.specs.Block.{transferOf}
-use Rattle.block.specs.World.{World}
 use Rattle.board.specs.Chain.{ran}
 use Rattle.request.specs.declared.Buffer.{Buffer}
 use Rattle.request.specs.declared.Move.{Move}
@@ -39,11 +38,12 @@ use Rattle.demands.proofs.Written.{effect-is, sectors-come}
 use Rattle.independence.specs.Chains.{Both, Chain, First, HostReads, HostWrites, Names, Second, Told, runOf, told, worldFor}
 use Rattle.independence.specs.Demand3.{EitherWay, Independent, NoUnitInCommon, NoByteReadByOther, NoByteWrittenByBoth}
 use Rattle.independence.specs.Reads.{ReadsHost, RunReads}
-use Rattle.request.specs.declared.UnitNumber.{UnitNumber}
-use Rattle.request.specs.declared.UnitNumber.the-variants.{Zero, One}
+use Rattle.unit.specs.declared.UnitNumber.{UnitNumber}
+use Rattle.unit.specs.declared.UnitNumber.the-variants.{Zero, One}
 use Rattle.independence.specs.TwoChains.{come, driveOn, driveWith}
 use Rattle.independence.proofs.OneBlock.{Apart, In, done, failed, no-data, no-words, none-in-both, of-block, reads-in, writes-in}
 use Rattle.independence.proofs.Tiny.{carriedOn, move-passes, moveOf, read-of-one, read-stopped, unit, write-of-one}
+use Rattle.board.specs.World.{World}
 
 pub passes-at :
     (w : World) (at : ℕ) → length (w .events) ≡ 512 → at % 2 ≡ 0 → at + 28 ≤ length (w .host) → Passes at 1 w

@@ -3,13 +3,13 @@
 use mathlib.Core.Path.{_≡_, refl, sym, ap, _∙_}
 use Rattle.unit.specs.declared.Controller.{Controller}
 use Rattle.unit.specs.declared.Controller.the-variants.{First as FirstController, Second as SecondController}
-use Rattle.block.specs.World.{World}
 use Rattle.board.specs.Chain.{ran}
 use Rattle.demands.specs.Visits.{fetchedBy}
 use Rattle.demands.proofs.HeldDrives.{block-keeps-controller}
 use Rattle.demands.proofs.Keeps.{run-keeps, some-none}
 use Rattle.independence.specs.Chains.{Both, Chain, First, Second, Which, eventsOf, hostOf, leaving, runOf, told, worldFor}
 use Rattle.independence.specs.Controllers.{EachForItself}
+use Rattle.board.specs.World.{World}
 
 -- What is put back is found, and what is another's stays.
 found-again : (t : Which) (c : Controller) (s : Both) (w : World) → w .controller ≡ c → worldFor t c (leaving t c s w) ≡ w

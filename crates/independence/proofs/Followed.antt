@@ -11,8 +11,6 @@ use Rattle.wire.proofs.Memory.{range-same}
 use Rattle.answers.specs.declared.BlockAnswer.{BlockAnswer}
 use Rattle.answers.specs.declared.BlockAnswer.the-variants.{Ended, Failed}
 use Rattle.answers.specs.declared.RunAnswer.{RunAnswer}
-use Rattle.block.specs.Block.{worldAfter}
-use Rattle.block.specs.World.{World}
 use Rattle.board.specs.Chain.{Tally, counted, fetched, follows}
 use Rattle.board.proofs.Chains.{fetched-bad}
 use Rattle.demands.specs.Footprint.{Some, WritesHost, names}
@@ -27,6 +25,7 @@ use Rattle.independence.proofs.Branches.{SameAt, branch-local, still, s
 use Rattle.independence.proofs.Steps.{then-local}
 use Rattle.independence.proofs.Worlds.{worlds-stable}
 use Rattle.independence.proofs.Works.{working}
+use Rattle.board.specs.World.{World, worldAfter}
 
 -- ---- the footprint of some blocks
 

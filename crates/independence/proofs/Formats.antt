@@ -22,12 +22,12 @@ use Rattle.demands.specs.Visits.{Passes, Visit, blockOf}
 use Rattle.demands.proofs.Fits.{drives-geometry}
 use Rattle.demands.proofs.Reports.{FormatTold, format-told}
 use Rattle.demands.proofs.Written.{sectors-come}
-use Rattle.block.specs.World.{World}
 use Rattle.independence.specs.Reads.{ReadsHost, RunReads}
 use Rattle.independence.specs.Reads.HostRead.{moved as taken}
 use Rattle.independence.proofs.Carried.{Alone, alone, no-list, no-uib, no-way, v}
 use Rattle.independence.proofs.OneBlock.{by-block}
 use Rattle.independence.proofs.Tiny.{track}
+use Rattle.board.specs.World.{World}
 
 module _
     (w : World) (passes : Passes 0 1 w) (buffer : ℕ) (task : taskOf (w .host) (blockOf (v w 0 passes)) ≡ Task.Format (track buffer))

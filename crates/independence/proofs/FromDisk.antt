@@ -25,11 +25,10 @@ use Rattle.judge.proofs.EachTask.{passes-first}
 use Rattle.judge.proofs.First.{never}
 use Rattle.judge.proofs.Locality.{placed-uib-read}
 use Rattle.judge.proofs.Tasks.{own, shape-given, shape-outside}
-use Rattle.request.specs.declared.UnitNumber.the-variants.{Zero, One}
+use Rattle.unit.specs.declared.UnitNumber.the-variants.{Zero, One}
 use Rattle.transfer.specs.Stores.{after, bytesFrom, upTo}
 use Rattle.unit.specs.declared.Controller.the-variants.{First as FirstController}
-use Rattle.block.specs.Block.{begun, finish, unitAt, worldAfter}
-use Rattle.block.specs.World.{World, buffersOf, changed}
+use Rattle.block.specs.Block.{begun, finish}
 use Rattle.board.specs.Chain.{ends, ran}
 use Rattle.demands.specs.Footprint.{WritesHost, askedOf, namedDrive, verdictOf}
 use Rattle.demands.specs.Footprint.HostWritten.{moved as given}
@@ -45,6 +44,7 @@ use Rattle.independence.proofs.Carried.{Alone, Carried, LiesOf, comes-d
 use Rattle.independence.proofs.Linked.{Leads, by-second, done-both, lies-in-both, visit}
 use Rattle.independence.proofs.OneBlock.{In, by-block, done}
 use Rattle.independence.proofs.Tiny.{copies, counts, cylinder-0, read-of-one, read-stores, unit}
+use Rattle.board.specs.World.{World, buffersOf, changed, unitAt, worldAfter}
 
 -- What a read of the first sector leaves, as the block after i others.
 abbrev readWorld : World → (at i buffer : ℕ) → World

@@ -26,8 +26,7 @@ use Rattle.judge.specs.Given.{Asked, BadPlace}
 use Rattle.judge.specs.Reads.{InList, InUib}
 use Rattle.judge.proofs.First.{none-of-all, none-of-parts}
 use Rattle.unit.specs.declared.Controller.{Controller}
-use Rattle.block.specs.Block.{asking}
-use Rattle.block.specs.World.{Drive}
+use Rattle.block.specs.Block.{Drive, asking}
 
 no-shape-moves : {s : Shape} {m : Move} → Initialize s ≡ Moves m → ⊥
 no-shape-moves e = never cc

@@ -8,8 +8,7 @@ use mathlib.Core.Path.{_≡_, sym, ap, subst, _∙_}
 use native.Mathlib.Omega.{arith}
 use Rattle.answers.specs.declared.BlockAnswer.the-variants.{Ended}
 use Rattle.answers.specs.declared.RunAnswer.{RunAnswer}
-use Rattle.request.specs.declared.UnitNumber.{UnitNumber}
-use Rattle.block.specs.World.{World}
+use Rattle.unit.specs.declared.UnitNumber.{UnitNumber}
 use Rattle.board.specs.Chain.{ends, nothing, ran}
 use Rattle.board.proofs.Runs.{ran-chain}
 use Rattle.demands.specs.Footprint.{RunNames, RunWrites, Some, WritesHost, names}
@@ -19,6 +18,7 @@ use Rattle.demands.proofs.Written.{effect-is}
 use Rattle.independence.specs.Reads.{ReadsHost, RunReads}
 use Rattle.independence.proofs.Carried.{Alone, Lies}
 use Rattle.independence.proofs.OneBlock.{In, by-block, none-onwards}
+use Rattle.board.specs.World.{World}
 
 in-first : (rs qs : List (ℕ × ℕ)) (x : ℕ) → In rs x → In (rs ++ qs) x
 in-first (r ∷ rs) qs x (inl here) = inl here

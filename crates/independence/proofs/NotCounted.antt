@@ -20,7 +20,7 @@ use Rattle.judge.specs.declared.Verdict.{Verdict}
 use Rattle.judge.specs.Asks.{planOf}
 use Rattle.request.specs.declared.Buffer.{Buffer}
 use Rattle.request.specs.declared.Task.{Task}
-use Rattle.request.specs.declared.UnitNumber.the-variants.{Zero, One}
+use Rattle.unit.specs.declared.UnitNumber.the-variants.{Zero, One}
 use Rattle.unit.specs.declared.Controller.the-variants.{First as FirstController}
 use Rattle.unit.specs.Standing.{fresh}
 use Rattle.independence.specs.Chains.{HostReads, told}

@@ -21,7 +21,6 @@ use Rattle.judge.specs.Reads.{InList, InUib}
 use Rattle.transfer.specs.Data.{progressOn}
 use Rattle.transfer.specs.Progress.{progress}
 use Rattle.block.specs.Block.{transferOf, wordsOf}
-use Rattle.block.specs.World.{World}
 use Rattle.board.specs.Chain.{Ending, Tally, ends, follows, nothing, ran}
 use Rattle.board.proofs.Runs.{ran-chain}
 use Rattle.demands.specs.Footprint.{HostData, Some, WritesHost, askedOf, movingOf, namedDrive, reportOf, verdictOf, wordsBy}
@@ -31,6 +30,7 @@ use Rattle.demands.proofs.Endings.{fetched-step, visits-step}
 use Rattle.independence.specs.Reads.{ReadsHost}
 use Rattle.independence.specs.Reads.HostRead.{block, its-list, its-uib, moved as taken}
 use Rattle.unit.specs.Standing.{geometry}
+use Rattle.board.specs.World.{World}
 
 pub none-onwards : (a : BlockAnswer) (linked : Bool) → onwards a linked [] ≡ []
 none-onwards (Failed r) linked = refl

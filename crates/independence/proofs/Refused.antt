@@ -27,8 +27,6 @@ use Rattle.request.specs.declared.Shape.{Shape}
 use Rattle.request.specs.declared.Task.{Task}
 use Rattle.unit.specs.Holding.{heldByOther}
 use Rattle.unit.specs.Standing.{CountsAsInitialized, holder}
-use Rattle.block.specs.Block.{unitAt}
-use Rattle.block.specs.World.{World}
 use Rattle.board.specs.Chain.{ran}
 use Rattle.demands.specs.Footprint.{RunWrites, WritesHost, askedOf, namedDrive, verdictOf}
 use Rattle.demands.specs.Footprint.HostWritten.{status-word}
@@ -38,6 +36,7 @@ use Rattle.independence.specs.TwoChains.{come, driveWith}
 use Rattle.independence.proofs.Carried.{Alone, alone, comes-done, comes-refused, idle, no-list, no-uib, silent, still, v}
 use Rattle.independence.proofs.OneBlock.{by-block}
 use Rattle.independence.proofs.Tiny.{counts, free, long-list-refused, moveBy, unit}
+use Rattle.board.specs.World.{World, unitAt}
 
 -- A chain of one block that reads its 28 bytes and writes its word 1, and what it comes to.
 pub record Bare (w : World) (at : ℕ) (t : Told) : Type 0 where

@@ -9,7 +9,6 @@ use native.Mathlib.Omega.{arith}
 use lib.ListN.{length}
 use Rattle.wire.proofs.Memory.{range-same}
 use Rattle.answers.specs.declared.RunAnswer.{RunAnswer}
-use Rattle.block.specs.World.{World}
 use Rattle.board.specs.Chain.{nothing, ran}
 use Rattle.board.proofs.Runs.{ran-allowance-bad, ran-chain, ran-events-short, ran-first-bad}
 use Rattle.demands.specs.Footprint.{WritesHost}
@@ -21,6 +20,7 @@ use Rattle.independence.specs.Reads.{ReadsHost}
 use Rattle.independence.specs.Worlds.{events, worlds}
 use Rattle.independence.proofs.Branches.{SameAt, branch-local, still, still-local}
 use Rattle.independence.proofs.Followed.{NoBlock, chain-local, chainOn, of-same}
+use Rattle.board.specs.World.{World}
 
 module _ (chain : Chain) where
   abbrev first : ℕ

@@ -17,9 +17,8 @@ use Rattle.judge.specs.declared.Verdict.{Verdict}
 use Rattle.judge.specs.declared.Verdict.the-variants.{Refused, Do}
 use Rattle.transfer.specs.Data.{Transfer, dataOn, moveAt, progressOn}
 use Rattle.transfer.specs.Stores.{Cell, Store, bytesFrom, copyOf, eventByte, hostByte, imageByte, upTo}
-use Rattle.block.specs.Block.{Effect, begun, finish, judged, reported, transferOf, wordsOf}
+use Rattle.block.specs.Block.{Drive, Effect, begun, finish, judged, reported, transferOf, wordsOf}
 use Rattle.block.specs.Events.{entry}
-use Rattle.block.specs.World.{Drive}
 use Rattle.demands.specs.Footprint.{askedOf, movingOf, namedDrive, transferBy, verdictOf}
 use Rattle.demands.specs.Visits.{Visit, blockOf, effectOf}
 use Rattle.demands.proofs.Written.{effect-is, performance}

@@ -34,8 +34,7 @@ use Rattle.transfer.specs.Data.{dataOn}
 use Rattle.transfer.specs.Progress.{progress, stopsAt}
 use Rattle.transfer.specs.Stores.{after, bytesFrom, upTo}
 use Rattle.transfer.specs.Stores as Stores
-use Rattle.block.specs.World.{World, buffersOf, changed}
-use Rattle.block.specs.Block.{begun, finish, transferOf, worldAfter, wordsOf}
+use Rattle.block.specs.Block.{begun, finish, transferOf, wordsOf}
 use Rattle.iopb.specs.Identity.{identityBytes}
 use lib.IntN.{pos}
 use Rattle.demands.specs.Footprint.{RunWrites, WritesHost, askedOf, namedDrive, names, reportOf, transferBy, verdictOf}
@@ -53,13 +52,14 @@ use Rattle.independence.proofs.Both.{no-chain-is-both}
 use Rattle.independence.proofs.Demand3.{run-local}
 use Rattle.independence.proofs.Steps.{unnoticed}
 use Rattle.request.specs.declared.Task.{Task}
-use Rattle.request.specs.declared.UnitNumber.the-variants.{Zero, One}
+use Rattle.unit.specs.declared.UnitNumber.the-variants.{Zero, One}
 use Rattle.independence.specs.TwoChains.{adjacent, besideFormat, come, driveWith, firstIn, formatRead, newDrive, ofFirst, ofSecond, one, readByOther, refusedData, refusedFormat, secondIn, sharedUnit, stoppedRead, tiny, two, writtenTwice, Met, Fails}
 use Rattle.independence.proofs.Carried.{Alone, Carried, alone, came, comes-done, comes-refused, data-byte, differ, fails-otherwise, host-byte-is, idle, initialized, met, no-list, no-uib, no-unit, no-way, none-read, none-twice, passes-at, read-carried, read-stopped-carried, still, v, write-carried, writing}
 use Rattle.independence.proofs.Formats.{format-alone, format-comes, format-wrote}
 use Rattle.independence.proofs.OneBlock.{In, by-block, done, failed, leaves}
 use Rattle.independence.proofs.Refused.{Bare, unready-unread}
 use Rattle.independence.proofs.Tiny.{counts, format-passes, heads-there, moveOf, place-is, starts-at, track, unit}
+use Rattle.board.specs.World.{World, buffersOf, changed, worldAfter}
 
 abbrev first-of : Both → Visit
 first-of s = record { at = 0; index = 0; world = firstIn s }

@@ -20,15 +20,14 @@ use Rattle.judge.specs.Asks.{only}
 use Rattle.judge.proofs.First.{never}
 use Rattle.judge.proofs.Tasks.{held-24, own, restore-done}
 use Rattle.request.specs.declared.Task.{Task}
-use Rattle.request.specs.declared.UnitNumber.the-variants.{Zero, One}
+use Rattle.unit.specs.declared.UnitNumber.the-variants.{Zero, One}
 use Rattle.transfer.specs.Data.{dataOn}
 use Rattle.transfer.specs.Progress.{progress}
 use Rattle.transfer.specs.Stores.{after, bytesFrom, upTo}
 use Rattle.unit.specs.declared.Controller.the-variants.{First as FirstController, Second as SecondController}
 use Rattle.unit.specs.declared.Holder.the-variants.{TheFirst}
 use Rattle.unit.specs.Standing.{heldBy}
-use Rattle.block.specs.Block.{begun, finish, worldAfter}
-use Rattle.block.specs.World.{World, buffersOf, changed}
+use Rattle.block.specs.Block.{begun, finish}
 use Rattle.demands.specs.Footprint.{WritesHost, names, verdictOf}
 use Rattle.demands.specs.Footprint.HostWritten.{moved as given, status-word}
 use Rattle.demands.specs.Visits.{Passes}
@@ -45,6 +44,7 @@ use Rattle.independence.proofs.Carried.{Alone, Carried, comes-done, com
 use Rattle.independence.proofs.OneBlock.{by-block, done, leaves, of-block, writes-in}
 use Rattle.independence.proofs.Tiny.{counts, unit}
 use Rattle.independence.proofs.TwoChains.{both-pass, wrote-56}
+use Rattle.board.specs.World.{World, buffersOf, changed, worldAfter}
 
 -- A block that is refused by 24 reads its 28 bytes and writes its word 1, whatever it asked for.
 held-alone :

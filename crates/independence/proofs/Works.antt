@@ -5,16 +5,16 @@ use Prim.Native.Nat.{ℕ}
 use mathlib.Core.Logic.{_↔_, Iff·rfl, _⊎_, inr}
 use mathlib.Core.Path.{_≡_, refl, sym, _∙_, ap, subst}
 use lib.ListN.{getD, length}
-use Rattle.request.specs.declared.UnitNumber.{UnitNumber}
-use Rattle.request.specs.declared.UnitNumber.the-variants.{Zero, One}
+use Rattle.unit.specs.declared.UnitNumber.{UnitNumber}
+use Rattle.unit.specs.declared.UnitNumber.the-variants.{Zero, One}
 use Rattle.transfer.specs.Stores.{Buffers, Stored, after, held, hostByte}
 use Rattle.transfer.proofs.Stays.{lengths-stay, unstored-stays}
 use Rattle.block.specs.Block.{Effect}
-use Rattle.block.specs.World.{World, buffersOf, changed, driveOf}
 use Rattle.independence.specs.Local.{AgreeOn, LeadsAlike, Local, Step}
 use Rattle.independence.specs.Worlds.{Cell, Touches, byte, disk, events, holds, worlds}
 use Rattle.independence.proofs.Meets.{Meet, Sourced, stores-meet}
 use Rattle.unit.specs.Standing.{UnitRecord}
+use Rattle.board.specs.World.{World, buffersOf, changed, driveOf}
 
 -- Work on a world: the unit that it names, its effect on that unit's drive, what else it comes to, and the host bytes that it reads and
 -- writes, all from the world that it finds.

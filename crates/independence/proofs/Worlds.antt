@@ -6,9 +6,9 @@ use mathlib.Core.Logic.{Dec·and, by-cases}
 use mathlib.Core.Path.{_≡_, ap}
 use native.Mathlib.Decide.{map-dec, ℕ-discrete}
 use Rattle.unit.proofs.Decided.{same-with-table?}
-use Rattle.block.specs.World.{Drive}
 use Rattle.independence.specs.Local.{Stable}
 use Rattle.independence.specs.Worlds.{Cell, Holds, byte, disk, events, worlds}
+use Rattle.block.specs.Block.{Drive}
 
 -- ---- what a cell may hold
 

@@ -5,15 +5,16 @@ use mathlib.Core.List.{List}
 use mathlib.Core.Path.{_≡_}
 use lib.ListN.{getD, length}
 use Rattle.answers.specs.declared.RunAnswer.{RunAnswer}
-use Rattle.request.specs.declared.UnitNumber.{UnitNumber}
+use Rattle.unit.specs.declared.UnitNumber.{UnitNumber}
 use Rattle.unit.specs.declared.Controller.{Controller}
 use Rattle.unit.specs.declared.Controller.the-variants.{First as FirstController, Second as SecondController}
-use Rattle.block.specs.World.{Drive, World, driveOf}
 use Rattle.board.specs.Chain.{Ending, Tally, ran}
 use Rattle.demands.specs.Footprint.{RunNames, RunWrites}
 use Rattle.independence.specs.Local.{Kind, Place, Step, placed}
 use Rattle.independence.specs.Reads.{RunReads}
 use Rattle.independence.specs.Worlds.{Touches, byte, disk, events, worlds}
+use Rattle.block.specs.Block.{Drive}
+use Rattle.board.specs.World.{World, driveOf}
 
 -- A chain as it is asked for: the controller that runs it, and "the address of a first IOPB (a "block") and an allowance".
 pub record Chain : Type 0 where

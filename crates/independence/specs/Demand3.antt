@@ -7,10 +7,10 @@
 -- it wrote itself.
 use Prim.Native.Nat.{ℕ}
 use mathlib.Core.Path.{_≡_}
-use Rattle.request.specs.declared.UnitNumber.{UnitNumber}
+use Rattle.unit.specs.declared.UnitNumber.{UnitNumber}
 use Rattle.independence.specs.Chains.{Both, Cell, Chain, First, HostReads, HostWrites, Names, Second, Told, both, holds, runOf, worldFor}
 use Rattle.independence.specs.Local.{Step}
-use Rattle.block.specs.World.{World}
+use Rattle.board.specs.World.{World}
 
 module _ (one two : Chain) (s : Both) where
   -- What each finds, followed alone.

@@ -6,11 +6,11 @@ use mathlib.Core.List.{List, [], _∷_, _++_}
 use mathlib.Core.Path.{_≡_}
 use lib.ListN.{replicate}
 use Rattle.answers.specs.declared.RunAnswer.{RunAnswer}
-use Rattle.block.specs.World.{Drive}
 use Rattle.unit.specs.declared.Controller.the-variants.{First as FirstController}
 use Rattle.independence.specs.Chains.{Both, Chain, First, HostReads, HostWrites, runOf}
 use Rattle.independence.specs.Demand3.{EitherWay, Independent, NoUnitInCommon, NoByteReadByOther, NoByteWrittenByBoth}
 use Rattle.independence.specs.TwoChains.{block, come, comeBy, driveOn, driveWith, firstIn, ofSecond, one, secondIn, startingOn, two}
+use Rattle.block.specs.Block.{Drive}
 
 -- The first sector of unit 0: a block that reads this sector to bytes 120 to 183, and from its byte 28 on a UIB that says `tiny`.
 abbrev pub sector : List ℕ

@@ -6,9 +6,10 @@ use Rattle.wire.specs.Memory.{Among}
 use Rattle.iopb.specs.Layout.{uibBytes}
 use Rattle.judge.specs.Given.{Asked}
 use Rattle.judge.specs.Reads.{InList, InUib}
-use Rattle.block.specs.World.{Drive, World}
 use Rattle.demands.specs.Footprint.{HostData, Some, askedOf, namedDrive}
 use Rattle.demands.specs.Visits.{Visit, blockOf, fetchedBy}
+use Rattle.block.specs.Block.{Drive}
+use Rattle.board.specs.World.{World}
 
 -- What a block at an address of host memory reads there, where its UIB has an address too.
 pub data HostRead (at uib : ℕ) (a : Asked) (d : Drive) (x : ℕ) : Type 0 where

@@ -9,7 +9,6 @@ use mathlib.Core.Path.{_≡_}
 use lib.ListN.{replicate}
 use Rattle.wire.specs.Memory.{Among}
 use Rattle.answers.specs.declared.RunAnswer.{RunAnswer}
-use Rattle.block.specs.World.{Drive, World}
 use Rattle.geometry.specs.declared.Geometry.{Geometry}
 use Rattle.geometry.specs.Drive.{geometryOf, volumeOf}
 use Rattle.unit.specs.declared.Controller.{Controller}
@@ -17,6 +16,8 @@ use Rattle.unit.specs.declared.Controller.the-variants.{First as FirstControlle
 use Rattle.unit.specs.Standing.{fresh, noTracks, recordOf}
 use Rattle.independence.specs.Chains.{Both, Chain, First, HostReads, HostWrites, Second, Told, runOf, worldFor}
 use Rattle.independence.specs.Demand3.{EitherWay, Independent, NoUnitInCommon, NoByteReadByOther, NoByteWrittenByBoth}
+use Rattle.block.specs.Block.{Drive}
+use Rattle.board.specs.World.{World}
 
 -- One head, and so many cylinders with so many sectors of 64 bytes each. The pairs have two cylinders with one sector; an image has 130 bytes, of
 -- which the last two are the marks.

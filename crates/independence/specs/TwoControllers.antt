@@ -5,13 +5,14 @@ use mathlib.Core.Path.{_≡_}
 use lib.ListN.{replicate}
 use Rattle.wire.specs.Memory.{Among}
 use Rattle.answers.specs.declared.RunAnswer.{RunAnswer}
-use Rattle.block.specs.World.{Drive, World}
 use Rattle.unit.specs.declared.Controller.the-variants.{Second as SecondController}
 use Rattle.unit.specs.declared.Holder.the-variants.{TheSecond}
 use Rattle.unit.specs.Standing.{heldBy}
 use Rattle.independence.specs.Chains.{Both, Chain, First, HostReads, HostWrites, Second, Told, runOf, worldFor}
 use Rattle.independence.specs.Demand3.{EitherWay, Independent, NoUnitInCommon, NoByteReadByOther, NoByteWrittenByBoth}
 use Rattle.independence.specs.TwoChains.{block, come, driveWith, firstIn, ofFirst, ofSecond, one, scatter, starting, two, twoBy}
+use Rattle.block.specs.Block.{Drive}
+use Rattle.board.specs.World.{World}
 
 -- ---- on one controller, the first
 

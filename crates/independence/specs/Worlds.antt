@@ -2,10 +2,11 @@
 use Prim.Native.Nat.{ℕ}
 use mathlib.Core.List.{List}
 use lib.ListN.{getD, length}
-use Rattle.request.specs.declared.UnitNumber.{UnitNumber}
+use Rattle.unit.specs.declared.UnitNumber.{UnitNumber}
 use Rattle.unit.specs.declared.Controller.{Controller}
-use Rattle.block.specs.World.{Drive, World, driveOf}
 use Rattle.independence.specs.Local.{Kind}
+use Rattle.block.specs.Block.{Drive}
+use Rattle.board.specs.World.{World, driveOf}
 
 -- The cells: each byte of host memory, each unit's drive, its record with table and holder and its image, and the event buffer. Host memory keeps its length, and the run
 -- its controller (02, K10).

@@ -5,7 +5,6 @@ use Rattle.wire.specs.Promise.{OneResult}
 use Rattle.iopb.proofs.ask.task.Reads as task
 use Rattle.iopb.proofs.ask.unit_at.Reads as unit-at
 use Rattle.iopb.proofs.Block.read.Reads as block-read
-use Rattle.iopb.proofs.Element.read.Reads as element-read
 use Rattle.iopb.proofs.error_byte.Reads as error-byte
 use Rattle.iopb.proofs.identity.Reads as identity
 use Rattle.iopb.proofs.Options.of.Reads as options-of
@@ -13,9 +12,6 @@ use Rattle.iopb.proofs.uib.Reads as uib
 
 block-read-once : OneResult block-read.Post
 block-read-once κ a x y e f p q = p ∙ sym q
-
-element-read-once : OneResult element-read.Post
-element-read-once κ a x y e f p q = p ∙ sym q
 
 error-byte-once : OneResult error-byte.Post
 error-byte-once κ a x y e f p q = p ∙ sym q

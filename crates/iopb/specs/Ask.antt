@@ -14,7 +14,7 @@ use Rattle.request.specs.declared.Start.{Start}
 use Rattle.request.specs.declared.Target.{Target}
 use Rattle.request.specs.declared.Task.{Task}
 use Rattle.request.specs.declared.Track.{Track}
-use Rattle.request.specs.declared.UnitNumber.{UnitNumber}
+use Rattle.unit.specs.declared.UnitNumber.{UnitNumber}
 use Rattle.iopb.specs.declared.Block.{Block}
 use Rattle.iopb.specs.declared.Options.{Options}
 use Rattle.iopb.specs.Layout.{uibAt, uibBytes}

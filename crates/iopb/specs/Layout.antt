@@ -8,7 +8,6 @@ use Rattle.wire.specs.Words.{be16, be32}
 use Rattle.geometry.specs.declared.Geometry.{Geometry}
 use Rattle.geometry.specs.Drive.{geometryOf, volumeOf}
 use Rattle.iopb.specs.declared.Block.{Block}
-use Rattle.iopb.specs.declared.Element.{Element}
 use Rattle.iopb.specs.declared.Options.{Options}
 
 -- A byte, and a bit of a byte, bit 7 the highest.
@@ -53,16 +52,6 @@ blockAt bytes at =
       «link_memory_type» = byte bytes (at + 24);
       «link_modifier» = byte bytes (at + 25);
       elements = byte bytes (at + 27);
-    }
-
--- "byte count (2), address (4), memory type, modifier"
-abbrev pub elementAt : List ℕ → ℕ → Element
-elementAt bytes at =
-    record {
-      bytes = be16 bytes at;
-      address = be32 bytes (at + 2);
-      «memory_type» = byte bytes (at + 6);
-      modifier = byte bytes (at + 7);
     }
 
 -- The bytes of Table 10.

@@ -11,7 +11,7 @@ use request::Start;
 use request::Target;
 use request::Task;
 use request::Track;
-use request::UnitNumber;
+use unit::UnitNumber;
 ghost use mathlib.Core.Path.{_≡_};
 ghost use Prim.Native.Nat.{_+_, _≤_};
 ghost use lib.ListN.{length};

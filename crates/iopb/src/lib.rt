@@ -1,17 +1,15 @@
-// The layouts of the V/SMD 3200, declared once: block, options, list element, UIB, error bytes, identity.
+// The layouts of the V/SMD 3200, declared once: block, options, UIB, error bytes, identity.
 // A block becomes a task for its unit here, and nothing above the task knows where a byte of it stood.
 // It judges nothing but whether a UIB can be read, and stores nothing.
 use answers::BlockAnswer;
-use answers::Refusal;
 use geometry::Geometry;
 use geometry::Volume;
-use geometry::VolumeNumber;
 ghost use mathlib.Core.Path.{_≡_};
 ghost use Prim.Native.Nat.{_+_, _≤_};
 ghost use lib.ListN.{length};
 ghost use Rattle.iopb.specs.Errors.{errorByte, errorIn, errorTable};
 ghost use Rattle.iopb.specs.Identity.{identityBytes};
-ghost use Rattle.iopb.specs.Layout.{blockAt, elementAt, optionsOf, uibAt};
+ghost use Rattle.iopb.specs.Layout.{blockAt, optionsOf, uibAt};
 
 mod ask;
 
@@ -49,14 +47,6 @@ pub struct Block {
     pub link_memory_type: u8,
     pub link_modifier: u8,
     pub elements: u8,
-}
-
-// An element of a scatter or gather list.
-pub struct Element {
-    pub bytes: u16,
-    pub address: u32,
-    pub memory_type: u8,
-    pub modifier: u8,
 }
 
 impl Options {
@@ -101,21 +91,6 @@ impl Block {
             link_memory_type: host[at + 24],
             link_modifier: host[at + 25],
             elements: host[at + 27],
-        }
-    }
-}
-
-impl Element {
-    // The list element at an address of host memory.
-    pub fn read(host: &[u8], at: usize) -> Element
-        requires { ⌜ at + 8 ≤ length (now host) ⌝ }
-        ensures { λ r. ⌜ r ≡ elementAt (now (host .entry)) at ⌝ }
-    {
-        Element {
-            bytes: wire::be16(host, at),
-            address: wire::be32(host, at + 2),
-            memory_type: host[at + 6],
-            modifier: host[at + 7],
         }
     }
 }

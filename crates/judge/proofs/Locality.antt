@@ -1,11 +1,10 @@
 -- Two host memories of one length that agree on the bytes read get the same verdict.
 -- What a block asks looks at its UIB alone, and what is judged of it at its list, each where it is read.
-use Prim.Native.Nat.{ℕ, _*_, _≤_, _<_}
+use Prim.Native.Nat.{ℕ, _*_, _≤_}
 use mathlib.Core.List.{List, [], _∷_, _++_}
 use mathlib.Core.Logic.{by-cases}
 use mathlib.Core.Path.{_≡_, sym, ap, subst, _∙_}
 use native.Mathlib.Decide.{ℕ-discrete}
-use native.Mathlib.Omega.{arith}
 use lib.ListN.{getD, length}
 use Rattle.answers.specs.declared.Refusal.{Refusal}
 use Rattle.iopb.specs.declared.Block.{Block}
@@ -98,10 +97,6 @@ unfolding None
 misplaced-uib-unread a at bytes x is uib =
     let passed = subst (λ (t : Task). None (before Refusal.UibOutsideLimits (firstChecks a t ++ ownChecks a t))) is (uib .passed) in
     none-of-parts (firstChecks a (Initialize Shape.Misplaced)) (uibMisplaced a Shape.Misplaced ∷ []) passed .1 .0 tt
-
--- A list of more than 64 elements is not read.
-pub long-list-unread : (a : Asked) (x : ℕ) → (l : InList a x) → 64 < l .elements → ⊥
-long-list-unread a x l over = omega arith
 
 -- A list is read wherever it can be and no check before 18 refuses the block, whatever is then found in it.
 pub refused-list-read :

@@ -1,6 +1,6 @@
 -- A list of elements, taken from the front: nothing yet, and one element more, as it is scanned and as it is copied out.
 -- The answers about the elements so far go with the element's own; the sum grows by its bytes; a slot more is filled.
-use Prim.Native.Nat.{ℕ, zero, suc, _+_, _*_, _≤_, _<_}
+use Prim.Native.Nat.{ℕ, _+_, _*_, _≤_}
 use mathlib.Core.Bool.{Bool, _&&_, false, not, true}
 use mathlib.Core.List.{List}
 use mathlib.Core.Logic.{if-neg, if-pos}
@@ -8,7 +8,7 @@ use mathlib.Core.Path.{_≡_, refl, sym, ap, _∙_}
 use native.Mathlib.Numerals.{add-one}
 use native.Mathlib.Omega.{arith}
 use lib.ListN.{set}
-use Rattle.iopb.specs.declared.Element.{Element}
+use Rattle.memory.specs.declared.Element.{Element}
 use Rattle.wire.specs.Memory.{InMemory}
 use Rattle.wire.specs.Promise.{Says}
 use Rattle.wire.proofs.Promises.{granted, says-all-more}

@@ -5,7 +5,7 @@ use mathlib.Core.List.{List}
 use mathlib.Core.Path.{_≡_, refl, sym, ap₂, subst, _∙_}
 use native.Mathlib.Omega.{arith}
 use lib.ListN.{getD, length}
-use Rattle.iopb.specs.declared.Element.{Element}
+use Rattle.memory.specs.declared.Element.{Element}
 use Rattle.wire.specs.Memory.{Among, InMemory}
 use Rattle.wire.proofs.Laws.{word-same}
 use Rattle.wire.proofs.Memory.{range-same}

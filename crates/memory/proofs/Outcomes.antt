@@ -1,5 +1,5 @@
 -- Each promise of this crate leaves one result, read off the contracts as the source states them.
--- Of a list's three cases no two can hold, and the pieces are an equation.
+-- Of a list's three cases no two can hold, and an element and the pieces are equations.
 use mathlib.Core.Path.{_≡_, _∙_, refl, sym}
 use Prim.Native.Nat.{ℕ}
 use mathlib.Core.List.{List}
@@ -8,6 +8,7 @@ use Rattle.memory.specs.declared.Listed.{Listed}
 use Rattle.memory.specs.declared.Listed.the-variants.{Bad, Misplaced, Good}
 use Rattle.memory.specs.Scan.{Listing}
 use Rattle.memory.proofs.copy_out.Reads as copy-out
+use Rattle.memory.proofs.Element.read.Reads as element-read
 use Rattle.memory.proofs.list.Reads as list
 
 listing-once :
@@ -27,3 +28,6 @@ list-once κ a x y e f p q = listing-once _ _ _ _ x y p q
 
 copy-out-once : OneResult copy-out.Post
 copy-out-once κ a x y e f p q = p ∙ sym q
+
+element-read-once : OneResult element-read.Post
+element-read-once κ a x y e f p q = p ∙ sym q

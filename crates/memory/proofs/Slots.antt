@@ -3,10 +3,10 @@
 use Prim.Native.Nat.{ℕ, zero, suc, _≤_, _<_}
 use mathlib.Core.List.{List}
 use mathlib.Core.Logic.{by-cases}
-use mathlib.Core.Path.{_≡_, refl, sym, _∙_}
+use mathlib.Core.Path.{_≡_, refl, _∙_}
 use native.Mathlib.Decide.{decLt}
 use native.Mathlib.Omega.{arith}
-use lib.ListN.{getD, length, length-replicate, length-set, set}
+use lib.ListN.{getD, length, length-set, set}
 use lib.Seq.{getD-set-other, getD-set-same}
 use Rattle.memory.specs.Lists.{elementOf}
 use Rattle.memory.specs.Pieces.{addressesOf, lengthsOf}

@@ -2,9 +2,20 @@
 use Prim.Native.Nat.{ℕ, zero, suc, _+_, _*_, _%_, _≤_, _<_}
 use mathlib.Core.List.{List}
 use mathlib.Core.Path.{_≡_}
+use lib.ListN.{getD}
 use Rattle.wire.specs.Memory.{InMemory}
-use Rattle.iopb.specs.declared.Element.{Element}
-use Rattle.iopb.specs.Layout.{elementAt}
+use Rattle.wire.specs.Words.{be16, be32}
+use Rattle.memory.specs.declared.Element.{Element}
+
+-- An element is 8 bytes: "byte count (2), address (4), memory type, modifier"
+abbrev pub elementAt : List ℕ → ℕ → Element
+elementAt bytes at =
+    record {
+      bytes = be16 bytes at;
+      address = be32 bytes (at + 2);
+      «memory_type» = getD bytes (at + 6) 0;
+      modifier = getD bytes (at + 7) 0;
+    }
 
 -- The i-th element of a list, and the sum of the byte counts of its first n.
 abbrev pub elementOf : List ℕ → ℕ → ℕ → Element

@@ -1,17 +1,39 @@
 // The elements of a list in host memory: they are judged, and copied out.
 // A list's place is tested before any of it is read, and the sum of its byte counts is made in 64 bits.
 // It changes nothing and knows no block and no drive.
-use iopb::Element;
 use wire::holds;
 ghost use mathlib.Core.Bool.{_&&_};
 ghost use mathlib.Core.Path.{_≡_};
 ghost use Prim.Native.Nat.{_+_, _*_, _≤_};
 ghost use lib.ListN.{length};
-ghost use Rattle.memory.specs.Lists.{GoodCount};
+ghost use Rattle.memory.specs.Lists.{GoodCount, elementAt};
 ghost use Rattle.memory.specs.Pieces.{filled, piecesOf};
 ghost use Rattle.memory.specs.Scan.{Listing, Scanned};
 ghost use Rattle.wire.specs.Memory.{InMemory};
 ghost use Rattle.wire.specs.Promise.{Says};
+
+// An element of a scatter or gather list.
+pub struct Element {
+    pub bytes: u16,
+    pub address: u32,
+    pub memory_type: u8,
+    pub modifier: u8,
+}
+
+impl Element {
+    // The list element at an address of host memory.
+    pub fn read(host: &[u8], at: usize) -> Element
+        requires { ⌜ at + 8 ≤ length (now host) ⌝ }
+        ensures { λ r. ⌜ r ≡ elementAt (now (host .entry)) at ⌝ }
+    {
+        Element {
+            bytes: wire::be16(host, at),
+            address: wire::be32(host, at + 2),
+            memory_type: host[at + 6],
+            modifier: host[at + 7],
+        }
+    }
+}
 
 // What one pass over a list finds: whether every byte count is good, whether every range is, and the sum of the counts.
 pub struct Seen {

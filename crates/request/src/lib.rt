@@ -4,12 +4,6 @@
 use geometry::Geometry;
 use geometry::VolumeNumber;
 
-// One of the board's two units.
-pub enum UnitNumber {
-    Zero,
-    One,
-}
-
 // Where a request begins in its volume: a logical number, or a physical address whose head is counted from the start head.
 pub enum Start {
     Logical(u32),

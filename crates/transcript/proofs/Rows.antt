@@ -1,7 +1,7 @@
 -- The steps of a session in a row print what the session does.
 -- One step after the other: what is read for a field is as good as all that is left, and after a step the buffers hold what the
 -- session holds, with room again.
-use Prim.Native.Nat.{ℕ, zero, suc, _+_, _-_, _^_, _≤_, _<_}
+use Prim.Native.Nat.{ℕ, zero, suc, _+_, _^_, _≤_, _<_}
 use mathlib.Core.List.{List, [], _∷_, _++_, append-nil}
 use mathlib.Core.Logic.{by-cases, if-neg, if-pos}
 use mathlib.Core.Path.{_≡_, refl, sym, ap, _∙_}
@@ -10,9 +10,8 @@ use native.Mathlib.Omega.{arith}
 use lib.ListN.{drop, getD, length, take, length-append, length-drop, length-take}
 use lib.Seq.{take-append-seam}
 use Rattle.unit.specs.Standing.{noTracks}
-use Rattle.request.specs.declared.UnitNumber.the-variants.{Zero, One}
+use Rattle.unit.specs.declared.UnitNumber.the-variants.{Zero, One}
 use Rattle.board.specs.Chain.{ran}
-use Rattle.block.specs.World.{World}
 use Rattle.demands.proofs.Keeps.{run-keeps-lengths}
 use Rattle.wire.specs.Words.{be32}
 use Rattle.transcript.specs.declared.State.{State}
@@ -23,6 +22,7 @@ use Rattle.transcript.specs.Text.{refusalLine}
 use Rattle.transcript.proofs.Fields.{read-bytes, read-field, read-length, read-long, read-no-field, read-some, read-tag}
 use Rattle.transcript.proofs.Plays.{bytes-long, met, run-heard}
 use Rattle.transcript.proofs.Speaks.{at-the-end, refused, went-on}
+use Rattle.board.specs.World.{World}
 
 -- An input without a field prints nothing.
 pub nothing-said : session [] ≡ []

@@ -10,9 +10,8 @@ use native.Mathlib.Numerals.{add-one}
 use native.Mathlib.Omega.{arith}
 use lib.ListN.{length, set, length-append}
 use lib.Seq.{length-sets}
-use Rattle.block.specs.Steps.{written}
 use Rattle.block.proofs.Entries.{written-row}
-use Rattle.wire.specs.Words.{be32}
+use Rattle.wire.specs.Words.{be32, written}
 use Rattle.transcript.specs.Steps.{Appended}
 use Rattle.transcript.specs.Text.{blockLine, blockLines, decimal, digit, digitsWithin, letters, lettersFrom, refusalLine, runLine, signed}
 

@@ -10,8 +10,8 @@ use Rattle.unit.specs.declared.Controller.the-variants.{First}
 use Rattle.unit.specs.Standing.{blank}
 use Rattle.answers.specs.Numbers.{runNumber}
 use Rattle.board.specs.Chain.{Ending, ran}
-use Rattle.block.specs.World.{Drive}
 use Rattle.transcript.specs.Text.{blockLines, refusalLine, runLine}
+use Rattle.block.specs.Block.{Drive}
 
 -- "What a run leaves in memory, images and unit records is there for the next."
 pub record Held : Type 0 where

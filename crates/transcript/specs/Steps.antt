@@ -8,12 +8,12 @@ use native.Mathlib.Decide.{decLe, decLt, map-dec}
 use lib.ListN.{drop, length, take}
 use Rattle.unit.specs.Standing.{byValue, table, unitOf}
 use Rattle.board.specs.declared.Units.{Units}
-use Rattle.block.specs.Steps.{written}
 use Rattle.transcript.specs.declared.Next.{Next}
 use Rattle.transcript.specs.declared.Said.{Said}
 use Rattle.transcript.specs.declared.State.{State}
 use Rattle.transcript.specs.Session.{Held, Heard, bytesIn, field?, heard, longOf, opening?, tagOf}
 use Rattle.transcript.specs.Text.{refusalLine}
+use Rattle.wire.specs.Words.{written}
 
 -- The most that a length may be, the room that the lines of a run may want, and the most bytes that a field has in all.
 abbrev pub mostBytes : ℕ

@@ -2,7 +2,7 @@
 -- Byte k of the track takes byte k mod B of the sector, and the track's bytes are in a row.
 use Prim.Native.Nat.{ℕ, _+_, _-_, _*_, _%_, _≤_, _<_}
 use mathlib.Core.Bool.{false}
-use mathlib.Core.List.{List, []}
+use mathlib.Core.List.{List}
 use mathlib.Core.Logic.{if-neg, if-pos}
 use mathlib.Core.Path.{_≡_, refl, sym, ap, _∙_}
 use native.Mathlib.Nat.{add-assoc, add-mul, one-mul, zero-add, zero-mul}

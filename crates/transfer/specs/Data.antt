@@ -1,13 +1,11 @@
 -- The data of a block: which bytes its transfer moves (01, One run: 81, 82, A1, A2 and 8C; 02, K5).
-use Prim.Native.Nat.{ℕ, _+_, _*_, _/_, _%_, _<_}
-use mathlib.Core.Bool.{Bool, true, false, not, cond, _&&_}
+use Prim.Native.Nat.{ℕ, _+_, _*_, _/_, _%_}
+use mathlib.Core.Bool.{Bool, false, not, cond, _&&_}
 use mathlib.Core.List.{List}
-use mathlib.Core.Path.{_≡_}
-use lib.ListN.{getD}
 use Rattle.geometry.specs.declared.Geometry.{Geometry}
 use Rattle.geometry.specs.declared.VolumeNumber.{VolumeNumber}
 use Rattle.geometry.specs.Drive.{B, S}
-use Rattle.geometry.specs.Sectors.{firstByte, markByte}
+use Rattle.geometry.specs.Sectors.{firstByte}
 use Rattle.unit.specs.declared.Spot.{Spot}
 use Rattle.unit.specs.Landing.{spotOf}
 use Rattle.unit.specs.Standing.{UnitRecord, geometry}

@@ -7,7 +7,6 @@ use Rattle.board.specs.declared.Units.{Units}
 use Rattle.board.specs.declared.chain.Outcome.{Outcome}
 use Rattle.board.specs.Chain.{ran}
 use Rattle.board.specs.Steps.{CameTo}
-use Rattle.block.specs.World.{World}
 use Rattle.board.specs.Lent.{worldOf}
 use Rattle.two_chains.specs.declared.Came.{Came}
 use Rattle.two_chains.specs.declared.Order.{Order}

@@ -3,7 +3,7 @@
 use mathlib.Core.Bool.{true, Bool-discrete}
 use mathlib.Core.List.{List-discrete}
 use mathlib.Core.Logic.{Dec·and}
-use mathlib.Core.Path.{_≡_, _∙_, ap}
+use mathlib.Core.Path.{_≡_, ap}
 use native.Mathlib.Decide.{decLt, map-dec, ℕ-discrete}
 use Rattle.geometry.specs.Drive.{C}
 use Rattle.geometry.proofs.Decided.{within?}

@@ -1,6 +1,6 @@
 -- A unit that counts as initialized still does once its heads stand elsewhere on the drive or its table has a pair more; and a new one does.
 -- Each asks one part of the question anew, and the others are as they were.
-use Prim.Native.Nat.{ℕ, _+_, _<_}
+use Prim.Native.Nat.{ℕ, _<_}
 use mathlib.Core.Logic.{by-cases, if-pos}
 use mathlib.Core.Path.{_≡_, refl, subst, sym}
 use native.Mathlib.Decide.{decLt}

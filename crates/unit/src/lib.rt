@@ -19,6 +19,12 @@ ghost use Rattle.unit.specs.Landing.{landing, landingAt, numberOn, spotA
 ghost use Rattle.unit.specs.Standing.{CountsAsInitialized, bare, cylinder, freshly, geometry, headsOn, heldOf, holder, initialized, moreHeld, nothingSaid, pairs, unitOf, withHolder};
 ghost use Rattle.wire.specs.Promise.{Says};
 
+// One of the board's two units.
+pub enum UnitNumber {
+    Zero,
+    One,
+}
+
 // One of the two controllers that can share a drive.
 pub enum Controller {
     First,

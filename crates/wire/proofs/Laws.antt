@@ -1,9 +1,9 @@
 -- The laws of words and copies that the crates above cite, each at any width or length.
 -- A word is taken apart byte by byte; a copy is read byte by byte, inside the run and beside it.
-use Prim.Native.Nat.{ℕ, zero, suc, _+_, _-_, _*_, _/_, _%_, _^_, _≤_, _<_}
-use mathlib.Core.Path.{_≡_, refl, sym, ap, _∙_}
+use Prim.Native.Nat.{ℕ, zero, suc, _+_, _*_, _/_, _%_, _^_, _≤_, _<_}
+use mathlib.Core.Path.{_≡_, refl, _∙_}
 use mathlib.Core.List.{List}
-use native.Mathlib.Nat.{add-zero, add-suc, add-assoc, div-add-mod', div-lt-iff-lt-mul, pow-suc}
+use native.Mathlib.Nat.{add-zero, add-suc, add-assoc, pow-suc}
 use native.Mathlib.Omega.{arith}
 use native.Mathlib.Numerals.{add-one}
 use lib.ListN.{length, getD, drop, set, length-drop, length-set}

@@ -1,6 +1,6 @@
 -- The lines with spares hold: a track that no pair has as bad stays where it is, and a bad one is met by its spare's own name.
 -- Which is which the two pairs tell, and what is left is arithmetic on numerals.
-use Prim.Native.Nat.{ℕ, _+_, _*_, _<_, min}
+use Prim.Native.Nat.{ℕ, _+_, _*_, _<_}
 use mathlib.Core.Logic.{by-cases, if-pos}
 use mathlib.Core.Path.{_≡_, refl, sym, ap, subst, _∙_}
 use native.Mathlib.Decide.{decLt}

@@ -12,11 +12,12 @@ use Rattle.transfer.specs.Whole.{spanTransfer}
 use Rattle.transfer.proofs.Filling.{track-fit}
 use Rattle.transfer.proofs.Wholes.{sectors-fit}
 use Rattle.judge.specs.declared.Moving.{Moving}
-use Rattle.block.specs.Steps.{Ready, written}
+use Rattle.block.specs.Steps.{Ready}
 use Rattle.block.proofs.Transfers.{begun-made, nothing-made}
 use borrow.Author.Needs.{needs}
 use Rattle.block.proofs.begin.Statement.{statement}
 use Rattle.block.proofs.begin.Tie as tie
+use Rattle.wire.specs.Words.{written}
 
 -- What is to be moved fits, once it is known which it is.
 ready :

@@ -1,6 +1,5 @@
 -- An attempt that was made has what it moved; one that does not fit was not made, and nothing is asked of it.
 -- Each arm knows which of the two it is.
-use mathlib.Core.Path.{sym, _∙_}
 use borrow.Author.Needs.{needs}
 use Rattle.wire.proofs.Promises.{never}
 use Rattle.block.proofs.moved_by.Statement.{statement}

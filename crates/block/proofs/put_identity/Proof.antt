@@ -7,10 +7,6 @@ use Rattle.block.proofs.Entries.{copy-written}
 use borrow.Author.Needs.{needs}
 use Rattle.block.proofs.put_identity.Statement.{statement}
 use Rattle.block.proofs.put_identity.Tie as tie
-use Rattle.block.proofs.put_identity.Reads as reads
-use Rattle.block.proofs.put_identity.Lts as lts
-use Rattle.iopb.proofs.identity.Reads as identity-reads
-use Rattle.wire.proofs.copy.Reads as copy-reads
 
 identity-requires : tie.Need-identity-requires
 identity-requires c κs = search needs

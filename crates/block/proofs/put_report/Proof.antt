@@ -1,9 +1,9 @@
 -- Nothing reported stores nothing.
 -- The identity, and what a format reports, are each stored by a function of its own.
-use Rattle.block.specs.Steps.{written}
 use borrow.Author.Needs.{needs}
 use Rattle.block.proofs.put_report.Statement.{statement}
 use Rattle.block.proofs.put_report.Tie as tie
+use Rattle.wire.specs.Words.{written}
 
 enum-told : tie.Need-enum-told
 enum-told c = search needs

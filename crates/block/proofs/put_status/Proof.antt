@@ -5,8 +5,6 @@ use Rattle.block.proofs.Entries.{two-written}
 use borrow.Author.Needs.{needs}
 use Rattle.block.proofs.put_status.Statement.{statement}
 use Rattle.block.proofs.put_status.Tie as tie
-use Rattle.block.proofs.put_status.Reads as reads
-use Rattle.block.proofs.put_status.Lts as lts
 
 add-host : tie.Need-add-host
 add-host c = search needs

@@ -7,10 +7,9 @@ use Rattle.iopb.specs.Ask.{taskOf}
 use Rattle.judge.specs.declared.Verdict.{Verdict}
 use Rattle.judge.specs.Verdict.{verdict}
 use Rattle.judge.proofs.LetThrough.{plan-fits}
-use Rattle.block.specs.Block.{asking, finish, finished, holding, judged}
+use Rattle.block.specs.Block.{Drive, asking, finish, finished, holding, judged}
 use Rattle.iopb.specs.declared.Block.{Block}
 use Rattle.block.specs.Steps.{doneOf, driveWith}
-use Rattle.block.specs.World.{Drive}
 use Rattle.block.proofs.Effects.{effect-judged, then-made, told-of-it}
 use Rattle.block.proofs.Held.{held-table, held-told, holder-keeps, performed-held}
 use borrow.Author.Needs.{needs}

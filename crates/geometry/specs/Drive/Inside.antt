@@ -1,5 +1,5 @@
 -- The shut definitions of Drive, opened by an equation each, for this crate's proofs and for the worked examples alone.
-use Prim.Native.Nat.{ℕ, _+_, _*_, max}
+use Prim.Native.Nat.{_+_, _*_, max}
 use mathlib.Core.Logic.{ite}
 use mathlib.Core.Path.{_≡_, refl}
 use native.Mathlib.Decide.{decLt}

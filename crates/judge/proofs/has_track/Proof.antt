@@ -1,9 +1,7 @@
 -- The drive has a track where its first sector has a place.
 -- Which it has is of no matter.
-use mathlib.Core.Path.{sym, subst, _∙_}
+use mathlib.Core.Path.{sym, _∙_}
 use borrow.Author.Needs.{needs}
-use Rattle.geometry.specs.declared.Geometry.{Geometry}
-use Rattle.geometry.specs.Sectors.{OnDrive, address}
 use Rattle.geometry.proofs.Answers.{at-placed, no-place}
 use Rattle.judge.proofs.has_track.Statement.{statement}
 use Rattle.judge.proofs.has_track.Tie as tie

@@ -1,7 +1,6 @@
 -- Checks 22 and 23, the first passed before the second is asked.
 -- Both go by the numbers of the two tracks, and what they leave is the plan.
 use mathlib.Core.Path.{sym, _∙_}
-use native.Mathlib.Omega.{arith}
 use borrow.Author.Needs.{needs}
 use Rattle.wire.proofs.Promises.{denied, granted}
 use Rattle.judge.proofs.Tasks.{table-22, table-23, table-done}

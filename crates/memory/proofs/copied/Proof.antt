@@ -8,9 +8,6 @@ use borrow.Author.Needs.{needs}
 use Rattle.memory.specs.Pieces.{addressesOf, lengthsOf}
 use Rattle.memory.proofs.copied.Statement.{statement}
 use Rattle.memory.proofs.copied.Tie as tie
-use Rattle.memory.proofs.copied.Reads as reads
-use Rattle.memory.proofs.copied.Lts as lts
-use Rattle.iopb.proofs.Element.read.Reads as read-reads
 
 abbrev Inv-loop : tie.InvT-loop
 Inv-loop host at n lengths₀ addresses₀ i₀ lengths addresses i =

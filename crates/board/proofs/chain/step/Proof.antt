@@ -1,6 +1,6 @@
 -- The unit of the block's request chooses the drive.
 -- What the block does there is its effect on the world, and what it tells of its unit is known from then on.
-use Rattle.request.specs.declared.UnitNumber.{UnitNumber}
+use Rattle.unit.specs.declared.UnitNumber.{UnitNumber}
 use Rattle.block.specs.Steps.{three}
 use Rattle.board.specs.Lent.{worldOf}
 use Rattle.board.specs.Records.{unitIn, unitsIn}

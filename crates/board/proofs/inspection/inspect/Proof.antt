@@ -4,7 +4,7 @@ use Prim.Native.Nat.{_^_}
 use native.Mathlib.Omega.{arith}
 use borrow.Author.Needs.{needs}
 use denote.Ref.{now, ptr}
-use Rattle.request.specs.declared.UnitNumber.the-variants.{Zero, One}
+use Rattle.unit.specs.declared.UnitNumber.the-variants.{Zero, One}
 use Rattle.board.proofs.Parts.{InItsImage, image-below, part-cut, part-lies, part-place}
 use Rattle.unit.specs.Standing.{unitOf}
 use Rattle.board.proofs.inspection.inspect.Statement.{statement}

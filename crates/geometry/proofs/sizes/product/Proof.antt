@@ -4,7 +4,6 @@ use Prim.Native.Nat.{_*_}
 use mathlib.Core.Path.{refl}
 use native.Mathlib.Nat.{mul-le-mul}
 use native.Mathlib.Omega.{arith}
-use borrow.Author.Needs.{needs}
 use Rattle.wire.proofs.Numbers.{product-below}
 use Rattle.geometry.proofs.sizes.product.Statement.{statement}
 use Rattle.geometry.proofs.sizes.product.Tie as tie

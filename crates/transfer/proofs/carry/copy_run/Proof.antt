@@ -3,9 +3,6 @@ use mathlib.Core.Path.{refl}
 use borrow.Author.Needs.{needs}
 use Rattle.transfer.proofs.carry.copy_run.Statement.{statement}
 use Rattle.transfer.proofs.carry.copy_run.Tie as tie
-use Rattle.transfer.proofs.carry.copy_run.Reads as reads
-use Rattle.transfer.proofs.carry.copy_run.Lts as lts
-use Rattle.wire.proofs.copy.Reads as copy-reads
 
 copy-requires : tie.Need-copy-requires
 copy-requires c κs = search needs

@@ -10,9 +10,6 @@ use Rattle.transfer.specs.Stores.{after, upTo}
 use Rattle.transfer.proofs.Filling.{fill-more}
 use Rattle.transfer.proofs.carry.fill.Statement.{statement}
 use Rattle.transfer.proofs.carry.fill.Tie as tie
-use Rattle.transfer.proofs.carry.fill.Reads as reads
-use Rattle.transfer.proofs.carry.fill.Lts as lts
-use Rattle.wire.proofs.copy.Reads as copy-reads
 
 abbrev Inv-loop : tie.InvT-loop
 Inv-loop host at image₀ first bytes n to₀ i₀ image to i =

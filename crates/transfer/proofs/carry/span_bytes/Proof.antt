@@ -5,10 +5,6 @@ use Rattle.wire.proofs.Numbers.{product-below}
 use borrow.Author.Needs.{needs}
 use Rattle.transfer.proofs.carry.span_bytes.Statement.{statement}
 use Rattle.transfer.proofs.carry.span_bytes.Tie as tie
-use Rattle.transfer.proofs.carry.span_bytes.Reads as reads
-use Rattle.transfer.proofs.carry.span_bytes.Lts as lts
-use Rattle.geometry.proofs.Geometry.bytes_a_sector.Reads as bytes-a-sector-reads
-use Rattle.unit.proofs.Record.geometry.Reads as geometry-reads
 
 cast-result : tie.Need-cast-result
 cast-result c = search needs

@@ -10,8 +10,6 @@ use Rattle.wire.proofs.Decided.{all-more}
 use Rattle.wire.proofs.Promises.{denied, granted, says-set}
 use Rattle.transfer.proofs.reach.readable.Statement.{statement}
 use Rattle.transfer.proofs.reach.readable.Tie as tie
-use Rattle.transfer.proofs.reach.readable.Reads as reads
-use Rattle.transfer.proofs.reach.readable.Lts as lts
 
 abbrev Inv-loop : tie.InvT-loop
 Inv-loop image at n heeds i₀ i = (i ≤ n) × ((k : ℕ) → k < i → getD image (at + k) 0 ≡ 0)

@@ -1,8 +1,8 @@
 -- The element is two words and two bytes.
 -- Each word is what its reading promises, and each byte is read at its place.
 use borrow.Author.Needs.{needs}
-use Rattle.iopb.proofs.Element.read.Statement.{statement}
-use Rattle.iopb.proofs.Element.read.Tie as tie
+use Rattle.memory.proofs.Element.read.Statement.{statement}
+use Rattle.memory.proofs.Element.read.Tie as tie
 
 be16-requires : tie.Need-be16-requires
 be16-requires c κs = search needs

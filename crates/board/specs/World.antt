@@ -2,16 +2,14 @@
 -- runs it (02, K10), whose host memory and event buffer they are.
 use Prim.Native.Nat.{ℕ}
 use mathlib.Core.List.{List}
-use Rattle.request.specs.declared.UnitNumber.{UnitNumber}
-use Rattle.request.specs.declared.UnitNumber.the-variants.{Zero, One}
-use Rattle.transfer.specs.Stores.{Buffers}
+use Rattle.unit.specs.declared.UnitNumber.{UnitNumber}
+use Rattle.unit.specs.declared.UnitNumber.the-variants.{Zero, One}
+use Rattle.iopb.specs.Ask.{unitOf}
+use Rattle.iopb.specs.Layout.{blockAt}
+use Rattle.transfer.specs.Stores.{Buffers, after}
 use Rattle.unit.specs.declared.Controller.{Controller}
 use Rattle.unit.specs.Standing.{UnitRecord}
-
--- A unit's drive: its record and its image.
-pub record Drive : Type 0 where
-  pub unit : UnitRecord
-  pub image : List ℕ
+use Rattle.block.specs.Block.{Drive, Effect, effectOn}
 
 pub record World : Type 0 where
   pub controller : Controller
@@ -34,3 +32,15 @@ changed w Zero m u =
     record { controller = w .controller; host = m .host; drive0 = record { unit = u; image = m .image }; drive1 = w .drive1; events = m .events }
 changed w One m u =
     record { controller = w .controller; host = m .host; drive0 = w .drive0; drive1 = record { unit = u; image = m .image }; events = m .events }
+
+-- The unit that the block at an address names, and what the block does to the world: it works on that unit's drive.
+abbrev pub unitAt : World → ℕ → UnitNumber
+unitAt w at = unitOf (blockAt (w .host) at)
+
+unfoldable pub effectAt : ℕ → ℕ → World → Effect
+effectAt at i w = effectOn (w .controller) (w .host) (driveOf w (unitAt w at)) at i
+
+unfoldable pub worldAfter : ℕ → ℕ → World → World
+worldAfter at i w =
+    let e = effectAt at i w in
+    changed w (unitAt w at) (after (e .stores) (buffersOf w (unitAt w at))) (e .unit)
