@@ -100,13 +100,3 @@ orders-are-one c d s apart o p = to-first o ∙ sym (to-first p)
     to-first FirstThenSecond = refl
     to-first SecondThenFirst =
         λ i. record { first = either .first i; second = sym (either .second) i; left = sym (either .left) i }
-
--- So what the code hands back, by its promise, is the same in both orders.
-pub same-handed-back :
-    (c d : Chain) (s : Both) → Independent c d s → (o p : Order)
-    (x y : Twice) (m n : Both) →
-    ranBothOf x m ≡ ranBoth o c d s →
-    ranBothOf y n ≡ ranBoth p c d s →
-    ranBothOf x m ≡ ranBothOf y n
-same-handed-back c d s apart o p x y m n one other =
-    one ∙ orders-are-one c d s apart o p ∙ sym other

@@ -1,1 +1,2 @@
+pub mod EitherOrder
 pub mod Orders
