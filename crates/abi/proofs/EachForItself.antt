@@ -5,7 +5,7 @@ use denote.Ref.{now}
 use Rattle.unit.specs.declared.Controller.{Controller}
 use Rattle.unit.specs.declared.Controller.the-variants.{First, Second}
 use Rattle.abi.specs.Calls.{Lent, calledAs, calledOf, lentOf}
-use Rattle.abi.specs.Machines.{Asking, EachForItself, Machines, afterCall, asking, numberOf, ownOf}
+use Rattle.abi.specs.Machines.{Asking, EachForItself, Machines, afterCall, asking, controllerNumber, ownOf}
 use Rattle.abi.proofs.vsmd_run_as.Reads as run-as
 
 -- What is the other's is not lent, so it stays.
@@ -30,7 +30,7 @@ vsmd-run-as-for-itself κ κ′ a b x y e f c first allowance m n here there agr
       same =
           p ∙
           ap (λ (k : Asking). calledAs (k .controller) (k .first) (k .allowance) (k .lent))
-          (here ∙ ap (asking (numberOf c) first allowance) agree ∙ sym there) ∙
+          (here ∙ ap (asking (controllerNumber c) first allowance) agree ∙ sym there) ∙
           sym q;
       other = other-stays m _ c;
     }

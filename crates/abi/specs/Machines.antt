@@ -52,9 +52,9 @@ pub record Asking : Type 0 where
 abbrev pub asking : (controller first allowance : ℕ) → Lent → Asking
 asking controller first allowance l = record { controller = controller; first = first; allowance = allowance; lent = l }
 
-abbrev pub numberOf : Controller → ℕ
-numberOf First = 0
-numberOf Second = 1
+abbrev pub controllerNumber : Controller → ℕ
+controllerNumber First = 0
+controllerNumber Second = 1
 
 -- "Answers of one controller depend on nothing else of the other than what is shared and the holder": two calls of a controller, asked for the same at two
 -- sites that agree on what is its own and on the drives, come to the same, in the number returned and in every byte. What is the other's is not lent, and stays.
@@ -71,7 +71,7 @@ abbrev pub EachForItself {ℓ₀ ℓ₁ ℓ₂ ℓ₃} :
     Type (ℓ₀ ⊔ ℓ₁ ⊔ ℓ₂ ⊔ ℓ₃)
 EachForItself {K} {A} {R} {E} Post given seen =
     (κ κ′ : K) (a : A κ) (b : A κ′) (x : R κ) (y : R κ′) (e : E κ) (f : E κ′) (c : Controller) (first allowance : ℕ) (m n : Machines) →
-    given κ a ≡ asking (numberOf c) first allowance (lentBy m c) →
-    given κ′ b ≡ asking (numberOf c) first allowance (lentBy n c) →
+    given κ a ≡ asking (controllerNumber c) first allowance (lentBy m c) →
+    given κ′ b ≡ asking (controllerNumber c) first allowance (lentBy n c) →
     lentBy m c ≡ lentBy n c →
     Post κ a x e → Post κ′ b y f → AnswersForItself m c (seen κ x e) (seen κ′ y f)

@@ -24,8 +24,8 @@ use Rattle.board.specs.declared.chain.End.{End}
 use Rattle.board.specs.declared.chain.Stepped.{Stepped}
 use Rattle.block.specs.declared.Known.the-variants.{Counts}
 use Rattle.block.specs.Block.{Effect, effectOn}
-use Rattle.board.specs.Chain.{Ending, Tally, ends, executed, fetched, nothing}
-use Rattle.board.specs.Steps.{CameTo, EndedIn, Spare, SteppedTo, countedOf, endedOf, nothingCounted, outcomeWith, steppedOf, tallyOf, toldOf}
+use Rattle.board.specs.Chain.{Ending, counted, endedOf, ends, executed, fetched, nothing}
+use Rattle.board.specs.Steps.{CameTo, EndedIn, Spare, SteppedTo, outcomeWith, steppedOf, toldOf}
 use Rattle.block.specs.Steps.{Did, Knows}
 use Rattle.unit.specs.Standing.{unitOf}
 use Rattle.unit.proofs.Decided.{counts?}
@@ -68,31 +68,31 @@ told-then b e m m′ ts d did = rw (did .result, did .table) (decided-says (coun
 
 -- ---- what follows a block
 
-module _ (fetch : Tally → ℕ → World → Ending) (count : Count) (at : ℕ) (w w′ : World) (s : Stepped) (stepped : SteppedTo w at (count .blocks) w′ s) where
-  abbrev more : Tally
-  more = tallyOf (countedOf count (s .sectors))
+module _ (fetch : Count → ℕ → World → Ending) (count : Count) (at : ℕ) (w w′ : World) (s : Stepped) (stepped : SteppedTo w at (count .blocks) w′ s) where
+  abbrev more : Count
+  more = counted count (s .sectors)
 
   pub executed-failed :
       (r : Refusal) → s .answer ≡ BlockAnswer.Failed r →
-      executed fetch (tallyOf count) at w ≡ ends RunAnswer.BlockFailed (refusalNumber r) more w′
+      executed fetch count at w ≡ ends RunAnswer.BlockFailed (refusalNumber r) more w′
   executed-failed r is = rw (stepped .world, stepped .sectors, sym (stepped .answer) ∙ is)
 
   pub executed-done :
-      s .answer ≡ BlockAnswer.Ended → s .linked ≡ false → executed fetch (tallyOf count) at w ≡ ends RunAnswer.Done 0 more w′
+      s .answer ≡ BlockAnswer.Ended → s .linked ≡ false → executed fetch count at w ≡ ends RunAnswer.Done 0 more w′
   executed-done is unlinked = rw (stepped .world, stepped .sectors, sym (stepped .answer) ∙ is, sym (stepped .linked) ∙ unlinked)
 
   pub executed-on :
-      s .answer ≡ BlockAnswer.Ended → s .linked ≡ true → executed fetch (tallyOf count) at w ≡ fetch more (s .link) w′
+      s .answer ≡ BlockAnswer.Ended → s .linked ≡ true → executed fetch count at w ≡ fetch more (s .link) w′
   executed-on is linked =
       rw (stepped .world, stepped .sectors, stepped .link, sym (stepped .answer) ∙ is, sym (stepped .linked) ∙ linked)
 
 -- ---- fetching
 
-pub fetched-spent : (left : ℕ) (t : Tally) (at : ℕ) (w : World) → left ≡ 0 → fetched left t at w ≡ ends RunAnswer.AllowanceSpent 0 t w
+pub fetched-spent : (left : ℕ) (t : Count) (at : ℕ) (w : World) → left ≡ 0 → fetched left t at w ≡ ends RunAnswer.AllowanceSpent 0 t w
 unfolding fetched
 fetched-spent left t at w none = rw none
 
-module _ (left : ℕ) (t : Tally) (at : ℕ) (w : World) (some : 0 < left) where
+module _ (left : ℕ) (t : Count) (at : ℕ) (w : World) (some : 0 < left) where
   one-spent : left ≡ suc (left - 1)
   one-spent = omega arith
 
@@ -110,7 +110,7 @@ module _ (left : ℕ) (t : Tally) (at : ℕ) (w : World) (some : 0 < left) where
 
 pub ended-in :
     (answer : RunAnswer) (failed : ℕ) (count : Count) (w : World) (e : Ending) →
-    e ≡ ends answer failed (tallyOf count) w → EndedIn e w (endedOf answer failed count)
+    e ≡ ends answer failed count w → EndedIn e w (endedOf answer failed count)
 ended-in answer failed count w e is = rw is (record { result = refl; world = refl })
 
 -- An end that is another's.
@@ -125,13 +125,13 @@ came-to e w r ended =
 -- A run that is refused has counted nothing.
 pub came-refused :
     (answer : RunAnswer) (w : World) (e : Ending) → e ≡ ends answer 0 nothing w →
-    CameTo e w (outcomeWith (endedOf answer 0 nothingCounted) (unitsOf w))
-came-refused answer w e is = came-to e w (endedOf answer 0 nothingCounted) (ended-in answer 0 nothingCounted w e is)
+    CameTo e w (outcomeWith (endedOf answer 0 nothing) (unitsOf w))
+came-refused answer w e is = came-to e w (endedOf answer 0 nothing) (ended-in answer 0 nothing w e is)
 
 -- What is spare after a block.
 pub spare-less :
     (events : List ℕ) (left : ℕ) (count : Count) (sectors : ℕ) → sectors ≤ 65535 →
-    Spare events (left + 1) (tallyOf count) → Spare events left (tallyOf (countedOf count sectors))
+    Spare events (left + 1) count → Spare events left (counted count sectors)
 spare-less events left count sectors few spare =
     record {
       entries = omega (arith, spare .entries);
@@ -140,6 +140,6 @@ spare-less events left count sectors few spare =
     }
 
 pub spare-kept :
-    (events events′ : List ℕ) (left : ℕ) (t : Tally) → length events′ ≡ length events → Spare events left t → Spare events′ left t
+    (events events′ : List ℕ) (left : ℕ) (t : Count) → length events′ ≡ length events → Spare events left t → Spare events′ left t
 spare-kept events events′ left t same spare =
     record { entries = omega (arith, spare .entries, same); blocks = spare .blocks; sectors = spare .sectors }

@@ -10,37 +10,41 @@ use Rattle.answers.specs.declared.RunAnswer.{RunAnswer}
 use Rattle.answers.specs.Numbers.{refusalNumber}
 use Rattle.iopb.specs.Layout.{blockAt}
 use Rattle.wire.specs.Memory.{inMemory?}
+use Rattle.board.specs.declared.chain.Count.{Count}
+use Rattle.board.specs.declared.chain.End.{End}
 use Rattle.board.specs.World.{World, effectAt, worldAfter}
 
--- What is counted along a chain: the blocks run and the sectors moved.
-pub record Tally : Type 0 where
-  pub blocks : ℕ
-  pub sectors : ℕ
-
--- How a chain ends: its answer, "with answer 4 the failed block's answer number, 10 and up (otherwise 0)", the counts, and the
--- world it leaves.
+-- How a chain ends: its answer, "with answer 4 the failed block's answer number, 10 and up (otherwise 0)", what was counted, the blocks run and the sectors
+-- moved, and the world that it leaves.
 pub record Ending : Type 0 where
   pub answer : RunAnswer
   pub failed : ℕ
-  pub tally : Tally
+  pub tally : Count
   pub world : World
 
-abbrev pub ends : RunAnswer → ℕ → Tally → World → Ending
+abbrev pub ends : RunAnswer → ℕ → Count → World → Ending
 ends answer failed t w = record { answer = answer; failed = failed; tally = t; world = w }
 
+-- The same as it is told, without the world.
+abbrev pub endedOf : RunAnswer → ℕ → Count → End
+endedOf answer failed t = record { answer = answer; failed = failed; blocks = t .blocks; sectors = t .sectors }
+
+abbrev pub endOf : Ending → End
+endOf e = endedOf (e .answer) (e .failed) (e .tally)
+
 -- "a block fetched is a block run, refused or not"; "Sectors moved is the sum over the blocks of sectors copied"
-abbrev pub counted : Tally → ℕ → Tally
+abbrev pub counted : Count → ℕ → Count
 counted t sectors = record { blocks = t .blocks + 1; sectors = t .sectors + sectors }
 
 -- What follows a block that ended so, where `next` is what fetching the next one comes to: "running it with LK set and status 80
 -- leads to fetching the next"; "A failed block's link isn't followed".
-abbrev pub follows : BlockAnswer → Bool → Tally → World → Ending → Ending
+abbrev pub follows : BlockAnswer → Bool → Count → World → Ending → Ending
 follows (Failed r) link t w next = ends RunAnswer.BlockFailed (refusalNumber r) t w
 follows Ended false t w next = ends RunAnswer.Done 0 t w
 follows Ended true t w next = next
 
 -- The block at an address, as it stands now: its options and its link are those of the copy.
-abbrev pub executed : (Tally → ℕ → World → Ending) → Tally → ℕ → World → Ending
+abbrev pub executed : (Count → ℕ → World → Ending) → Count → ℕ → World → Ending
 executed fetch t at w =
     let b = blockAt (w .host) at in
     let e = effectAt at (t .blocks) w in
@@ -49,12 +53,12 @@ executed fetch t at w =
     follows (e .answer) (b .options .link) t′ w′ (fetch t′ (b .link) w′)
 
 -- "Each fetch spends one of the allowance": with none left the answer is 6, and 6 comes before 5.
-unfoldable pub fetched : ℕ → Tally → ℕ → World → Ending
+unfoldable pub fetched : ℕ → Count → ℕ → World → Ending
 fetched zero t at w = ends RunAnswer.AllowanceSpent 0 t w
 fetched (suc left) t at w =
     ite (inMemory? (w .host) at 28) (executed (fetched left) t at w) (ends RunAnswer.LinkBad 0 t w)
 
-abbrev pub nothing : Tally
+abbrev pub nothing : Count
 nothing = record { blocks = 0; sectors = 0 }
 
 -- "Checks 1, 2, 3 in that order", and then the chain from the first block on.

@@ -4,7 +4,6 @@ use mathlib.Core.List.{List}
 use mathlib.Core.Path.{_≡_}
 use lib.ListN.{length}
 use Rattle.wire.specs.Memory.{InMemory}
-use Rattle.answers.specs.declared.RunAnswer.{RunAnswer}
 use Rattle.iopb.specs.Layout.{blockAt}
 use Rattle.block.specs.declared.Done.{Done}
 use Rattle.block.specs.declared.Known.the-variants.{Unasked}
@@ -19,21 +18,21 @@ use Rattle.board.specs.declared.chain.Single.{Single}
 use Rattle.board.specs.declared.chain.Single.the-variants.{Ran, NoRoom}
 use Rattle.board.specs.declared.chain.Went.{Went}
 use Rattle.board.specs.declared.chain.Stepped.{Stepped}
-use Rattle.board.specs.declared.chain.Told.{Told}
-use Rattle.board.specs.Chain.{Ending, Tally}
+use Rattle.board.specs.declared.chain.BlockTold.{BlockTold}
+use Rattle.board.specs.Chain.{Ending, endOf}
 use Rattle.board.specs.Lent.{unitsOf, worldOf}
 use Rattle.board.specs.World.{World, effectAt, worldAfter}
 
 -- What is returned of a block, in two parts: what it told, and the record that it left of its unit.
-abbrev pub toldOf : Done → Told
+abbrev pub toldOf : Done → BlockTold
 toldOf d = record { counts = d .counts; answer = d .answer; sectors = d .sectors; linked = d .linked; link = d .link }
 
-abbrev pub doneWith : Told → UnitRecord → Done
+abbrev pub doneWith : BlockTold → UnitRecord → Done
 doneWith t u =
     record { unit = byValue u; counts = t .counts; answer = t .answer; sectors = t .sectors; linked = t .linked; link = t .link }
 
 -- What a block told, with the records of both units.
-abbrev pub steppedOf : Told → Units → Stepped
+abbrev pub steppedOf : BlockTold → Units → Stepped
 steppedOf t units = record { units = units; answer = t .answer; sectors = t .sectors; linked = t .linked; link = t .link }
 
 -- A block of a chain: the world after it, and what the chain goes by.
@@ -55,14 +54,14 @@ pub record SteppedOn (w : World) (at i : ℕ) (w′ : World) (s : Went) : Type 0
 abbrev pub nothingLearnt : Learnt
 nothingLearnt = record { zero = Unasked; one = Unasked }
 
--- How a chain ends, but for the world that it leaves.
-abbrev pub endOf : Ending → End
-endOf e = record { answer = e .answer; failed = e .failed; blocks = e .tally .blocks; sectors = e .tally .sectors }
-
 -- What a run came to: how its chain ended, with the records that it left.
 abbrev pub outcomeWith : End → Units → Outcome
 outcomeWith r units =
     record { answer = r .answer; failed = r .failed; blocks = r .blocks; sectors = r .sectors; units = units }
+
+-- And the other way: how it ended, without the records.
+abbrev pub endIn : Outcome → End
+endIn o = record { answer = o .answer; failed = o .failed; blocks = o .blocks; sectors = o .sectors }
 
 abbrev pub outcomeOf : Ending → Outcome
 outcomeOf e = outcomeWith (endOf e) (unitsOf (e .world))
@@ -77,22 +76,10 @@ pub record CameTo (e : Ending) (w : World) (r : Outcome) : Type 0 where
   pub world : w ≡ e .world
 
 -- The allowance is within what the event buffer and the counts can hold.
-pub record Spare (events : List ℕ) (left : ℕ) (t : Tally) : Type 0 where
+pub record Spare (events : List ℕ) (left : ℕ) (t : Count) : Type 0 where
   pub entries : 8 * (t .blocks + left) ≤ length events
   pub blocks : t .blocks + left ≤ 64
   pub sectors : t .sectors ≤ 65535 * t .blocks
-
-abbrev pub tallyOf : Count → Tally
-tallyOf t = record { blocks = t .blocks; sectors = t .sectors }
-
-abbrev pub countedOf : Count → ℕ → Count
-countedOf t sectors = record { blocks = t .blocks + 1; sectors = t .sectors + sectors }
-
-abbrev pub endedOf : RunAnswer → ℕ → Count → End
-endedOf answer failed t = record { answer = answer; failed = failed; blocks = t .blocks; sectors = t .sectors }
-
-abbrev pub nothingCounted : Count
-nothingCounted = record { blocks = 0; sectors = 0 }
 
 -- A block alone: where it can be fetched and has room for its entry it is run, and elsewhere nothing is done.
 pub record Fetchable (w : World) (at i : ℕ) : Type 0 where

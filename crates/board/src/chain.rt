@@ -14,8 +14,8 @@ use unit::UnitNumber;
 ghost use mathlib.Core.Path.{_≡_};
 ghost use Prim.Native.Nat.{_+_, _*_, _≤_};
 ghost use lib.ListN.{length};
-ghost use Rattle.board.specs.Chain.{executed, fetched, ran};
-ghost use Rattle.board.specs.Steps.{CameTo, EndedIn, KnowsBoth, RanOne, Spare, SteppedOn, countedOf, doneWith, endedOf, nothingCounted, nothingLearnt, outcomeWith, steppedOf, tallyOf, toldOf};
+ghost use Rattle.board.specs.Chain.{counted, endedOf, executed, fetched, nothing, ran};
+ghost use Rattle.board.specs.Steps.{CameTo, EndedIn, KnowsBoth, RanOne, Spare, SteppedOn, doneWith, nothingLearnt, outcomeWith, steppedOf, toldOf};
 ghost use Rattle.block.specs.Block.{effectOn};
 ghost use Rattle.block.specs.Steps.{Did, Knows, Room, driveWith, three};
 ghost use Rattle.board.specs.Lent.{worldOf};
@@ -36,7 +36,7 @@ pub struct Stepped {
 }
 
 // What a chain goes by after a block, and whether the block's unit counts as initialized then.
-pub(crate) struct Told {
+pub(crate) struct BlockTold {
     pub counts: bool,
     pub answer: BlockAnswer,
     pub sectors: u16,
@@ -52,18 +52,18 @@ pub(crate) struct Learnt {
 
 // A block of a chain: what the chain goes by after it, and what it has learnt.
 pub(crate) struct Went {
-    pub told: Told,
+    pub told: BlockTold,
     pub learnt: Learnt,
 }
 
 // The blocks run and the sectors moved so far.
-pub(crate) struct Count {
+pub struct Count {
     pub blocks: u32,
     pub sectors: u32,
 }
 
 // How a chain ended, but for the records: these are left where they are lent. `failed` is as in an outcome.
-pub(crate) struct End {
+pub struct End {
     pub answer: RunAnswer,
     pub failed: u8,
     pub blocks: u32,
@@ -80,11 +80,11 @@ pub struct Outcome {
 }
 
 // What a block tells the chain, without the record that it left of its unit.
-fn told_by(done: Done) -> Told
+fn told_by(done: Done) -> BlockTold
     ensures { λ t. ⌜ t ≡ toldOf done ⌝ }
 {
     let answer = done.answer;
-    Told {
+    BlockTold {
         counts: done.counts,
         answer,
         sectors: done.sectors,
@@ -105,7 +105,7 @@ fn work_on(
     map: &mut [u32; 64],
     at: usize,
     i: usize,
-) -> Told
+) -> BlockTold
     requires { ⌜ Room (now host) (now events) at i × Knows known (unitIn (now held) (now map)) ⌝ }
     ensures { λ t. ⌜ Did (blockAt (now (host .entry)) at) (effectOn c (now (host .entry)) (driveWith (unitIn (now (held .entry)) (now (map .entry))) (now (image .entry))) at i) (three (now (host .entry)) (now (image .entry)) (now (events .entry))) (three (now (host .exit)) (now (image .exit)) (now (events .exit))) (now (map .exit)) (doneWith t (unitIn (now (held .exit)) (now (map .exit)))) ⌝ }
 {
@@ -205,8 +205,8 @@ fn fetch(
     left: u32,
     count: Count,
 ) -> End
-    requires { ⌜ Spare (now events) left (tallyOf count) × KnowsBoth learnt (unitIn (now record0) (now map0)) (unitIn (now record1) (now map1)) ⌝ }
-    ensures { λ r. ⌜ EndedIn (fetched left (tallyOf count) at (worldOf c (now (host .entry)) (now (image0 .entry)) (now (image1 .entry)) (now (events .entry)) (now (map0 .entry)) (now (map1 .entry)) (unitsIn (now (record0 .entry)) (now (record1 .entry))))) (worldOf c (now (host .exit)) (now (image0 .exit)) (now (image1 .exit)) (now (events .exit)) (now (map0 .exit)) (now (map1 .exit)) (unitsIn (now (record0 .exit)) (now (record1 .exit)))) r ⌝ }
+    requires { ⌜ Spare (now events) left count × KnowsBoth learnt (unitIn (now record0) (now map0)) (unitIn (now record1) (now map1)) ⌝ }
+    ensures { λ r. ⌜ EndedIn (fetched left count at (worldOf c (now (host .entry)) (now (image0 .entry)) (now (image1 .entry)) (now (events .entry)) (now (map0 .entry)) (now (map1 .entry)) (unitsIn (now (record0 .entry)) (now (record1 .entry))))) (worldOf c (now (host .exit)) (now (image0 .exit)) (now (image1 .exit)) (now (events .exit)) (now (map0 .exit)) (now (map1 .exit)) (unitsIn (now (record0 .exit)) (now (record1 .exit)))) r ⌝ }
 {
     if left == 0 {
         return ended(RunAnswer::AllowanceSpent, 0, count);
@@ -247,8 +247,8 @@ fn execute(
     left: u32,
     count: Count,
 ) -> End
-    requires { ⌜ InMemory (now host) at 28 × Spare (now events) (left + 1) (tallyOf count) × KnowsBoth learnt (unitIn (now record0) (now map0)) (unitIn (now record1) (now map1)) ⌝ }
-    ensures { λ r. ⌜ EndedIn (executed (fetched left) (tallyOf count) at (worldOf c (now (host .entry)) (now (image0 .entry)) (now (image1 .entry)) (now (events .entry)) (now (map0 .entry)) (now (map1 .entry)) (unitsIn (now (record0 .entry)) (now (record1 .entry))))) (worldOf c (now (host .exit)) (now (image0 .exit)) (now (image1 .exit)) (now (events .exit)) (now (map0 .exit)) (now (map1 .exit)) (unitsIn (now (record0 .exit)) (now (record1 .exit)))) r ⌝ }
+    requires { ⌜ InMemory (now host) at 28 × Spare (now events) (left + 1) count × KnowsBoth learnt (unitIn (now record0) (now map0)) (unitIn (now record1) (now map1)) ⌝ }
+    ensures { λ r. ⌜ EndedIn (executed (fetched left) count at (worldOf c (now (host .entry)) (now (image0 .entry)) (now (image1 .entry)) (now (events .entry)) (now (map0 .entry)) (now (map1 .entry)) (unitsIn (now (record0 .entry)) (now (record1 .entry))))) (worldOf c (now (host .exit)) (now (image0 .exit)) (now (image1 .exit)) (now (events .exit)) (now (map0 .exit)) (now (map1 .exit)) (unitsIn (now (record0 .exit)) (now (record1 .exit)))) r ⌝ }
 {
     let step = step(
         host,
@@ -295,7 +295,7 @@ fn execute(
 
 fn counted(count: Count, sectors: u16) -> Count
     requires { ⌜ (count .blocks ≤ 64) × (count .sectors ≤ 65535 * count .blocks) ⌝ }
-    ensures { λ r. ⌜ r ≡ countedOf count sectors ⌝ }
+    ensures { λ r. ⌜ r ≡ counted count sectors ⌝ }
 {
     Count {
         blocks: count.blocks + 1,
@@ -305,7 +305,7 @@ fn counted(count: Count, sectors: u16) -> Count
 
 // Nothing counted: what a refused run answers, and what a chain begins with.
 fn nothing() -> Count
-    ensures { λ r. ⌜ r ≡ nothingCounted ⌝ }
+    ensures { λ r. ⌜ r ≡ nothing ⌝ }
 {
     Count {
         blocks: 0,
@@ -345,7 +345,7 @@ fn outcome_with(end: End, units: Units) -> Outcome
 
 // A run that is refused counts nothing, and leaves the records as they are.
 fn refused(answer: RunAnswer, units: Units) -> Outcome
-    ensures { λ r. ⌜ r ≡ outcomeWith (endedOf answer 0 nothingCounted) units ⌝ }
+    ensures { λ r. ⌜ r ≡ outcomeWith (endedOf answer 0 nothing) units ⌝ }
 {
     outcome_with(ended(answer, 0, nothing()), units)
 }
@@ -401,7 +401,7 @@ pub enum Single {
 }
 
 // What a block told, with the records of both units.
-fn stepped_with(told: Told, units: Units) -> Stepped
+fn stepped_with(told: BlockTold, units: Units) -> Stepped
     ensures { λ s. ⌜ s ≡ steppedOf told units ⌝ }
 {
     let answer = told.answer;

@@ -7,6 +7,8 @@ mod chain;
 mod inspection;
 mod records;
 
+pub use chain::Count;
+pub use chain::End;
 pub use chain::Outcome;
 pub use chain::Single;
 pub use chain::Stepped;

@@ -9,33 +9,34 @@ use native.Mathlib.Decide.{decLt}
 use native.Mathlib.Nat.{add-assoc, add-zero}
 use native.Mathlib.Omega.{arith}
 use lib.ListN.{length}
+use Rattle.board.specs.declared.chain.Count.{Count}
 use Rattle.wire.specs.Memory.{InMemory, inMemory?}
 use Rattle.answers.specs.declared.BlockAnswer.{BlockAnswer}
 use Rattle.answers.specs.declared.BlockAnswer.the-variants.{Ended, Failed}
 use Rattle.answers.specs.declared.RunAnswer.{RunAnswer}
-use Rattle.board.specs.Chain.{Ending, Tally, counted, ends, executed, fetched, follows}
-use Rattle.demands.specs.Visits.{EndsWith, Linked, Told, Visit, blockOf, effectOf, leadsOn, onwards, sectorsOf, visits, worldLeft}
+use Rattle.board.specs.Chain.{Ending, counted, ends, executed, fetched, follows}
+use Rattle.demands.specs.Visits.{EndsWith, Linked, ToldByBlocks, Visit, blockOf, effectOf, leadsOn, onwards, sectorsOf, visits, worldLeft}
 use Rattle.board.proofs.Chains.{fetched-bad, fetched-spent}
 use Rattle.board.specs.World.{World}
 
-module _ (left : ℕ) (t : Tally) (at : ℕ) (w : World) where
+module _ (left : ℕ) (t : Count) (at : ℕ) (w : World) where
   abbrev pub here : Visit
   here = record { at = at; index = t .blocks; world = w }
 
-  abbrev pub then : Tally
+  abbrev pub then : Count
   then = counted t (effectOf here .sectors)
 
   abbrev Next : Type 0
   Next =
       InMemory (worldLeft here .host) (blockOf here .link) 28 →
       (less : 0 < left) →
-      Told (fetched left then (blockOf here .link) (worldLeft here)) (visits left (t .blocks + 1) (blockOf here .link) (worldLeft here)) left then
+      ToldByBlocks (fetched left then (blockOf here .link) (worldLeft here)) (visits left (t .blocks + 1) (blockOf here .link) (worldLeft here)) left then
       (record { at = blockOf here .link; index = t .blocks + 1; world = worldLeft here })
 
   -- A chain that ends with its first block.
   alone :
       (answer : RunAnswer) (failed : ℕ) → EndsWith answer failed left here →
-      Told (ends answer failed then (worldLeft here)) (here ∷ []) (suc left) t here
+      ToldByBlocks (ends answer failed then (worldLeft here)) (here ∷ []) (suc left) t here
   alone answer failed so =
       record {
         rest = [];
@@ -51,7 +52,7 @@ module _ (left : ℕ) (t : Tally) (at : ℕ) (w : World) where
 
   -- One that goes on.
   on :
-      (e : Ending) (vs : List Visit) (next : Visit) → Told e vs left then next → Told e (here ∷ vs) (suc left) t here
+      (e : Ending) (vs : List Visit) (next : Visit) → ToldByBlocks e vs left then next → ToldByBlocks e (here ∷ vs) (suc left) t here
   on e vs next told =
       record {
         rest = next ∷ told .rest;
@@ -81,7 +82,7 @@ module _ (left : ℕ) (t : Tally) (at : ℕ) (w : World) where
   -- By how the first block ended, and what is left.
   by-end :
       (a : BlockAnswer) (k : Bool) → effectOf here .answer ≡ a → blockOf here .options .link ≡ k → Next →
-      Told (follows a k then (worldLeft here) (fetched left then (blockOf here .link) (worldLeft here)))
+      ToldByBlocks (follows a k then (worldLeft here) (fetched left then (blockOf here .link) (worldLeft here)))
       (here ∷ onwards a k (visits left (t .blocks + 1) (blockOf here .link) (worldLeft here))) (suc left) t here
   by-end (Failed r) k is linked next = alone RunAnswer.BlockFailed _ (r, (refl, is))
   by-end Ended false is linked next = alone RunAnswer.Done 0 (refl, (is, linked))
@@ -96,7 +97,7 @@ module _ (left : ℕ) (t : Tally) (at : ℕ) (w : World) where
       rw (fetched-spent left then (blockOf here .link) (worldLeft here) spent, visits-spent spent)
       (alone RunAnswer.AllowanceSpent 0 (refl, (is, (linked, spent)))))
 
-module _ (n : ℕ) (t : Tally) (at : ℕ) (w : World) (good : InMemory (w .host) at 28) where
+module _ (n : ℕ) (t : Count) (at : ℕ) (w : World) (good : InMemory (w .host) at 28) where
   pub fetched-step : fetched (suc n) t at w ≡ executed (fetched n) t at w
   unfolding fetched
   fetched-step = if-pos (inMemory? (w .host) at 28) good _ _
@@ -111,13 +112,13 @@ module _ (n : ℕ) (t : Tally) (at : ℕ) (w : World) (good : InMemory (w .host)
 
   told-step :
       Next n t at w →
-      Told (fetched (suc n) t at w) (visits (suc n) (t .blocks) at w) (suc n) t (record { at = at; index = t .blocks; world = w })
+      ToldByBlocks (fetched (suc n) t at w) (visits (suc n) (t .blocks) at w) (suc n) t (record { at = at; index = t .blocks; world = w })
   told-step next = rw (fetched-step, visits-step) (by-end n t at w _ _ refl refl next)
 
 -- The theorem, for a first block that can be fetched.
 pub chain-told :
-    (left : ℕ) (t : Tally) (at : ℕ) (w : World) → InMemory (w .host) at 28 →
-    Told (fetched (suc left) t at w) (visits (suc left) (t .blocks) at w) (suc left) t (record { at = at; index = t .blocks; world = w })
+    (left : ℕ) (t : Count) (at : ℕ) (w : World) → InMemory (w .host) at 28 →
+    ToldByBlocks (fetched (suc left) t at w) (visits (suc left) (t .blocks) at w) (suc left) t (record { at = at; index = t .blocks; world = w })
 chain-told zero t at w good = told-step zero t at w good (λ place less. absurd (omega arith))
 chain-told (suc n) t at w good = told-step (suc n) t at w good (λ place less. chain-told n (then (suc n) t at w) _ _ place)
 

@@ -7,6 +7,7 @@ use mathlib.Core.Logic.{inl, inr, by-cases, if-pos}
 use mathlib.Core.Path.{_≡_, refl, sym, ap, subst, _∙_}
 use native.Mathlib.Omega.{arith}
 use lib.ListN.{getD, length}
+use Rattle.board.specs.declared.chain.Count.{Count}
 use Rattle.answers.specs.declared.BlockAnswer.{BlockAnswer}
 use Rattle.answers.specs.declared.BlockAnswer.the-variants.{Ended, Failed}
 use Rattle.unit.specs.declared.UnitNumber.{UnitNumber}
@@ -16,7 +17,7 @@ use Rattle.transfer.proofs.Stays.{lengths-stay, unstored-stays}
 use Rattle.wire.specs.Memory.{inMemory?}
 use Rattle.block.specs.Block.{Drive, Effect, heldUnit, holderLeft, judged, leftBy}
 use Rattle.block.proofs.Held.{holder-keeps}
-use Rattle.board.specs.Chain.{Ending, Tally, fetched, follows, nothing, ran}
+use Rattle.board.specs.Chain.{Ending, fetched, follows, nothing, ran}
 use Rattle.demands.specs.Footprint.{Renews, RunNames, RunWrites, RunWritesEvents, RunWritesImage, RunWritesRecord, Some, WritesEvents, WritesHost, WritesImage, WritesRecord, askedOf, changes, leavingOf, namedDrive, names, verdictOf}
 use Rattle.demands.proofs.Written.{effect-is, event-written-exactly, host-written-exactly, image-written-exactly}
 use Rattle.unit.specs.declared.Holder.{Holder}
@@ -49,7 +50,7 @@ module _ (I : World → Type 0) where
   Hands v = I (v .world) → I (worldLeft v)
 
   by-end :
-      (a : BlockAnswer) (k : Bool) (t : Tally) (v : Visit) (next : Ending) (rest : List Visit) →
+      (a : BlockAnswer) (k : Bool) (t : Count) (v : Visit) (next : Ending) (rest : List Visit) →
       (Every Hands rest → I (worldLeft v) → I (next .world)) →
       Every Hands (v ∷ onwards a k rest) → I (v .world) → I (follows a k t (worldLeft v) next .world)
   by-end (Failed r) k t v next rest on every now = every .0 now
@@ -57,7 +58,7 @@ module _ (I : World → Type 0) where
   by-end Ended true t v next rest on every now = on (every .1) (every .0 now)
 
   chain-hands :
-      (left : ℕ) (t : Tally) (at : ℕ) (w : World) →
+      (left : ℕ) (t : Count) (at : ℕ) (w : World) →
       Every Hands (visits left (t .blocks) at w) → I w → I (fetched left t at w .world)
   chain-hands zero t at w every now = rw (fetched-spent 0 t at w refl) now
   chain-hands (suc n) t at w every now =

@@ -9,6 +9,7 @@ use mathlib.Core.Path.{_≡_, refl, sym, ap, subst, _∙_}
 use native.Mathlib.Decide.{decLe, decLt}
 use native.Mathlib.Omega.{arith}
 use lib.ListN.{length}
+use Rattle.board.specs.declared.chain.Count.{Count}
 use Rattle.answers.specs.declared.BlockAnswer.{BlockAnswer}
 use Rattle.answers.specs.declared.BlockAnswer.the-variants.{Ended, Failed}
 use Rattle.answers.specs.declared.RunAnswer.{RunAnswer}
@@ -21,7 +22,7 @@ use Rattle.unit.specs.Standing.{geometry}
 use Rattle.wire.specs.Memory.{InMemory, inMemory?}
 use Rattle.block.specs.Block.{Effect, effectOn}
 use Rattle.block.proofs.PastMarks.{left-alike, one-effect}
-use Rattle.board.specs.Chain.{Ending, Tally, counted, ends, fetched, follows, nothing, ran}
+use Rattle.board.specs.Chain.{Ending, counted, ends, fetched, follows, nothing, ran}
 use Rattle.board.proofs.Chains.{fetched-bad, fetched-spent}
 use Rattle.board.proofs.Runs.{ran-allowance-bad, ran-chain, ran-events-short, ran-first-bad}
 use Rattle.demands.specs.Footprint.{Renews, Some, askedOf, names}
@@ -112,7 +113,7 @@ module _ (at i : ℕ) (w : World) (image : List ℕ) where
 
 -- A chain that ends here, on one image and on the other.
 unmoved :
-    (n : UnitNumber) (answer : RunAnswer) (failed : ℕ) (t : Tally) (w : World) (image : List ℕ) → SameOn n w image →
+    (n : UnitNumber) (answer : RunAnswer) (failed : ℕ) (t : Count) (w : World) (image : List ℕ) → SameOn n w image →
     EndsAlike n (ends answer failed t w) (ends answer failed t (imaged n image w))
 unmoved n answer failed t w image alike = record { answer = refl; failed = refl; tally = refl; image = image; world = refl; same = alike }
 
@@ -126,7 +127,7 @@ module _ (n : UnitNumber) where
       subst (λ (g : Geometry). SameSectors g (driveOf (worldLeft v) n .image) image) (sym (block-keeps-geometry v n none)) alike
 
   by-end :
-      (a : BlockAnswer) (k : Bool) (t : Tally) (w : World) (image : List ℕ) → SameOn n w image → (next next′ : Ending) (rest : List Visit) →
+      (a : BlockAnswer) (k : Bool) (t : Count) (w : World) (image : List ℕ) → SameOn n w image → (next next′ : Ending) (rest : List Visit) →
       (Some Renewing (onwards a k rest) → ⊥) → ((Some Renewing rest → ⊥) → EndsAlike n next next′) →
       EndsAlike n (follows a k t w next) (follows a k t (imaged n image w) next′)
   by-end (Failed r) k t w image alike next next′ rest none on = unmoved n _ _ _ w image alike
@@ -139,7 +140,7 @@ module _ (n : UnitNumber) where
 
   -- A chain that goes on from a block, by what the block came to on the first image.
   goes-on :
-      (left : ℕ) (t : Tally) (at : ℕ) (w : World) (image : List ℕ) (good : InMemory (w .host) at 28) → (step : StepsAlike n at (t .blocks) w image) →
+      (left : ℕ) (t : Count) (at : ℕ) (w : World) (image : List ℕ) (good : InMemory (w .host) at 28) → (step : StepsAlike n at (t .blocks) w image) →
       let v = here left t at w in
       let next = imaged n (step .left) (worldLeft v) in
       fetched (suc left) t at (imaged n image w) ≡
@@ -153,7 +154,7 @@ module _ (n : UnitNumber) where
       follows (e .answer) (b .options .link) t′ (step .world k) (fetched left t′ (b .link) (step .world k)))
 
   chain-alike :
-      (left : ℕ) (t : Tally) (at : ℕ) (w : World) (image : List ℕ) → SameOn n w image → (Some Renewing (visits left (t .blocks) at w) → ⊥) →
+      (left : ℕ) (t : Count) (at : ℕ) (w : World) (image : List ℕ) → SameOn n w image → (Some Renewing (visits left (t .blocks) at w) → ⊥) →
       EndsAlike n (fetched left t at w) (fetched left t at (imaged n image w))
   chain-alike zero t at w image alike none =
       rw (fetched-spent 0 t at w refl, fetched-spent 0 t at (imaged n image w) refl) (unmoved n _ _ _ w image alike)

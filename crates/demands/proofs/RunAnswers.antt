@@ -9,6 +9,7 @@ use native.Mathlib.Decide.{decLe, decLt}
 use native.Mathlib.Nat.{zero-add}
 use native.Mathlib.Omega.{arith}
 use lib.ListN.{length}
+use Rattle.board.specs.declared.chain.Count.{Count}
 use Rattle.wire.specs.Memory.{InMemory, inMemory?}
 use Rattle.answers.specs.declared.BlockAnswer.{BlockAnswer}
 use Rattle.answers.specs.declared.BlockAnswer.the-variants.{Ended, Failed}
@@ -16,8 +17,8 @@ use Rattle.answers.specs.declared.Refusal.{Refusal}
 use Rattle.answers.specs.declared.RunAnswer.{RunAnswer}
 use Rattle.answers.specs.declared.RunAnswer.the-variants.{Done, EventsShort, AllowanceBad, FirstBad, BlockFailed, LinkBad, AllowanceSpent}
 use Rattle.answers.specs.Numbers.{refusalNumber, runNumber}
-use Rattle.board.specs.Chain.{Ending, Tally, ends, nothing, ran}
-use Rattle.demands.specs.Visits.{EndsWith, Passes, Told, Visit, blockOf, effectOf, fetchedBy, lastOf, passes?, sectorsOf, visits}
+use Rattle.board.specs.Chain.{Ending, ends, nothing, ran}
+use Rattle.demands.specs.Visits.{EndsWith, Passes, ToldByBlocks, Visit, blockOf, effectOf, fetchedBy, lastOf, passes?, sectorsOf, visits}
 use Rattle.demands.proofs.Endings.{chain-told, visits-few}
 use Rattle.board.proofs.Runs.{ran-allowance-bad, ran-chain, ran-events-short, ran-first-bad}
 use Rattle.board.specs.World.{World}
@@ -81,7 +82,7 @@ module _ (first allowance : ℕ) (w : World) where
 
   -- A run that passes the checks is its chain, told by the blocks that it fetches: it begins with no block and no sector, so
   -- its two counts are the number of these blocks and the sum of their sectors.
-  pub run-told : Passes first allowance w → Told end fetches allowance nothing one
+  pub run-told : Passes first allowance w → ToldByBlocks end fetches allowance nothing one
   run-told passes =
       let some : allowance ≡ suc (allowance - 1) = omega (arith, passes .least) in
       rw (ran-chain first allowance w (passes .events) (passes .least, passes .most) (passes .place), some)
@@ -195,7 +196,7 @@ module _ (first allowance : ℕ) (w : World) where
       rw (if-pos (passes? first allowance w) passes _ _, told .are) (told .blocks ∙ zero-add _, told .sectors ∙ zero-add _))
       (λ refused.
       let e = by-standing refused stands in
-      rw (if-neg (passes? first allowance w) refused _ _) (ap (λ (t : Tally). t .blocks) e, ap (λ (t : Tally). t .sectors) e))
+      rw (if-neg (passes? first allowance w) refused _ _) (ap (λ (t : Count). t .blocks) e, ap (λ (t : Count). t .sectors) e))
     where
       by-standing : (Passes first allowance w → ⊥) → Stands → end .tally ≡ nothing
       by-standing refused (short less e) = ap (λ (x : Ending). x .tally) e

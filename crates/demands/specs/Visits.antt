@@ -8,6 +8,7 @@ use mathlib.Core.Path.{_≡_}
 use native.Mathlib.Decide.{decLe, map-dec}
 use lib.IntN.{ℤ}
 use lib.ListN.{length}
+use Rattle.board.specs.declared.chain.Count.{Count}
 use Rattle.answers.specs.declared.BlockAnswer.{BlockAnswer}
 use Rattle.answers.specs.declared.BlockAnswer.the-variants.{Ended, Failed}
 use Rattle.answers.specs.declared.Refusal.{Refusal}
@@ -20,7 +21,7 @@ use Rattle.wire.specs.Memory.{InMemory, inMemory?}
 use Rattle.transfer.specs.Stores.{Store, bytesFrom, eventByte}
 use Rattle.block.specs.Block.{Effect}
 use Rattle.block.specs.Events.{InRange, entry}
-use Rattle.board.specs.Chain.{Ending, Tally}
+use Rattle.board.specs.Chain.{Ending}
 use Rattle.board.specs.World.{World, effectAt, worldAfter}
 
 -- A block that was fetched: its address, how many were run before it, and the world before it.
@@ -130,7 +131,7 @@ EndsWith FirstBad failed left v = ⊥
 
 -- What a chain comes to, told by the blocks that it fetches: a first one and the rest. Its counts are theirs, the last of them ends
 -- it, and what that one leaves is what the chain leaves.
-pub record Told (e : Ending) (vs : List Visit) (left : ℕ) (t : Tally) (first : Visit) : Type 0 where
+pub record ToldByBlocks (e : Ending) (vs : List Visit) (left : ℕ) (t : Count) (first : Visit) : Type 0 where
   pub rest : List Visit
   pub are : vs ≡ first ∷ rest
   pub blocks : e .tally .blocks ≡ t .blocks + length (first ∷ rest)

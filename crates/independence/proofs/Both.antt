@@ -10,7 +10,7 @@ use Rattle.wire.proofs.Promises.{never}
 use Rattle.unit.specs.declared.UnitNumber.the-variants.{Zero, One}
 use Rattle.unit.specs.declared.Controller.{Controller}
 use Rattle.unit.specs.declared.Controller.the-variants.{First as FirstController, Second as SecondController}
-use Rattle.independence.specs.Chains.{Both, Cell, First, Holds, Second, Which, both, cellsOf, drive, eventBuffer, holds, hostByte, hostOf, leaving, placeOf, worldFor}
+use Rattle.independence.specs.Chains.{Both, BothCell, First, Holds, Second, Which, both, cellsOf, drive, eventBuffer, holds, memoryByte, hostOf, leaving, placeOf, worldFor}
 use Rattle.independence.specs.Local.{Extensional, Stable}
 use Rattle.independence.specs.Worlds.{byte, disk, events, holds as found, worlds}
 use Rattle.independence.proofs.Places.{Faithful}
@@ -19,18 +19,18 @@ use Rattle.board.specs.World.{World}
 
 -- ---- the kind of state
 
-stable : (c : Cell) (x y : Holds c) → ((x ≡ y → ⊥) → ⊥) → x ≡ y
-stable (hostByte c n) = byte-certain
+stable : (c : BothCell) (x y : Holds c) → ((x ≡ y → ⊥) → ⊥) → x ≡ y
+stable (memoryByte c n) = byte-certain
 stable (drive n) = drive-certain
 stable (eventBuffer t) = buffer-certain
 
 pub both-stable : Stable both
 both-stable = record { stable = stable }
 
-extensional : (s t : Both) → both .shape s ≡ both .shape t → ((c : Cell) → holds s c ≡ holds t c) → s ≡ t
+extensional : (s t : Both) → both .shape s ≡ both .shape t → ((c : BothCell) → holds s c ≡ holds t c) → s ≡ t
 extensional s t long same =
-    let one = ext-getD 0 (s .host1) (t .host1) (ap (λ p. p .0) long) (λ i less. same (hostByte FirstController i)) in
-    let two = ext-getD 0 (s .host2) (t .host2) (ap (λ p. p .1) long) (λ i less. same (hostByte SecondController i)) in
+    let one = ext-getD 0 (s .host1) (t .host1) (ap (λ p. p .0) long) (λ i less. same (memoryByte FirstController i)) in
+    let two = ext-getD 0 (s .host2) (t .host2) (ap (λ p. p .1) long) (λ i less. same (memoryByte SecondController i)) in
     λ i.
     record {
       host1 = one i;
@@ -53,8 +53,8 @@ no-controller-is-both : FirstController ≡ SecondController → ⊥
 no-controller-is-both e = never cc
 
 same :
-    (t : Which) (c : Controller) (P Q : worlds .Cell → Type 0) → ((c : worlds .Cell) → P c ↔ Q c) → (d : Cell) → cellsOf t c P d ↔ cellsOf t c Q d
-same t c P Q is (hostByte d x) = Iff·and Iff·rfl (is (byte x))
+    (t : Which) (c : Controller) (P Q : worlds .Cell → Type 0) → ((c : worlds .Cell) → P c ↔ Q c) → (d : BothCell) → cellsOf t c P d ↔ cellsOf t c Q d
+same t c P Q is (memoryByte d x) = Iff·and Iff·rfl (is (byte x))
 same t c P Q is (drive n) = is (disk n)
 same t c P Q is (eventBuffer u) = Iff·and Iff·rfl (is events)
 
@@ -77,17 +77,17 @@ long-back First SecondController s w long = λ i. (length (s .host1), long i .1)
 long-back Second SecondController s w long = λ i. (length (s .host1), long i .1)
 
 seen :
-    (t : Which) (c : Controller) (P : worlds .Cell → Type 0) (s s′ : Both) → ((d : Cell) → cellsOf t c P d → holds s d ≡ holds s′ d) →
+    (t : Which) (c : Controller) (P : worlds .Cell → Type 0) (s s′ : Both) → ((d : BothCell) → cellsOf t c P d → holds s d ≡ holds s′ d) →
     (x : worlds .Cell) → P x → found (worldFor t c s) x ≡ found (worldFor t c s′) x
-seen t c P s s′ agree (byte x) p = agree (hostByte c x) (refl, p)
+seen t c P s s′ agree (byte x) p = agree (memoryByte c x) (refl, p)
 seen t c P s s′ agree (disk Zero) p = agree (drive Zero) p
 seen t c P s s′ agree (disk One) p = agree (drive One) p
 seen t c P s s′ agree events p = agree (eventBuffer t) (refl, p)
 
 back :
     (t : Which) (c : Controller) (P : worlds .Cell → Type 0) (s s′ : Both) (w w′ : World) → ((c : worlds .Cell) → P c → found w c ≡ found w′ c) →
-    (d : Cell) → cellsOf t c P d → holds (leaving t c s w) d ≡ holds (leaving t c s′ w′) d
-back t c P s s′ w w′ agree (hostByte d x) (is, p) =
+    (d : BothCell) → cellsOf t c P d → holds (leaving t c s w) d ≡ holds (leaving t c s′ w′) d
+back t c P s s′ w w′ agree (memoryByte d x) (is, p) =
     subst (λ (d : Controller). getD (hostOf (leaving t c s w) d) x 0 ≡ getD (hostOf (leaving t c s′ w′) d) x 0) is
     (ap (λ (l : List ℕ). getD l x 0) (put-found c t s w) ∙ agree (byte x) p ∙ sym (ap (λ (l : List ℕ). getD l x 0) (put-found c t s′ w′)))
 back t c P s s′ w w′ agree (drive Zero) p = agree (disk Zero) p
@@ -99,16 +99,16 @@ back Second c P s s′ w w′ agree (eventBuffer Second) p = agree events (p .1)
 
 kept :
     (t : Which) (c : Controller) (P : worlds .Cell → Type 0) (s : Both) (w : World) →
-    ((x : worlds .Cell) → (P x → ⊥) → found w x ≡ found (worldFor t c s) x) → (d : Cell) → (cellsOf t c P d → ⊥) →
+    ((x : worlds .Cell) → (P x → ⊥) → found w x ≡ found (worldFor t c s) x) → (d : BothCell) → (cellsOf t c P d → ⊥) →
     holds (leaving t c s w) d ≡ holds s d
-kept First FirstController P s w agree (hostByte FirstController x) none = agree (byte x) (λ p. none (refl, p))
-kept First FirstController P s w agree (hostByte SecondController x) none = refl
-kept First SecondController P s w agree (hostByte FirstController x) none = refl
-kept First SecondController P s w agree (hostByte SecondController x) none = agree (byte x) (λ p. none (refl, p))
-kept Second FirstController P s w agree (hostByte FirstController x) none = agree (byte x) (λ p. none (refl, p))
-kept Second FirstController P s w agree (hostByte SecondController x) none = refl
-kept Second SecondController P s w agree (hostByte FirstController x) none = refl
-kept Second SecondController P s w agree (hostByte SecondController x) none = agree (byte x) (λ p. none (refl, p))
+kept First FirstController P s w agree (memoryByte FirstController x) none = agree (byte x) (λ p. none (refl, p))
+kept First FirstController P s w agree (memoryByte SecondController x) none = refl
+kept First SecondController P s w agree (memoryByte FirstController x) none = refl
+kept First SecondController P s w agree (memoryByte SecondController x) none = agree (byte x) (λ p. none (refl, p))
+kept Second FirstController P s w agree (memoryByte FirstController x) none = agree (byte x) (λ p. none (refl, p))
+kept Second FirstController P s w agree (memoryByte SecondController x) none = refl
+kept Second SecondController P s w agree (memoryByte FirstController x) none = refl
+kept Second SecondController P s w agree (memoryByte SecondController x) none = agree (byte x) (λ p. none (refl, p))
 kept t c P s w agree (drive Zero) none = agree (disk Zero) none
 kept t c P s w agree (drive One) none = agree (disk One) none
 kept First c P s w agree (eventBuffer First) none = agree events (λ p. none (refl, p))

@@ -7,6 +7,7 @@ use mathlib.Core.Logic.{_⊎_, inl, inr, ⊎-elim}
 use mathlib.Core.Path.{_≡_, refl, sym, ap, subst, _∙_}
 use native.Mathlib.Omega.{arith}
 use lib.ListN.{getD, length}
+use Rattle.board.specs.declared.chain.End.{End}
 use Rattle.wire.specs.Memory.{Among, InMemory}
 use Rattle.wire.proofs.Promises.{never as impossible}
 use Rattle.answers.specs.declared.BlockAnswer.{BlockAnswer}
@@ -25,7 +26,7 @@ use Rattle.judge.specs.Given.{Asked}
 use Rattle.judge.specs.Reads.{InList, InUib}
 use Rattle.transfer.specs.Progress.{progress}
 use Rattle.block.specs.Block.{transferOf}
-use Rattle.board.specs.Chain.{ran}
+use Rattle.board.specs.Chain.{endOf, ran}
 use Rattle.request.specs.declared.Buffer.{Buffer}
 use Rattle.request.specs.declared.Move.{Move}
 use Rattle.request.specs.declared.Shape.{Shape}
@@ -35,13 +36,14 @@ use Rattle.demands.specs.Visits.{Passes, Visit, blockOf, effectOf}
 use Rattle.demands.proofs.Fits.{drives-geometry}
 use Rattle.demands.proofs.BlockLaws.{refusal-moves-nothing}
 use Rattle.demands.proofs.Written.{effect-is, sectors-come}
-use Rattle.independence.specs.Chains.{Both, Chain, First, HostReads, HostWrites, Names, Second, Told, runOf, told, worldFor}
+use Rattle.independence.specs.Chains.{Both, Chain, First, HostReads, HostWrites, Names, Second, runOf, worldFor}
 use Rattle.independence.specs.Demand3.{EitherWay, Independent, NoUnitInCommon, NoByteReadByOther, NoByteWrittenByBoth}
 use Rattle.independence.specs.Reads.{ReadsHost, RunReads}
 use Rattle.unit.specs.declared.UnitNumber.{UnitNumber}
 use Rattle.unit.specs.declared.UnitNumber.the-variants.{Zero, One}
 use Rattle.independence.specs.TwoChains.{come, driveOn, driveWith}
-use Rattle.independence.proofs.OneBlock.{Apart, In, done, failed, no-data, no-words, none-in-both, of-block, reads-in, writes-in}
+use Rattle.independence.proofs.Demand3.{second-same}
+use Rattle.independence.proofs.OneBlock.{RangesApart, In, done, failed, no-data, no-words, none-in-both, of-block, reads-in, writes-in}
 use Rattle.independence.proofs.Tiny.{carriedOn, move-passes, moveOf, read-of-one, read-stopped, unit, write-of-one}
 use Rattle.board.specs.World.{World}
 
@@ -81,16 +83,16 @@ module _
   pub no-unit : (m ≡ n → ⊥) → NoUnitInCommon k l s
   no-unit differ u a b = differ (f .names-it u a ∙ sym (g .names-it u b))
 
-  pub none-twice : Apart ws vs → NoByteWrittenByBoth k l s
+  pub none-twice : RangesApart ws vs → NoByteWrittenByBoth k l s
   none-twice apart same x a b = none-in-both ws vs x apart (f .writes-there x a) (g .writes-there x b)
 
-  pub none-read : Apart ws qs → Apart vs rs → NoByteReadByOther k l s
+  pub none-read : RangesApart ws qs → RangesApart vs rs → NoByteReadByOther k l s
   none-read forth back same x = (
     λ w r. none-in-both ws qs x forth (f .writes-there x w) (g .reads-there x r),
     λ w r. none-in-both vs rs x back (g .writes-there x w) (f .reads-there x r),
   )
 
-  pub met : (m ≡ n → ⊥) → Apart ws vs → Apart ws qs → Apart vs rs → Independent k l s
+  pub met : (m ≡ n → ⊥) → RangesApart ws vs → RangesApart ws qs → RangesApart vs rs → Independent k l s
   met differ twice forth back = record { units = no-unit differ; written = none-twice twice; read = none-read forth back }
 
 unit-number : UnitNumber → ℕ
@@ -180,22 +182,22 @@ comes-still v p is moves = (
 module _ (w : World) (at : ℕ) (passes : Passes at 1 w) where
   pub comes-done :
       blockOf (v w at passes) .options .link ≡ false → (p : Plan) → verdictOf (v w at passes) ≡ Verdict.Do p → p .moving ≡ Moving.Nothing →
-      told (ran at 1 w) ≡ come RunAnswer.Done 0 0
+      endOf (ran at 1 w) ≡ come RunAnswer.Done 0 0
   comes-done unlinked p is moves =
       let e = comes-still (v w at passes) p is moves in
-      ap told (done at w passes unlinked 0 (e .1) (e .0))
+      ap endOf (done at w passes unlinked 0 (e .1) (e .0))
 
-  pub comes-refused : (r : Refusal) → verdictOf (v w at passes) ≡ Verdict.Refused r → told (ran at 1 w) ≡ come RunAnswer.BlockFailed (refusalNumber r) 0
+  pub comes-refused : (r : Refusal) → verdictOf (v w at passes) ≡ Verdict.Refused r → endOf (ran at 1 w) ≡ come RunAnswer.BlockFailed (refusalNumber r) 0
   comes-refused r is =
       let e = refusal-moves-nothing (v w at passes) r is in
-      ap told (failed at w passes r 0 (e .1) (e .0))
+      ap endOf (failed at w passes r 0 (e .1) (e .0))
 
 -- The orders differ where the second fails otherwise after the first than it does alone.
 pub fails-otherwise :
-    (k l : Chain) (s then : Both) (after-it alone-it : Told) → runOf First k .left s ≡ then → runOf Second l .out then ≡ after-it →
+    (k l : Chain) (s then : Both) (after-it alone-it : End) → runOf First k .left s ≡ then → runOf Second l .out then ≡ after-it →
     runOf Second l .out s ≡ alone-it → (after-it .failed ≡ alone-it .failed → ⊥) → EitherWay k l s → ⊥
 fails-otherwise k l s then after-it alone-it left comes comes-alone differs e =
-    differs (ap (λ t. t .failed) (sym comes ∙ ap (runOf Second l .out) (sym left) ∙ e .second ∙ comes-alone))
+    differs (ap (λ t. t .failed) (sym comes ∙ ap (runOf Second l .out) (sym left) ∙ second-same k l s e ∙ comes-alone))
 
 -- ---- a transfer of the pairs
 

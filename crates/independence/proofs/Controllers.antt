@@ -3,11 +3,11 @@
 use mathlib.Core.Path.{_≡_, refl, sym, ap, _∙_}
 use Rattle.unit.specs.declared.Controller.{Controller}
 use Rattle.unit.specs.declared.Controller.the-variants.{First as FirstController, Second as SecondController}
-use Rattle.board.specs.Chain.{ran}
+use Rattle.board.specs.Chain.{endOf, ran}
 use Rattle.demands.specs.Visits.{fetchedBy}
 use Rattle.demands.proofs.HeldDrives.{block-keeps-controller}
 use Rattle.demands.proofs.Keeps.{run-keeps, some-none}
-use Rattle.independence.specs.Chains.{Both, Chain, First, Second, Which, eventsOf, hostOf, leaving, runOf, told, worldFor}
+use Rattle.independence.specs.Chains.{Both, Chain, First, Second, Which, eventsOf, hostOf, leaving, runOf, worldFor}
 use Rattle.independence.specs.Controllers.{EachForItself}
 use Rattle.board.specs.World.{World}
 
@@ -55,7 +55,7 @@ each-for-itself t k s = (
   },
   λ s′ agree.
       record {
-        answers = ap (λ (w : World). told (ran (k .first) (k .allowance) w)) agree;
+        answers = ap (λ (w : World). endOf (ran (k .first) (k .allowance) w)) agree;
         own = own-world t k s ∙ ap (λ (w : World). ran (k .first) (k .allowance) w .world) agree ∙ sym (own-world t k s′);
       },
 )

@@ -6,20 +6,21 @@ use mathlib.Core.List.{List, _∷_}
 use mathlib.Core.Logic.{_⊎_, _↔_, Iff·rfl, Iff·trans, inl, if-neg}
 use mathlib.Core.Path.{_≡_, refl, sym, ap, subst}
 use native.Mathlib.Omega.{arith}
+use Rattle.board.specs.declared.chain.End.{End}
+use Rattle.board.specs.declared.chain.Count.{Count}
 use Rattle.wire.specs.Memory.{InMemory, inMemory?}
 use Rattle.wire.proofs.Memory.{range-same}
 use Rattle.answers.specs.declared.BlockAnswer.{BlockAnswer}
 use Rattle.answers.specs.declared.BlockAnswer.the-variants.{Ended, Failed}
 use Rattle.answers.specs.declared.RunAnswer.{RunAnswer}
-use Rattle.board.specs.Chain.{Tally, counted, fetched, follows}
+use Rattle.board.specs.Chain.{counted, endOf, endedOf, fetched, follows}
 use Rattle.board.proofs.Chains.{fetched-bad}
 use Rattle.demands.specs.Footprint.{Some, WritesHost, names}
 use Rattle.demands.specs.Visits.{Visit, onwards, visits}
 use Rattle.demands.proofs.Endings.{fetched-step, visits-step}
-use Rattle.independence.specs.Chains.{Told, told}
 use Rattle.independence.specs.Local.{Local, Step, then}
 use Rattle.independence.specs.Reads.{ReadsHost}
-use Rattle.independence.specs.Worlds.{Cell, Touches, byte, disk, events, worlds}
+use Rattle.independence.specs.Worlds.{WorldCell, Touches, byte, disk, events, worlds}
 use Rattle.independence.proofs.Blocks.{Next, block, block-is-local}
 use Rattle.independence.proofs.Branches.{SameAt, branch-local, still, still-local}
 use Rattle.independence.proofs.Steps.{then-local}
@@ -29,67 +30,67 @@ use Rattle.board.specs.World.{World, worldAfter}
 
 -- ---- the footprint of some blocks
 
-abbrev pub Of : (Visit → ℕ → Type 0) → List Visit → Cell → Type 0
+abbrev pub Of : (Visit → ℕ → Type 0) → List Visit → WorldCell → Type 0
 Of P vs = Touches (λ x. Some (λ v. P v x) vs) (λ n. Some (λ v. names v ≡ n) vs)
 
-pub of-same : (P : Visit → ℕ → Type 0) {vs us : List Visit} → vs ≡ us → (c : Cell) → Of P vs c ↔ Of P us c
+pub of-same : (P : Visit → ℕ → Type 0) {vs us : List Visit} → vs ≡ us → (c : WorldCell) → Of P vs c ↔ Of P us c
 of-same P {vs} same c = subst (λ us. Of P vs c ↔ Of P us c) same Iff·rfl
 
 -- A block and those after it.
 one-more :
-    (P : Visit → ℕ → Type 0) {us vs : List Visit} {v : Visit} → us ≡ v ∷ vs → (c : Cell) →
+    (P : Visit → ℕ → Type 0) {us vs : List Visit} {v : Visit} → us ≡ v ∷ vs → (c : WorldCell) →
     Of P us c ↔ (Touches (P v) (λ n. names v ≡ n) c ⊎ Of P vs c)
 one-more P {us} {vs} {v} are c = Iff·trans (of-same P are c) (split c)
   where
-    split : (c : Cell) → Of P (v ∷ vs) c ↔ (Touches (P v) (λ n. names v ≡ n) c ⊎ Of P vs c)
+    split : (c : WorldCell) → Of P (v ∷ vs) c ↔ (Touches (P v) (λ n. names v ≡ n) c ⊎ Of P vs c)
     split (byte x) = Iff·rfl
     split (disk n) = Iff·rfl
     split events = (inl, λ always. tt)
 
 -- ---- a chain
 
-abbrev pub chainOn : ℕ → Tally → ℕ → Step worlds Told
+abbrev pub chainOn : ℕ → Count → ℕ → Step worlds End
 chainOn left tally at =
     record {
-      out = λ w. told (fetched left tally at w);
+      out = λ w. endOf (fetched left tally at w);
       left = λ w. fetched left tally at w .world;
       Reads = λ w. Of ReadsHost (visits left (tally .blocks) at w);
       Writes = λ w. Of WritesHost (visits left (tally .blocks) at w);
     }
 
 -- One that fetches nothing.
-abbrev pub NoBlock : Cell → Type 0
+abbrev pub NoBlock : WorldCell → Type 0
 NoBlock = Touches (λ x. ⊥) (λ n. ⊥)
 
-abbrev idle : Told → Step worlds Told
+abbrev idle : End → Step worlds End
 idle o = still worlds NoBlock (λ w. o)
 
-idle-local : (o : Told) → Local worlds (idle o)
+idle-local : (o : End) → Local worlds (idle o)
 idle-local o = still-local worlds NoBlock (λ w. o) (λ w u agree. refl)
 
 -- What follows a block that ended so.
-abbrev following : ℕ → BlockAnswer → Bool → Tally → ℕ → Step worlds Told
+abbrev following : ℕ → BlockAnswer → Bool → Count → ℕ → Step worlds End
 following k a linked tally at =
     record {
-      out = λ w. told (follows a linked tally w (fetched k tally at w));
+      out = λ w. endOf (follows a linked tally w (fetched k tally at w));
       left = λ w. follows a linked tally w (fetched k tally at w) .world;
       Reads = λ w. Of ReadsHost (onwards a linked (visits k (tally .blocks) at w));
       Writes = λ w. Of WritesHost (onwards a linked (visits k (tally .blocks) at w));
     }
 
 following-local :
-    (k : ℕ) (a : BlockAnswer) (linked : Bool) (tally : Tally) (at : ℕ) → Local worlds (chainOn k tally at) →
+    (k : ℕ) (a : BlockAnswer) (linked : Bool) (tally : Count) (at : ℕ) → Local worlds (chainOn k tally at) →
     Local worlds (following k a linked tally at)
 following-local k (Failed r) linked tally at rest = idle-local _
 following-local k Ended false tally at rest = idle-local _
 following-local k Ended true tally at rest = rest
 
 -- A chain whose address is good is its block and then what follows.
-module _ (k : ℕ) (tally : Tally) (at : ℕ) where
+module _ (k : ℕ) (tally : Count) (at : ℕ) where
   abbrev first : Step worlds Next
   first = working (block at (tally .blocks))
 
-  abbrev then-on : Next → Step worlds Told
+  abbrev then-on : Next → Step worlds End
   then-on o = following k (o .answer) (o .linked) (counted tally (o .sectors)) (o .link)
 
   goes-on : (w : World) → InMemory (w .host) at 28 → SameAt worlds (chainOn (suc k) tally at) (then first then-on) w
@@ -97,23 +98,23 @@ module _ (k : ℕ) (tally : Tally) (at : ℕ) where
   goes-on w good =
       let is = fetched-step k tally at w good in
       let all = visits-step k tally at w good in
-      record { out = ap told is; left = ap (λ e. e .world) is; reads = one-more ReadsHost all; writes = one-more WritesHost all }
+      record { out = ap endOf is; left = ap (λ e. e .world) is; reads = one-more ReadsHost all; writes = one-more WritesHost all }
 
-  bad-address : Told
-  bad-address = record { answer = RunAnswer.LinkBad; failed = 0; tally = tally }
+  bad-address : End
+  bad-address = endedOf RunAnswer.LinkBad 0 tally
 
   stops : (w : World) → (InMemory (w .host) at 28 → ⊥) → SameAt worlds (chainOn (suc k) tally at) (idle bad-address) w
   unfolding bad-address visits
   stops w bad =
       let is = fetched-bad (suc k) tally at w (omega arith) bad in
       let none = if-neg (inMemory? (w .host) at 28) bad _ _ in
-      record { out = ap told is; left = ap (λ e. e .world) is; reads = of-same ReadsHost none; writes = of-same WritesHost none }
+      record { out = ap endOf is; left = ap (λ e. e .world) is; reads = of-same ReadsHost none; writes = of-same WritesHost none }
 
-spent-local : (tally : Tally) (at : ℕ) → Local worlds (chainOn zero tally at)
+spent-local : (tally : Count) (at : ℕ) → Local worlds (chainOn zero tally at)
 unfolding fetched visits
 spent-local tally at = idle-local _
 
-pub chain-local : (left : ℕ) (tally : Tally) (at : ℕ) → Local worlds (chainOn left tally at)
+pub chain-local : (left : ℕ) (tally : Count) (at : ℕ) → Local worlds (chainOn left tally at)
 chain-local zero tally at = spent-local tally at
 chain-local (suc k) tally at =
     branch-local worlds (λ w. InMemory (w .host) at 28) (λ w. inMemory? (w .host) at 28) (chainOn (suc k) tally at)

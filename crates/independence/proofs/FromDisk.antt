@@ -29,12 +29,12 @@ use Rattle.unit.specs.declared.UnitNumber.the-variants.{Zero, One}
 use Rattle.transfer.specs.Stores.{after, bytesFrom, upTo}
 use Rattle.unit.specs.declared.Controller.the-variants.{First as FirstController}
 use Rattle.block.specs.Block.{begun, finish}
-use Rattle.board.specs.Chain.{ends, ran}
+use Rattle.board.specs.Chain.{endOf, ends, ran}
 use Rattle.demands.specs.Footprint.{WritesHost, askedOf, namedDrive, verdictOf}
 use Rattle.demands.specs.Footprint.HostWritten.{moved as given}
 use Rattle.demands.specs.Visits.{Passes, worldLeft}
 use Rattle.demands.proofs.Written.{effect-is}
-use Rattle.independence.specs.Chains.{Both, First, HostReads, HostWrites, Second, leaving, runOf, told}
+use Rattle.independence.specs.Chains.{Both, First, HostReads, HostWrites, Second, leaving, runOf}
 use Rattle.independence.specs.Demand3.{EitherWay, Independent}
 use Rattle.independence.specs.FromDisk.{FromDisk, disk, fromDisk, initialize, linked}
 use Rattle.independence.specs.Reads.{ReadsHost}
@@ -196,7 +196,7 @@ unfolding word
 from-disk =
     record {
       from-disk = from-disk-met;
-      both-blocks = (ap told linked-runs, ap told (done 28 _ write-pass refl 1 (write .answer) (write .sectors)));
+      both-blocks = (ap endOf linked-runs, ap endOf (done 28 _ write-pass refl 1 (write .answer) (write .sectors)));
       written-by-it = (linked-wrote 0 (omega arith), λ w. outside-120 (first-read .footprint .writes-there 120 w));
       not-by-the-earlier = (
         by-block 56 _ earlier-pass (λ v. WritesHost v 184) (given (data-byte start 56 earlier-pass earlier-read 0 (omega arith))),

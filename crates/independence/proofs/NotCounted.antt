@@ -6,6 +6,7 @@ use mathlib.Core.List.{[], _∷_}
 use mathlib.Core.Logic.{inl, inr, ⊎-elim}
 use mathlib.Core.Path.{_≡_, refl, sym, ap}
 use native.Mathlib.Omega.{arith}
+use Rattle.board.specs.Chain.{endOf}
 use Rattle.wire.specs.Memory.{Among}
 use Rattle.wire.specs.Words.{word}
 use Rattle.answers.specs.declared.BlockAnswer.the-variants.{Ended}
@@ -23,7 +24,7 @@ use Rattle.request.specs.declared.Task.{Task}
 use Rattle.unit.specs.declared.UnitNumber.the-variants.{Zero, One}
 use Rattle.unit.specs.declared.Controller.the-variants.{First as FirstController}
 use Rattle.unit.specs.Standing.{fresh}
-use Rattle.independence.specs.Chains.{HostReads, told}
+use Rattle.independence.specs.Chains.{HostReads}
 use Rattle.independence.specs.NotCounted.{NotCounted, formatData, longList, oddUib, refusedList, refusedRun, spent}
 use Rattle.independence.specs.TwoChains.{come, firstIn, one, secondIn, shaped, two}
 use Rattle.independence.proofs.Carried.{Alone, Carried, LiesOf, data-byte, differ, met, no-way, passes-at, read-carried, reading, v}
@@ -163,8 +164,8 @@ not-counted =
       refused-list-unread = (λ x r. in-its-block x (list-unread x r), (omega arith, word-1-written _ 28 (list-pass .1) 30 (omega arith)));
       format-data = met one two formatData format-first (format-second .footprint) differ (omega arith) (omega arith) (omega arith);
       format-data-comes = (
-        ap told (done 0 _ (format-pass .0) refl 2 (format-told .ended) (format-told .counted)),
-        ap told (done 28 _ (format-pass .1) refl 1 (format-second .answer) (format-second .sectors)),
+        ap endOf (done 0 _ (format-pass .0) refl 2 (format-told .ended) (format-told .counted)),
+        ap endOf (done 28 _ (format-pass .1) refl 1 (format-second .answer) (format-second .sectors)),
       );
       format-data-read = (
         format-took _ (format-pass .0) 56 refl refl format-judged 63 (omega arith) (omega arith),
@@ -176,8 +177,8 @@ not-counted =
       );
       refused-run = met one spent refusedRun (run-first .footprint) fetches-none differ (omega arith) (omega arith) (omega arith);
       refused-run-comes = (
-        ap told (done 0 _ (run-pass .0) refl 1 (run-first .answer) (run-first .sectors)),
-        ap told (ran-allowance-bad 28 0 (secondIn refusedRun) (omega arith) (λ good. omega arith)),
+        ap endOf (done 0 _ (run-pass .0) refl 1 (run-first .answer) (run-first .sectors)),
+        ap endOf (ran-allowance-bad 28 0 (secondIn refusedRun) (omega arith) (λ good. omega arith)),
       );
       refused-run-would = (
         (by-block 0 _ (run-pass .0) (λ v. names v ≡ Zero) refl, by-block 28 _ (run-pass .1) (λ v. names v ≡ Zero) refl),

@@ -8,6 +8,7 @@ use mathlib.Core.Path.{_≡_, refl, sym, ap, subst, _∙_}
 use native.Mathlib.Nat.{zero-mul}
 use native.Mathlib.Omega.{arith}
 use lib.ListN.{length}
+use Rattle.board.specs.declared.chain.Count.{Count}
 use Rattle.wire.specs.Memory.{Among}
 use Rattle.answers.specs.declared.BlockAnswer.{BlockAnswer}
 use Rattle.answers.specs.declared.BlockAnswer.the-variants.{Ended, Failed}
@@ -21,7 +22,7 @@ use Rattle.judge.specs.Reads.{InList, InUib}
 use Rattle.transfer.specs.Data.{progressOn}
 use Rattle.transfer.specs.Progress.{progress}
 use Rattle.block.specs.Block.{transferOf, wordsOf}
-use Rattle.board.specs.Chain.{Ending, Tally, ends, follows, nothing, ran}
+use Rattle.board.specs.Chain.{Ending, ends, follows, nothing, ran}
 use Rattle.board.proofs.Runs.{ran-chain}
 use Rattle.demands.specs.Footprint.{HostData, Some, WritesHost, askedOf, movingOf, namedDrive, reportOf, verdictOf, wordsBy}
 use Rattle.demands.specs.Footprint.HostWritten.{moved as given, report, status-word}
@@ -37,7 +38,7 @@ none-onwards (Failed r) linked = refl
 none-onwards Ended false = refl
 none-onwards Ended true = refl
 
-unlinked-leaves : (a : BlockAnswer) (t : Tally) (w : World) (next : Ending) → follows a false t w next .world ≡ w
+unlinked-leaves : (a : BlockAnswer) (t : Count) (w : World) (next : Ending) → follows a false t w next .world ≡ w
 unlinked-leaves Ended t w next = refl
 unlinked-leaves (Failed r) t w next = refl
 
@@ -138,16 +139,16 @@ abbrev Clear : ℕ × ℕ → List (ℕ × ℕ) → Type 0
 Clear r [] = Unit {0}
 Clear r (q ∷ qs) = ((x : ℕ) → Among (r .0) (r .1) x → Among (q .0) (q .1) x → ⊥) × Clear r qs
 
-abbrev pub Apart : List (ℕ × ℕ) → List (ℕ × ℕ) → Type 0
-Apart [] qs = Unit {0}
-Apart (r ∷ rs) qs = Clear r qs × Apart rs qs
+abbrev pub RangesApart : List (ℕ × ℕ) → List (ℕ × ℕ) → Type 0
+RangesApart [] qs = Unit {0}
+RangesApart (r ∷ rs) qs = Clear r qs × RangesApart rs qs
 
 none-in : (r : ℕ × ℕ) (qs : List (ℕ × ℕ)) (x : ℕ) → Clear r qs → Among (r .0) (r .1) x → In qs x → ⊥
 none-in r [] x clear here there = there
 none-in r (q ∷ qs) x clear here (inl there) = clear .0 x here there
 none-in r (q ∷ qs) x clear here (inr there) = none-in r qs x (clear .1) here there
 
-pub none-in-both : (rs qs : List (ℕ × ℕ)) (x : ℕ) → Apart rs qs → In rs x → In qs x → ⊥
+pub none-in-both : (rs qs : List (ℕ × ℕ)) (x : ℕ) → RangesApart rs qs → In rs x → In qs x → ⊥
 none-in-both [] qs x apart here there = here
 none-in-both (r ∷ rs) qs x apart (inl here) there = none-in r qs x (apart .0) here there
 none-in-both (r ∷ rs) qs x apart (inr here) there = none-in-both rs qs x (apart .1) here there

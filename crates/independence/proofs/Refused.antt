@@ -6,6 +6,7 @@ use mathlib.Core.List.{[], _∷_, _++_}
 use mathlib.Core.Logic.{⊎-elim}
 use mathlib.Core.Path.{_≡_, refl, ap, subst, _∙_}
 use native.Mathlib.Omega.{arith}
+use Rattle.board.specs.declared.chain.End.{End}
 use Rattle.wire.specs.Memory.{Among, InMemory}
 use Rattle.wire.proofs.Promises.{never as impossible}
 use Rattle.answers.specs.declared.Refusal.{Refusal}
@@ -27,11 +28,10 @@ use Rattle.request.specs.declared.Shape.{Shape}
 use Rattle.request.specs.declared.Task.{Task}
 use Rattle.unit.specs.Holding.{heldByOther}
 use Rattle.unit.specs.Standing.{CountsAsInitialized, holder}
-use Rattle.board.specs.Chain.{ran}
+use Rattle.board.specs.Chain.{endOf, ran}
 use Rattle.demands.specs.Footprint.{RunWrites, WritesHost, askedOf, namedDrive, verdictOf}
 use Rattle.demands.specs.Footprint.HostWritten.{status-word}
 use Rattle.demands.specs.Visits.{Passes, Visit, blockOf}
-use Rattle.independence.specs.Chains.{Told, told}
 use Rattle.independence.specs.TwoChains.{come, driveWith}
 use Rattle.independence.proofs.Carried.{Alone, alone, comes-done, comes-refused, idle, no-list, no-uib, silent, still, v}
 use Rattle.independence.proofs.OneBlock.{by-block}
@@ -39,9 +39,9 @@ use Rattle.independence.proofs.Tiny.{counts, free, long-list-refused, m
 use Rattle.board.specs.World.{World, unitAt}
 
 -- A chain of one block that reads its 28 bytes and writes its word 1, and what it comes to.
-pub record Bare (w : World) (at : ℕ) (t : Told) : Type 0 where
+pub record Bare (w : World) (at : ℕ) (t : End) : Type 0 where
   pub footprint : Alone at w (unitAt w at) ((at, 28) ∷ []) ((at + 2, 2) ∷ [])
-  pub comes : told (ran at 1 w) ≡ t
+  pub comes : endOf (ran at 1 w) ≡ t
 
 module _ (w : World) (at : ℕ) (passes : Passes at 1 w) where
   abbrev b : Visit

@@ -7,14 +7,15 @@ use mathlib.Core.Path.{_≡_, sym, _∙_, ap}
 use native.Mathlib.Decide.{decLe, decLt}
 use native.Mathlib.Omega.{arith}
 use lib.ListN.{length}
+use Rattle.board.specs.declared.chain.End.{End}
 use Rattle.wire.proofs.Memory.{range-same}
 use Rattle.answers.specs.declared.RunAnswer.{RunAnswer}
-use Rattle.board.specs.Chain.{nothing, ran}
+use Rattle.board.specs.Chain.{endOf, endedOf, nothing, ran}
 use Rattle.board.proofs.Runs.{ran-allowance-bad, ran-chain, ran-events-short, ran-first-bad}
 use Rattle.demands.specs.Footprint.{WritesHost}
 use Rattle.demands.specs.Visits.{Passes, fetchedBy, passes?, visits}
 use Rattle.demands.proofs.RunAnswers.{not-passed}
-use Rattle.independence.specs.Chains.{Chain, Told, runOn, told}
+use Rattle.independence.specs.Chains.{Chain, runOn}
 use Rattle.independence.specs.Local.{Local, Step}
 use Rattle.independence.specs.Reads.{ReadsHost}
 use Rattle.independence.specs.Worlds.{events, worlds}
@@ -35,35 +36,35 @@ module _ (chain : Chain) where
   as-chain w p =
       let is = ran-chain first allowance w (p .events) (p .least, p .most) (p .place) in
       let all : fetchedBy first allowance w ≡ visits allowance 0 first w = if-pos (passes? first allowance w) p _ _ in
-      record { out = ap told is; left = ap (λ e. e .world) is; reads = of-same ReadsHost all; writes = of-same WritesHost all }
+      record { out = ap endOf is; left = ap (λ e. e .world) is; reads = of-same ReadsHost all; writes = of-same WritesHost all }
 
   -- One that is refused does nothing.
-  refused-with : RunAnswer → Told
-  refused-with a = record { answer = a; failed = 0; tally = nothing }
+  refused-with : RunAnswer → End
+  refused-with a = endedOf a 0 nothing
 
-  abbrev answerFor : ℕ → Told
+  abbrev answerFor : ℕ → End
   answerFor long =
       ite (decLt long 512) (refused-with RunAnswer.EventsShort)
       (ite (Dec·not (Dec·and (decLe 1 allowance) (decLe allowance 64))) (refused-with RunAnswer.AllowanceBad)
       (refused-with RunAnswer.FirstBad))
 
-  abbrev refusal : Step worlds Told
+  abbrev refusal : Step worlds End
   refusal = still worlds NoBlock (λ w. answerFor (length (w .events)))
 
-  refused-out : (w : World) → (Passes first allowance w → ⊥) → told (ran first allowance w) ≡ answerFor (length (w .events))
+  refused-out : (w : World) → (Passes first allowance w → ⊥) → endOf (ran first allowance w) ≡ answerFor (length (w .events))
   unfolding refused-with
   refused-out w refused =
       by-cases (decLt (length (w .events)) 512)
-      (λ short. ap told (ran-events-short first allowance w short) ∙ sym (if-pos (decLt (length (w .events)) 512) short _ _))
+      (λ short. ap endOf (ran-events-short first allowance w short) ∙ sym (if-pos (decLt (length (w .events)) 512) short _ _))
       (λ long.
       let no-short = if-neg (decLt (length (w .events)) 512) long _ _ in
       by-cases (Dec·and (decLe 1 allowance) (decLe allowance 64))
       (λ good.
-      ap told (ran-first-bad first allowance w (omega (arith, long)) good
+      ap endOf (ran-first-bad first allowance w (omega (arith, long)) good
       (λ place. refused (record { events = omega (arith, long); least = good .0; most = good .1; place = place }))) ∙
       sym (no-short ∙ if-neg (Dec·not (Dec·and (decLe 1 allowance) (decLe allowance 64))) (λ bad. bad good) _ _))
       (λ bad.
-      ap told (ran-allowance-bad first allowance w (omega (arith, long)) bad) ∙
+      ap endOf (ran-allowance-bad first allowance w (omega (arith, long)) bad) ∙
       sym (no-short ∙ if-pos (Dec·not (Dec·and (decLe 1 allowance) (decLe allowance 64))) bad _ _)))
 
   as-refusal : (w : World) → (Passes first allowance w → ⊥) → SameAt worlds (runOn chain) refusal w

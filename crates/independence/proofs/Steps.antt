@@ -3,7 +3,7 @@
 -- cell is written by the one, by the other or by none.
 use mathlib.Core.Logic.{_↔_, Iff·rfl, Iff·trans, _⊎_, inl, inr, ⊎-elim, ⊎-map}
 use mathlib.Core.Path.{_≡_, sym, _∙_, ap, subst}
-use Rattle.independence.specs.Local.{AgreeOn, Apart, EitherOrder, Extensional, Kind, LeadsAlike, Local, Stable, Step, then}
+use Rattle.independence.specs.Local.{AgreeOn, Undisturbed, EitherOrder, Extensional, Kind, LeadsAlike, Local, Stable, Step, then}
 
 either : {A B C D : Type 0} → A ↔ C → B ↔ D → (A ⊎ B) ↔ (C ⊎ D)
 either h k = (⊎-map (h .0) (k .0), ⊎-map (h .1) (k .1))
@@ -88,7 +88,7 @@ module _ (K : Kind) (values : Stable K) where
 
   -- Two steps that are apart, in either order.
   pub either-order :
-      {A B : Type 0} (S : Step K A) (T : Step K B) → Local K S → Local K T → (s : K .State) → Apart K S T s → EitherOrder K S T s
+      {A B : Type 0} (S : Step K A) (T : Step K B) → Local K S → Local K T → (s : K .State) → Undisturbed K S T s → EitherOrder K S T s
   either-order S T one two s apart =
       let first = unnoticed K S T one two s (apart .unread-by-first) in
       let second = unnoticed K T S two one s (apart .unread-by-second) in

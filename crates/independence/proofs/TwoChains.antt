@@ -7,6 +7,7 @@ use mathlib.Core.Logic.{_⊎_, _↔_, inl, inr, ⊎-elim}
 use mathlib.Core.Path.{_≡_, refl, sym, ap, subst, _∙_}
 use native.Mathlib.Omega.{arith}
 use lib.ListN.{getD, length}
+use Rattle.board.specs.Chain.{endOf}
 use Rattle.wire.specs.Memory.{Among}
 use Rattle.wire.specs.Words.{word}
 use Rattle.answers.specs.declared.BlockAnswer.the-variants.{Ended, Failed}
@@ -43,7 +44,7 @@ use Rattle.demands.specs.Visits.{Passes, Visit, worldLeft}
 use Rattle.demands.proofs.Reports.{FormatTold}
 use Rattle.demands.proofs.VersionTwo.{disk-byte-is-there}
 use Rattle.demands.proofs.Written.{effect-is}
-use Rattle.independence.specs.Chains.{Both, Cell, First, HostReads, HostWrites, Second, both, drive, eventBuffer, hostByte, leaving, runOf, told}
+use Rattle.independence.specs.Chains.{Both, BothCell, First, HostReads, HostWrites, Second, both, drive, eventBuffer, memoryByte, leaving, runOf}
 use Rattle.independence.specs.Demand3.{EitherWay, Independent, NoUnitInCommon, NoByteReadByOther, NoByteWrittenByBoth}
 use Rattle.independence.specs.Local.{LeadsAlike}
 use Rattle.independence.specs.Reads.{ReadsHost}
@@ -92,8 +93,8 @@ adjacent-met = met one two adjacent (adjacent-read .footprint) (adjacent-write .
 
 both-move : (ofFirst adjacent ≡ come RunAnswer.Done 0 1) × (ofSecond adjacent ≡ come RunAnswer.Done 0 1)
 both-move = (
-  ap told (done 0 _ (adjacent-pass .0) refl 1 (adjacent-read .answer) (adjacent-read .sectors)),
-  ap told (done 28 _ (adjacent-pass .1) refl 1 (adjacent-write .answer) (adjacent-write .sectors)),
+  ap endOf (done 0 _ (adjacent-pass .0) refl 1 (adjacent-read .answer) (adjacent-read .sectors)),
+  ap endOf (done 28 _ (adjacent-pass .1) refl 1 (adjacent-write .answer) (adjacent-write .sectors)),
 )
 
 -- ---- a refused block's data
@@ -151,7 +152,7 @@ stopped-writes x w =
 rest-not-written :
     (ofFirst stoppedRead ≡ come RunAnswer.BlockFailed 20 1) × (Among 56 128 120 × HostReads two (secondIn stoppedRead) 120)
 rest-not-written = (
-  ap told (failed 0 _ (stopped-pass .0) Refusal.Unreadable 1 (stopped-read .answer) (stopped-read .sectors)),
+  ap endOf (failed 0 _ (stopped-pass .0) Refusal.Unreadable 1 (stopped-read .answer) (stopped-read .sectors)),
   (
     omega arith,
     by-block 28 _ (stopped-pass .1) (λ v. ReadsHost v 120)
@@ -189,7 +190,7 @@ three-bytes-written :
     HostReads two (secondIn besideFormat) 10)
 unfolding word taskOf
 three-bytes-written = (
-  ap told (done 0 _ (beside-pass .0) refl 1 (beside-told .ended) (beside-told .counted)),
+  ap endOf (done 0 _ (beside-pass .0) refl 1 (beside-told .ended) (beside-told .counted)),
   (
     λ x. (
       λ w. one-of-two (2, 2) (7, 3) x (beside-first .writes-there x w),
@@ -280,15 +281,23 @@ module _ (w : World) (at : ℕ) (passes : Passes at 1 w) (c : Carried w at true 
       (λ i later less again. omega (arith, lies i, lies 0, again)) (λ among. clear (omega (arith, lies 0, among))) ∙
       rw (c .verdict, same, place-is 0 0, starts-at 0)
 
--- A second chain that names another unit and reads no byte that the first writes goes after the first as it goes alone.
+-- Chains that name different units, of which neither reads a byte that the other writes, go each after the other as they go alone.
 module _ (s : Both) (units : NoUnitInCommon one two s) (read : NoByteReadByOther one two s) where
-  unread : (c : Cell) → runOf First one .Writes s c → runOf Second two .Reads s c → ⊥
-  unread (hostByte c x) w r = read refl x .0 (w .1) (r .1)
+  unread : (c : BothCell) → runOf First one .Writes s c → runOf Second two .Reads s c → ⊥
+  unread (memoryByte c x) w r = read refl x .0 (w .1) (r .1)
   unread (drive n) w r = units n w r
   unread (eventBuffer k) w r = no-chain-is-both (w .0 ∙ sym (r .0))
 
+  unread-too : (c : BothCell) → runOf Second two .Writes s c → runOf First one .Reads s c → ⊥
+  unread-too (memoryByte c x) w r = read refl x .1 (w .1) (r .1)
+  unread-too (drive n) w r = units n r w
+  unread-too (eventBuffer k) w r = no-chain-is-both (r .0 ∙ sym (w .0))
+
   as-alone : LeadsAlike both (runOf Second two) s (runOf First one .left s)
   as-alone = unnoticed both (runOf Second two) (runOf First one) (run-local Second two) (run-local First one) s unread
+
+  first-as-alone : LeadsAlike both (runOf First one) s (runOf Second two .left s)
+  first-as-alone = unnoticed both (runOf First one) (runOf Second two) (run-local First one) (run-local Second two) s unread-too
 
 wrote-first : HostWrites one (firstIn writtenTwice) 56
 wrote-first = wrote-56 (firstIn writtenTwice) 0 (twice-pass .0) twice-first
@@ -315,8 +324,9 @@ twice-differs e =
       arith,
       by-one,
       by-two,
-      as-alone s units-apart reads-apart .stored (hostByte FirstController 56) (refl, wrote-second),
-      e .by-first (hostByte FirstController 56) (refl, wrote-first),
+      as-alone s units-apart reads-apart .stored (memoryByte FirstController 56) (refl, wrote-second),
+      first-as-alone s units-apart reads-apart .stored (memoryByte FirstController 56) (refl, wrote-first),
+      ap (λ h. getD h 56 0) (e .memory FirstController),
     )
 
 -- ---- a unit in common

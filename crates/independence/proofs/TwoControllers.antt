@@ -7,6 +7,7 @@ use mathlib.Core.Logic.{inl}
 use mathlib.Core.Path.{_≡_, refl, ap, _∙_}
 use native.Mathlib.Omega.{arith}
 use lib.IntN.{pos}
+use Rattle.board.specs.Chain.{endOf}
 use Rattle.wire.specs.Words.{word}
 use Rattle.wire.proofs.Promises.{never as impossible}
 use Rattle.answers.specs.declared.BlockAnswer.the-variants.{Ended}
@@ -33,7 +34,7 @@ use Rattle.demands.specs.Footprint.HostWritten.{moved as given, status-word}
 use Rattle.demands.specs.Visits.{Passes}
 use Rattle.demands.proofs.BlockLaws.{refusal-moves-nothing}
 use Rattle.demands.proofs.Written.{effect-is}
-use Rattle.independence.specs.Chains.{Both, First, leaving, runOf, told}
+use Rattle.independence.specs.Chains.{Both, First, leaving, runOf}
 use Rattle.independence.specs.Demand3.{Independent}
 use Rattle.independence.specs.Reads.{ReadsHost}
 use Rattle.independence.specs.Reads.HostRead.{block}
@@ -139,8 +140,8 @@ met-by-two =
       );
       same-bytes = same-met;
       both-move = (
-        ap told (done 0 _ (same-pass .0) refl 1 (same-first .answer) (same-first .sectors)),
-        ap told (done 28 _ (same-pass .1) refl 1 (same-second .answer) (same-second .sectors)),
+        ap endOf (done 0 _ (same-pass .0) refl 1 (same-first .answer) (same-first .sectors)),
+        ap endOf (done 28 _ (same-pass .1) refl 1 (same-second .answer) (same-second .sectors)),
       );
       byte-30 = (
         by-block 0 _ (same-pass .0) (λ v. WritesHost v 30)

@@ -11,7 +11,7 @@ use Rattle.transfer.specs.Stores.{Buffers, Stored, after, held, hostByte}
 use Rattle.transfer.proofs.Stays.{lengths-stay, unstored-stays}
 use Rattle.block.specs.Block.{Effect}
 use Rattle.independence.specs.Local.{AgreeOn, LeadsAlike, Local, Step}
-use Rattle.independence.specs.Worlds.{Cell, Touches, byte, disk, events, holds, worlds}
+use Rattle.independence.specs.Worlds.{WorldCell, Touches, byte, disk, events, holds, worlds}
 use Rattle.independence.proofs.Meets.{Meet, Sourced, stores-meet}
 use Rattle.unit.specs.Standing.{UnitRecord}
 use Rattle.board.specs.World.{World, buffersOf, changed, driveOf}
@@ -87,14 +87,14 @@ module _ (P : ℕ → Type 0) (w u : World) (m n : Buffers) (meet : Meet P m n) 
 -- ---- the work
 
 touched-alike :
-    {P Q : ℕ → Type 0} {M N : UnitNumber → Type 0} → ((x : ℕ) → P x ↔ Q x) → ((n : UnitNumber) → M n ↔ N n) → (c : Cell) →
+    {P Q : ℕ → Type 0} {M N : UnitNumber → Type 0} → ((x : ℕ) → P x ↔ Q x) → ((n : UnitNumber) → M n ↔ N n) → (c : WorldCell) →
     Touches P M c ↔ Touches Q N c
 touched-alike bytes units (byte x) = bytes x
 touched-alike bytes units (disk n) = units n
 touched-alike bytes units events = Iff·rfl
 
 module _ {Out : Type 0} (k : Work Out) (by : ByWhatItReads k) where
-  frame : (w : World) (c : Cell) → (working k .Writes w c → ⊥) → holds (leaves k w) c ≡ holds w c
+  frame : (w : World) (c : WorldCell) → (working k .Writes w c → ⊥) → holds (leaves k w) c ≡ holds w c
   frame w (byte x) none =
       ap (λ b. held b (hostByte x)) (buffers-changed w _ _ (k .names w)) ∙
       unstored-stays (k .effect w .stores) (buffersOf w (k .names w)) (hostByte x) (λ stored. none (by .written w x .1 stored))
@@ -132,7 +132,7 @@ module _ {Out : Type 0} (k : Work Out) (by : ByWhatItReads k) where
         (after (e .stores) (buffersOf u n))
     left-met = stores-meet (e .stores) (k .Reads w) _ _ met (by .sources w)
 
-    stored : (c : Cell) → working k .Writes w c → holds (leaves k w) c ≡ holds (leaves k u) c
+    stored : (c : WorldCell) → working k .Writes w c → holds (leaves k w) c ≡ holds (leaves k u) c
     stored (byte x) written =
         host-changed _ w u _ _ left-met (e .unit) n x (inr (by .written w x .0 written)) ∙ ap (λ s. getD (s .host) x 0) (sym left-there)
     stored (disk m) named =

@@ -7,7 +7,7 @@ use mathlib.Core.Path.{_≡_, ap}
 use native.Mathlib.Decide.{map-dec, ℕ-discrete}
 use Rattle.unit.proofs.Decided.{same-with-table?}
 use Rattle.independence.specs.Local.{Stable}
-use Rattle.independence.specs.Worlds.{Cell, Holds, byte, disk, events, worlds}
+use Rattle.independence.specs.Worlds.{WorldCell, Holds, byte, disk, events, worlds}
 use Rattle.block.specs.Block.{Drive}
 
 -- ---- what a cell may hold
@@ -31,7 +31,7 @@ buffer-certain x y h = certain (List-discrete ℕ-discrete x y) h
 
 -- ---- the kind
 
-stable : (c : Cell) (x y : Holds c) → ((x ≡ y → ⊥) → ⊥) → x ≡ y
+stable : (c : WorldCell) (x y : Holds c) → ((x ≡ y → ⊥) → ⊥) → x ≡ y
 stable (byte n) = byte-certain
 stable (disk n) = drive-certain
 stable events = buffer-certain

@@ -4,11 +4,12 @@ use Prim.Native.Nat.{ℕ}
 use mathlib.Core.List.{List}
 use mathlib.Core.Path.{_≡_}
 use lib.ListN.{getD, length}
-use Rattle.answers.specs.declared.RunAnswer.{RunAnswer}
+use Rattle.board.specs.declared.chain.End.{End}
 use Rattle.unit.specs.declared.UnitNumber.{UnitNumber}
+use Rattle.unit.specs.declared.UnitNumber.the-variants.{Zero, One}
 use Rattle.unit.specs.declared.Controller.{Controller}
 use Rattle.unit.specs.declared.Controller.the-variants.{First as FirstController, Second as SecondController}
-use Rattle.board.specs.Chain.{Ending, Tally, ran}
+use Rattle.board.specs.Chain.{endOf, ran}
 use Rattle.demands.specs.Footprint.{RunNames, RunWrites}
 use Rattle.independence.specs.Local.{Kind, Place, Step, placed}
 use Rattle.independence.specs.Reads.{RunReads}
@@ -22,16 +23,6 @@ pub record Chain : Type 0 where
   pub first : ℕ
   pub allowance : ℕ
 
--- What a chain comes to: "an answer, with answer 4 the failed block's answer number .., the number of blocks run and the number of sectors
--- moved" (01, What the board answers for).
-pub record Told : Type 0 where
-  pub answer : RunAnswer
-  pub failed : ℕ
-  pub tally : Tally
-
-abbrev pub told : Ending → Told
-told e = record { answer = e .answer; failed = e .failed; tally = e .tally }
-
 -- What a chain followed alone names, reads and writes: its units and its bytes of host memory.
 module _ (c : Chain) (w : World) where
   abbrev pub Names : UnitNumber → Type 0
@@ -44,10 +35,10 @@ module _ (c : Chain) (w : World) where
   HostWrites = RunWrites (c .first) (c .allowance) w
 
 -- The run of a chain as a step on its world. Its footprint is that of the chain followed alone.
-abbrev pub runOn : Chain → Step worlds Told
+abbrev pub runOn : Chain → Step worlds End
 runOn c =
     record {
-      out = λ w. told (ran (c .first) (c .allowance) w);
+      out = λ w. endOf (ran (c .first) (c .allowance) w);
       left = λ w. ran (c .first) (c .allowance) w .world;
       Reads = λ w. Touches (HostReads c w) (Names c w);
       Writes = λ w. Touches (HostWrites c w) (Names c w);
@@ -78,6 +69,10 @@ abbrev pub hostOf : Both → Controller → List ℕ
 hostOf s FirstController = s .host1
 hostOf s SecondController = s .host2
 
+abbrev pub driveIn : Both → UnitNumber → Drive
+driveIn s Zero = s .drive0
+driveIn s One = s .drive1
+
 -- The world that a chain run by a controller finds, and what is there when it has left its world.
 abbrev pub worldFor : Which → Controller → Both → World
 worldFor t c s = record { controller = c; host = hostOf s c; drive0 = s .drive0; drive1 = s .drive1; events = eventsOf s t }
@@ -99,19 +94,19 @@ leaving t c s w = putDrives (w .drive0) (w .drive1) (putEvents t (w .events) (pu
 
 -- The cells: each byte of each controller's memory, each unit's drive, its record with table and holder and its image, and each event buffer. The memories keep
 -- their lengths.
-pub data Cell : Type 0 where
-  hostByte : Controller → ℕ → Cell
-  drive : UnitNumber → Cell
-  eventBuffer : Which → Cell
+pub data BothCell : Type 0 where
+  memoryByte : Controller → ℕ → BothCell
+  drive : UnitNumber → BothCell
+  eventBuffer : Which → BothCell
 
-abbrev pub Holds : Cell → Type 0
-Holds (hostByte c x) = ℕ
+abbrev pub Holds : BothCell → Type 0
+Holds (memoryByte c x) = ℕ
 Holds (drive n) = Drive
 Holds (eventBuffer t) = List ℕ
 
-abbrev pub holds : Both → (c : Cell) → Holds c
-holds s (hostByte c x) = getD (hostOf s c) x 0
-holds s (drive n) = driveOf (worldFor First FirstController s) n
+abbrev pub holds : Both → (c : BothCell) → Holds c
+holds s (memoryByte c x) = getD (hostOf s c) x 0
+holds s (drive n) = driveIn s n
 holds s (eventBuffer t) = eventsOf s t
 
 abbrev pub both : Kind
@@ -120,14 +115,14 @@ both =
       State = Both;
       Shape = ℕ × ℕ;
       shape = λ s. (length (s .host1), length (s .host2));
-      Cell = Cell;
+      Cell = BothCell;
       Value = Holds;
       get = holds;
     }
 
 -- The cells that are some cells of the world of one of the two chains, which a controller runs.
-abbrev pub cellsOf : Which → Controller → (worlds .Cell → Type 0) → Cell → Type 0
-cellsOf t c P (hostByte d x) = (c ≡ d) × P (byte x)
+abbrev pub cellsOf : Which → Controller → (worlds .Cell → Type 0) → BothCell → Type 0
+cellsOf t c P (memoryByte d x) = (c ≡ d) × P (byte x)
 cellsOf t c P (drive n) = P (disk n)
 cellsOf t c P (eventBuffer u) = (t ≡ u) × P events
 
@@ -136,5 +131,5 @@ abbrev pub placeOf : Which → Controller → Place worlds both
 placeOf t c = record { seen = worldFor t c; back = leaving t c; Cells = cellsOf t c }
 
 -- The run of a chain, as one of the two.
-abbrev pub runOf : Which → Chain → Step both Told
+abbrev pub runOf : Which → Chain → Step both End
 runOf t k = placed (placeOf t (k .controller)) (runOn k)

@@ -74,7 +74,7 @@ placed p S =
     }
 
 -- No cell that one step writes is read by the other, and where both write they store the same.
-pub record Apart (K : Kind) {A B : Type 0} (S : Step K A) (T : Step K B) (s : K .State) : Type 0 where
+pub record Undisturbed (K : Kind) {A B : Type 0} (S : Step K A) (T : Step K B) (s : K .State) : Type 0 where
   pub written : (c : K .Cell) → S .Writes s c → T .Writes s c → K .get (S .left s) c ≡ K .get (T .left s) c
   pub unread-by-second : (c : K .Cell) → S .Writes s c → T .Reads s c → ⊥
   pub unread-by-first : (c : K .Cell) → T .Writes s c → S .Reads s c → ⊥

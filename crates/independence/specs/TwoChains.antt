@@ -7,6 +7,7 @@ use mathlib.Core.List.{List, [], _∷_, _++_}
 use mathlib.Core.Logic.{_⊎_, _↔_}
 use mathlib.Core.Path.{_≡_}
 use lib.ListN.{replicate}
+use Rattle.board.specs.declared.chain.End.{End}
 use Rattle.wire.specs.Memory.{Among}
 use Rattle.answers.specs.declared.RunAnswer.{RunAnswer}
 use Rattle.geometry.specs.declared.Geometry.{Geometry}
@@ -14,7 +15,7 @@ use Rattle.geometry.specs.Drive.{geometryOf, volumeOf}
 use Rattle.unit.specs.declared.Controller.{Controller}
 use Rattle.unit.specs.declared.Controller.the-variants.{First as FirstController}
 use Rattle.unit.specs.Standing.{fresh, noTracks, recordOf}
-use Rattle.independence.specs.Chains.{Both, Chain, First, HostReads, HostWrites, Second, Told, runOf, worldFor}
+use Rattle.independence.specs.Chains.{Both, Chain, First, HostReads, HostWrites, Second, runOf, worldFor}
 use Rattle.independence.specs.Demand3.{EitherWay, Independent, NoUnitInCommon, NoByteReadByOther, NoByteWrittenByBoth}
 use Rattle.block.specs.Block.{Drive}
 use Rattle.board.specs.World.{World}
@@ -96,16 +97,16 @@ abbrev pub secondIn : Both → World
 secondIn s = worldFor Second FirstController s
 
 -- What a chain of a pair comes to, alone.
-abbrev pub ofFirst : Both → Told
+abbrev pub ofFirst : Both → End
 ofFirst s = runOf First one .out s
 
-abbrev pub ofSecond : Both → Told
+abbrev pub ofSecond : Both → End
 ofSecond s = runOf Second two .out s
 
-abbrev pub comeBy : (blocks : ℕ) → RunAnswer → (failed sectors : ℕ) → Told
-comeBy blocks answer failed sectors = record { answer = answer; failed = failed; tally = record { blocks = blocks; sectors = sectors } }
+abbrev pub comeBy : (blocks : ℕ) → RunAnswer → (failed sectors : ℕ) → End
+comeBy blocks answer failed sectors = record { answer = answer; failed = failed; blocks = blocks; sectors = sectors }
 
-abbrev pub come : RunAnswer → (failed sectors : ℕ) → Told
+abbrev pub come : RunAnswer → (failed sectors : ℕ) → End
 come = comeBy 1
 
 -- ---- the condition is met

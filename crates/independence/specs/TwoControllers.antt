@@ -3,12 +3,13 @@ use Prim.Native.Nat.{ℕ}
 use mathlib.Core.List.{List, _++_}
 use mathlib.Core.Path.{_≡_}
 use lib.ListN.{replicate}
+use Rattle.board.specs.declared.chain.End.{End}
 use Rattle.wire.specs.Memory.{Among}
 use Rattle.answers.specs.declared.RunAnswer.{RunAnswer}
 use Rattle.unit.specs.declared.Controller.the-variants.{Second as SecondController}
 use Rattle.unit.specs.declared.Holder.the-variants.{TheSecond}
 use Rattle.unit.specs.Standing.{heldBy}
-use Rattle.independence.specs.Chains.{Both, Chain, First, HostReads, HostWrites, Second, Told, runOf, worldFor}
+use Rattle.independence.specs.Chains.{Both, Chain, First, HostReads, HostWrites, Second, runOf, worldFor}
 use Rattle.independence.specs.Demand3.{EitherWay, Independent, NoUnitInCommon, NoByteReadByOther, NoByteWrittenByBoth}
 use Rattle.independence.specs.TwoChains.{block, come, driveWith, firstIn, ofFirst, ofSecond, one, scatter, starting, two, twoBy}
 use Rattle.block.specs.Block.{Drive}
@@ -36,7 +37,7 @@ other = twoBy SecondController
 abbrev pub otherIn : Both → World
 otherIn s = worldFor Second SecondController s
 
-abbrev pub ofOther : Both → Told
+abbrev pub ofOther : Both → End
 ofOther s = runOf Second other .out s
 
 -- The first block at 0 of the first memory, the second at 28 of the second; both have 320 bytes.

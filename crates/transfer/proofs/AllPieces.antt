@@ -14,7 +14,7 @@ use Rattle.unit.specs.Standing.{UnitRecord}
 use Rattle.transfer.specs.declared.carry.Cursor.{Cursor}
 use Rattle.transfer.specs.Data.{move}
 use Rattle.transfer.specs.Pieces.{sum}
-use Rattle.transfer.specs.Runs.{Carried, Fits, Held, On, PiecesFit, Spans, behind, diskFrom, lent, pieceByte, spanBytes, spanStores}
+use Rattle.transfer.specs.Runs.{Carried, CarryFits, InImage, On, PiecesFit, Spans, behind, diskFrom, lent, pieceByte, spanBytes, spanStores}
 use Rattle.transfer.specs.Stores.{Buffers, Store, after, upTo}
 use Rattle.transfer.proofs.Joined.{joined-at}
 use Rattle.transfer.proofs.Stores.{after-add, upTo-same}
@@ -63,7 +63,7 @@ module _ (u : UnitRecord) (s : Span) (to-host : Bool) (lengths addresses host₀
 
     module _ (n : ℕ) (n-is : n ≡ min (bytes i) (all - done)) where
       -- The piece may be carried.
-      pub piece-fits : Spans u s → Held u s (length image₀) → Fits u s c (getD addresses i 0) n host image
+      pub piece-fits : Spans u s → InImage u s (length image₀) → CarryFits u s c (getD addresses i 0) n host image
       piece-fits spans held =
           record {
             spans = spans;

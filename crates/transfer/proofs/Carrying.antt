@@ -14,7 +14,7 @@ use Rattle.unit.specs.declared.Span.{Span}
 use Rattle.unit.specs.Standing.{UnitRecord, geometry}
 use Rattle.transfer.specs.declared.carry.Cursor.{Cursor}
 use Rattle.transfer.specs.Data.{move}
-use Rattle.transfer.specs.Runs.{Carried, Held, On, Ready, advanced, behind, diskFrom, stretch}
+use Rattle.transfer.specs.Runs.{Carried, InImage, On, Ready, advanced, behind, diskFrom, stretch}
 use Rattle.transfer.specs.Stores.{Buffers, Store, after, upTo}
 use Rattle.transfer.proofs.Stores.{after-add, copiedRun, run-is-copy, upTo-same}
 
@@ -53,7 +53,7 @@ module _ (u : UnitRecord) (s : Span) where
 
   -- A run of the span lies in the image.
   pub run-held :
-      (long k n : ℕ) (c : Cursor) → Held u s long → Ready u s k c → n ≤ c .left → 0 < n → c .at + n ≤ long
+      (long k n : ℕ) (c : Cursor) → InImage u s long → Ready u s k c → n ≤ c .left → 0 < n → c .at + n ≤ long
   run-held long k n c held ready most some =
       let on = ready .on in
       let last : behind u c + (n - 1) < s .count * B (geometry u) =

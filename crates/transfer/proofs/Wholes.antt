@@ -18,7 +18,7 @@ use Rattle.unit.specs.declared.Span.{Span}
 use Rattle.unit.specs.Standing.{UnitRecord, geometry}
 use Rattle.transfer.specs.Data.{diskByte, placeFrom}
 use Rattle.transfer.specs.Progress.{Progress, stopsAt}
-use Rattle.transfer.specs.Runs.{Held, PiecesFit, Spans, progressFrom, spanBytes}
+use Rattle.transfer.specs.Runs.{InImage, PiecesFit, Spans, progressFrom, spanBytes}
 use Rattle.transfer.specs.Whole.{SectorsFit, made, misfit, sectorsFit?, sectorsResult, spanTransfer}
 use Rattle.transfer.proofs.Progress.{progress-most}
 
@@ -52,7 +52,7 @@ module _ (image : List ℕ) (u : UnitRecord) (s : Span) (heeds : Bool) where
   pub reached-spans : Spans u s → Spans u reached
   reached-spans spans = record { inside = omega (arith, spans .inside, most); small = omega (arith, spans .small, most) }
 
-  pub reached-held : Spans u s → need (geometry u) ≤ length image → Held u reached (length image)
+  pub reached-held : Spans u s → need (geometry u) ≤ length image → InImage u reached (length image)
   reached-held spans long =
       bytes-held (geometry u) (placeFrom u (s .volume) (s .first)) (come .sectors) (length image)
       (λ j j<.

@@ -91,8 +91,8 @@ abbrev pub advanced : Cursor → ℕ → Cursor
 advanced c n = record { at = c .at + n; left = c .left - n; next = c .next }
 
 -- Every byte of a span's sectors lies in an image of so many bytes.
-abbrev pub Held : UnitRecord → Span → ℕ → Type 0
-Held u s long = (k : ℕ) → k < s .count * B (geometry u) → diskFrom u (s .volume) (s .first) k < long
+abbrev pub InImage : UnitRecord → Span → ℕ → Type 0
+InImage u s long = (k : ℕ) → k < s .count * B (geometry u) → diskFrom u (s .volume) (s .first) k < long
 
 -- Two buffers after some stores.
 abbrev pub lent : List ℕ → List ℕ → Buffers
@@ -104,9 +104,9 @@ stretch to-host disk k at n = upTo n (λ i. move to-host (disk (k + i)) (at + i)
 
 -- n bytes of a piece at an index of host memory, of which the first is byte k of the span: what has to hold before they are
 -- carried, and what holds then.
-pub record Fits (u : UnitRecord) (s : Span) (c : Cursor) (at n : ℕ) (host image : List ℕ) : Type 0 where
+pub record CarryFits (u : UnitRecord) (s : Span) (c : Cursor) (at n : ℕ) (host image : List ℕ) : Type 0 where
   pub spans : Spans u s
-  pub held : Held u s (length image)
+  pub held : InImage u s (length image)
   pub on : On u s (behind u c) c
   pub bytes : behind u c + n ≤ s .count * B (geometry u)
   pub memory : at + n ≤ length host

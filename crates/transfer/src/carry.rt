@@ -8,7 +8,7 @@ ghost use mathlib.Core.Path.{_≡_};
 ghost use Prim.Native.Nat.{_+_, _*_, _^_, _≤_, _<_, min};
 ghost use lib.ListN.{length};
 ghost use Rattle.geometry.specs.Drive.{B};
-ghost use Rattle.transfer.specs.Runs.{Carried, Fits, Held, On, PiecesFit, Ready, Spans, advanced, behind, fillStore, lent, spanBytes, spanStores};
+ghost use Rattle.transfer.specs.Runs.{Carried, CarryFits, InImage, On, PiecesFit, Ready, Spans, advanced, behind, fillStore, lent, spanBytes, spanStores};
 ghost use Rattle.transfer.specs.Stores.{after, upTo};
 ghost use Rattle.wire.specs.Copy.{copied};
 ghost use Rattle.unit.specs.Standing.{bare, geometry, unitOf};
@@ -103,7 +103,7 @@ fn carry_piece(
     at: usize,
     n: usize,
 ) -> Cursor
-    requires { ⌜ Fits (unitOf u (now table)) span from at n (now host) (now image) ⌝ }
+    requires { ⌜ CarryFits (unitOf u (now table)) span from at n (now host) (now image) ⌝ }
     ensures { λ r. ⌜ Carried (unitOf u (now (table .entry))) span «to_host» (behind (bare u) from) at n (lent (now (host .entry)) (now (image .entry))) (lent (now (host .exit)) (now (image .exit))) r ⌝ }
 {
     let mut c = from;
@@ -143,7 +143,7 @@ pub(crate) fn carry(
     lengths: &[u32],
     addresses: &[u32],
 )
-    requires { ⌜ Spans (unitOf u (now table)) span × (Held (unitOf u (now table)) span (length (now image)) × PiecesFit (length (now host)) (spanBytes (bare u) span) (now lengths) (now addresses)) ⌝ }
+    requires { ⌜ Spans (unitOf u (now table)) span × (InImage (unitOf u (now table)) span (length (now image)) × PiecesFit (length (now host)) (spanBytes (bare u) span) (now lengths) (now addresses)) ⌝ }
     ensures { λ _. ⌜ lent (now (host .exit)) (now (image .exit)) ≡ after (upTo (spanBytes (bare u) span) (spanStores (unitOf u (now (table .entry))) span «to_host» (now (lengths .entry)) (now (addresses .entry)))) (lent (now (host .entry)) (now (image .entry))) ⌝ }
 {
     let all = span_bytes(u, span);

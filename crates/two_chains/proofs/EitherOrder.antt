@@ -3,16 +3,15 @@
 use mathlib.Core.Path.{_≡_, sym, ap, _∙_}
 use denote.Ref.{now}
 use Rattle.board.specs.declared.chain.Outcome.{Outcome}
-use Rattle.board.specs.Chain.{Ending, ran}
+use Rattle.board.specs.Chain.{Ending, endOf, ran}
 use Rattle.board.specs.Lent.{worldOf}
-use Rattle.board.specs.Steps.{CameTo}
+use Rattle.board.specs.Steps.{CameTo, endIn}
 use Rattle.board.specs.World.{World}
 use Rattle.board.proofs.run.Reads as run
-use Rattle.independence.specs.Chains.{Both, Chain, First, Second, Told, Which, leaving, runOf, told, worldFor}
-use Rattle.independence.proofs.Demand3.{either-way}
-use Rattle.two_chains.specs.declared.Came.{Came}
+use Rattle.independence.specs.Chains.{Both, Chain, First, Second, Which, leaving, runOf, worldFor}
+use Rattle.independence.proofs.Demand3.{either-way, first-same, left-same, second-same}
 use Rattle.two_chains.specs.EitherOrder.{BothAsked, OrdersAlike, RunAsked, TwoCallsAlike, asksOn}
-use Rattle.two_chains.specs.Orders.{bothOf, cameOf, chainOf, ranBoth, ranBothOf, toldBy}
+use Rattle.two_chains.specs.Orders.{bothOf, chainOf, ranBoth, ranBothOf}
 use Rattle.two_chains.proofs.Orders.{orders-are-one}
 use Rattle.two_chains.proofs.run_both.Reads as run-both
 
@@ -44,14 +43,11 @@ module _
   ends : ran (asked .first) (asked .allowance) (asked .lent) ≡ ran (k .first) (k .allowance) (worldFor t (k .controller) s)
   ends = ap (λ (q : RunAsked). ran (q .first) (q .allowance) (q .lent)) is
 
-  comes-so : toldBy (cameOf r) ≡ runOf t k .out s
-  comes-so = ap (λ (o : Outcome). toldBy (cameOf o)) (came .result) ∙ ap told ends
+  comes-so : endIn r ≡ runOf t k .out s
+  comes-so = ap endIn (came .result) ∙ ap endOf ends
 
   leaves-so : leaving t (k .controller) s w ≡ runOf t k .left s
   leaves-so = ap (leaving t (k .controller) s) (came .world ∙ ap (λ (e : Ending). e .world) ends)
-
-came-by : Told → Came
-came-by o = record { answer = o .answer; failed = o .failed; blocks = o .tally .blocks; sectors = o .tally .sectors }
 
 two-runs-in-either-order :
     TwoCallsAlike run.Post
@@ -63,25 +59,22 @@ two-runs-in-either-order :
     })
     (λ κ a x e.
     record {
-      came = cameOf x;
+      came = endIn x;
       left = worldOf (a .1 .1 .1 .1 .1 .1 .1 .0) (now (e .0)) (now (e .1 .0)) (now (e .1 .1 .0)) (now (e .1 .1 .1 .0)) (now (e .1 .1 .1 .1 .0)) (now (e .1 .1 .1 .1 .1 .0)) (x .units);
     })
-unfolding came-by
 two-runs-in-either-order one two s apart κ₁ κ₂ κ₃ κ₄ a₁ a₂ a₃ a₄ x₁ x₂ x₃ x₄ e₁ e₂ e₃ e₄ g₁ g₂ g₃ g₄ p₁ p₂ p₃ p₄ =
     let either = either-way one two s apart in
     let first-left = leaves-so First one s _ g₁ x₁ _ p₁ in
     let second-left = leaves-so Second two s _ g₃ x₃ _ p₃ in
     record {
       of-first =
-          ap came-by
-          (comes-so First one s _ g₁ x₁ _ p₁ ∙ sym (either .first) ∙ sym (ap (runOf First one .out) second-left) ∙ sym (comes-so First one _ _ g₄ x₄ _ p₄));
+          comes-so First one s _ g₁ x₁ _ p₁ ∙ first-same one two s either ∙ sym (ap (runOf First one .out) second-left) ∙ sym (comes-so First one _ _ g₄ x₄ _ p₄);
       of-second =
-          ap came-by
-          (comes-so Second two _ _ g₂ x₂ _ p₂ ∙ ap (runOf Second two .out) first-left ∙ either .second ∙ sym (comes-so Second two s _ g₃ x₃ _ p₃));
+          comes-so Second two _ _ g₂ x₂ _ p₂ ∙ ap (runOf Second two .out) first-left ∙ second-same one two s either ∙ sym (comes-so Second two s _ g₃ x₃ _ p₃);
       left =
           leaves-so Second two _ _ g₂ x₂ _ p₂
           ∙ ap (runOf Second two .left) first-left
-          ∙ either .left
+          ∙ left-same one two s either
           ∙ sym (ap (runOf First one .left) second-left)
           ∙ sym (leaves-so First one _ _ g₄ x₄ _ p₄);
     }

@@ -3,21 +3,21 @@
 use Prim.Native.Nat.{ℕ}
 use mathlib.Core.List.{List}
 use mathlib.Core.Path.{_≡_, refl, sym, _∙_, ap}
+use Rattle.board.specs.declared.chain.End.{End}
 use Rattle.board.specs.declared.Units.{Units}
 use Rattle.board.specs.declared.chain.Outcome.{Outcome}
-use Rattle.board.specs.Chain.{ran}
-use Rattle.board.specs.Steps.{CameTo}
+use Rattle.board.specs.Chain.{endOf, ran}
+use Rattle.board.specs.Steps.{CameTo, endIn}
 use Rattle.board.specs.Lent.{worldOf}
-use Rattle.two_chains.specs.declared.Came.{Came}
 use Rattle.two_chains.specs.declared.Order.{Order}
 use Rattle.two_chains.specs.declared.Order.the-variants.{FirstThenSecond, SecondThenFirst}
 use Rattle.two_chains.specs.declared.Twice.{Twice}
 use Rattle.unit.specs.declared.Controller.{Controller}
 use Rattle.unit.specs.declared.Controller.the-variants.{First as FirstController, Second as SecondController}
-use Rattle.independence.specs.Chains.{Both, Chain, First, Second, Which, leaving, runOf, told}
+use Rattle.independence.specs.Chains.{Both, Chain, First, Second, Which, leaving, runOf}
 use Rattle.independence.specs.Demand3.{EitherWay, Independent}
-use Rattle.two_chains.specs.Orders.{IsRunOf, RanBoth, RanOne, cameOf, lentTo, ranBoth, ranBothOf, ranOne, ranOneOf, toldBy}
-use Rattle.independence.proofs.Demand3.{either-way}
+use Rattle.two_chains.specs.Orders.{IsRunOf, RanBoth, RanOne, lentTo, ranBoth, ranBothOf, ranOne, ranOneOf}
+use Rattle.independence.proofs.Demand3.{either-way, first-same, left-same, second-same}
 
 -- A call is the run of its chain: the memory of its controller is the one that was lent to it, and the other stays.
 -- The cases say no more than which fields these are.
@@ -33,8 +33,8 @@ module _ (first allowance : ℕ) (r : Outcome) (host1 host2 image0 image1 events
       CameTo (ran first allowance (worldOf c mine image0 image1 events tracks0 tracks1 units)) (worldOf c h a b e t u (r .units)) r
 
   told-so : (c : Controller) (mine : List ℕ) → Ran c mine →
-      toldBy (cameOf r) ≡ told (ran first allowance (worldOf c mine image0 image1 events tracks0 tracks1 units))
-  told-so c mine came = ap (λ (o : Outcome). toldBy (cameOf o)) (came .result)
+      endIn r ≡ endOf (ran first allowance (worldOf c mine image0 image1 events tracks0 tracks1 units))
+  told-so c mine came = ap endIn (came .result)
 
   pub by-the-first : Ran FirstController host1 → IsRunOf (by FirstController) before (lentTo h host2 a b e t u (r .units)) r
   by-the-first came First other =
@@ -50,15 +50,15 @@ module _ (first allowance : ℕ) (r : Outcome) (host1 host2 image0 image1 events
 
 -- Two of them in a row are the first order.
 pub first-then-second :
-    (one two : Chain) (s between after : Both) (r q : Outcome) {x y : Came} →
-    ranOneOf r between ≡ ranOne First one s → ranOneOf q after ≡ ranOne Second two between → x ≡ cameOf r → y ≡ cameOf q →
+    (one two : Chain) (s between after : Both) (r q : Outcome) {x y : End} →
+    ranOneOf r between ≡ ranOne First one s → ranOneOf q after ≡ ranOne Second two between → x ≡ endIn r → y ≡ endIn q →
     ranBothOf (record { first = x; second = y; units = q .units }) after ≡ ranBoth FirstThenSecond one two s
 first-then-second one two s between after r q ran-one ran-two is-x is-y =
     let step = ap (λ (o : RanOne). o .left) ran-one in
     λ i.
     record {
-      first = (ap toldBy is-x ∙ ap (λ (o : RanOne). o .came) ran-one) i;
-      second = (ap toldBy is-y ∙ ap (λ (o : RanOne). o .came) ran-two ∙ ap (runOf Second two .out) step) i;
+      first = (is-x ∙ ap (λ (o : RanOne). o .came) ran-one) i;
+      second = (is-y ∙ ap (λ (o : RanOne). o .came) ran-two ∙ ap (runOf Second two .out) step) i;
       left = (ap (λ (o : RanOne). o .left) ran-two ∙ ap (runOf Second two .left) step) i;
     }
 
@@ -99,4 +99,4 @@ orders-are-one c d s apart o p = to-first o ∙ sym (to-first p)
     to-first : (o : Order) → ranBoth o c d s ≡ ranBoth FirstThenSecond c d s
     to-first FirstThenSecond = refl
     to-first SecondThenFirst =
-        λ i. record { first = either .first i; second = sym (either .second) i; left = sym (either .left) i }
+        λ i. record { first = sym (first-same c d s either) i; second = sym (second-same c d s either) i; left = sym (left-same c d s either) i }

@@ -2,10 +2,10 @@
 -- arguments ask for and lend, `seen` what a caller sees of an outcome.
 use Prim.Native.Nat.{ℕ}
 use mathlib.Core.Path.{_≡_}
+use Rattle.board.specs.declared.chain.End.{End}
 use Rattle.board.specs.World.{World}
 use Rattle.independence.specs.Chains.{Both, Chain, First, Second, Which, leaving, worldFor}
 use Rattle.independence.specs.Demand3.{Independent}
-use Rattle.two_chains.specs.declared.Came.{Came}
 use Rattle.two_chains.specs.declared.Order.{Order}
 use Rattle.two_chains.specs.Orders.{RanBoth}
 
@@ -39,7 +39,7 @@ pub record RunAsked : Type 0 where
 
 -- What a caller sees: what the chain came to, and the world that is left.
 pub record RunSeen : Type 0 where
-  pub came : Came
+  pub came : End
   pub left : World
 
 -- A chain, as one of two, asks to be run on what it finds; and all that is there once its call has left its world.

@@ -2,15 +2,16 @@
 use Prim.Native.Nat.{ℕ}
 use mathlib.Core.List.{List}
 use mathlib.Core.Path.{_≡_}
+use Rattle.board.specs.Steps.{endIn}
+use Rattle.board.specs.declared.chain.End.{End}
 use Rattle.unit.specs.Standing.{unitOf}
 use Rattle.board.specs.declared.Units.{Units}
 use Rattle.board.specs.declared.chain.Outcome.{Outcome}
-use Rattle.two_chains.specs.declared.Came.{Came}
 use Rattle.two_chains.specs.declared.Chain.{Chain as Asked}
 use Rattle.two_chains.specs.declared.Order.{Order}
 use Rattle.two_chains.specs.declared.Order.the-variants.{FirstThenSecond, SecondThenFirst}
 use Rattle.two_chains.specs.declared.Twice.{Twice}
-use Rattle.independence.specs.Chains.{Both, Chain, First, Second, Told, Which, runOf}
+use Rattle.independence.specs.Chains.{Both, Chain, First, Second, Which, runOf}
 
 -- What a caller lends: the memory of each controller, the two drives that they share, and an event buffer for each chain.
 abbrev pub bothOf : (host1 host2 image0 image1 events1 events2 tracks0 tracks1 : List ℕ) → Units → Both
@@ -27,20 +28,14 @@ bothOf host1 host2 image0 image1 events1 events2 tracks0 tracks1 units =
 abbrev pub chainOf : Asked → Chain
 chainOf k = record { controller = k .controller; first = k .first; allowance = k .allowance }
 
-abbrev pub cameOf : Outcome → Came
-cameOf o = record { answer = o .answer; failed = o .failed; blocks = o .blocks; sectors = o .sectors }
-
-abbrev pub toldBy : Came → Told
-toldBy c = record { answer = c .answer; failed = c .failed; tally = record { blocks = c .blocks; sectors = c .sectors } }
-
 -- What the first chain came to, what the second came to, and all that is left.
 pub record RanBoth : Type 0 where
-  pub first : Told
-  pub second : Told
+  pub first : End
+  pub second : End
   pub left : Both
 
 abbrev pub ranBothOf : Twice → Both → RanBoth
-ranBothOf r s = record { first = toldBy (r .first); second = toldBy (r .second); left = s }
+ranBothOf r s = record { first = r .first; second = r .second; left = s }
 
 abbrev pub ranBoth : Order → (one two : Chain) → Both → RanBoth
 ranBoth FirstThenSecond one two s =
@@ -62,11 +57,11 @@ lentTo host1 host2 image0 image1 events tracks0 tracks1 units Second other =
     bothOf host1 host2 image0 image1 other events tracks0 tracks1 units
 
 pub record RanOne : Type 0 where
-  pub came : Told
+  pub came : End
   pub left : Both
 
 abbrev pub ranOneOf : Outcome → Both → RanOne
-ranOneOf r s = record { came = toldBy (cameOf r); left = s }
+ranOneOf r s = record { came = endIn r; left = s }
 
 abbrev pub ranOne : Which → Chain → Both → RanOne
 ranOne t k s = record { came = runOf t k .out s; left = runOf t k .left s }

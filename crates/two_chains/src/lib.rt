@@ -1,13 +1,14 @@
 // Two chains run one after the other, each by either controller and with an event buffer of its own, in the order that is asked for.
 // Demand 3 is about the definition of a run (crate independence); here it is about what runs: both orders hand back the same.
 // It runs nothing by itself but board's run, twice, and asks nothing of the two chains.
-use answers::RunAnswer;
+use board::End;
 use board::Outcome;
 use board::Units;
 use unit::Controller;
 ghost use mathlib.Core.Path.{_≡_};
+ghost use Rattle.board.specs.Steps.{endIn};
 ghost use Rattle.two_chains.specs.declared.Order.{Order};
-ghost use Rattle.two_chains.specs.Orders.{IsRunOf, bothOf, cameOf, chainOf, lentTo, ranBoth, ranBothOf};
+ghost use Rattle.two_chains.specs.Orders.{IsRunOf, bothOf, chainOf, lentTo, ranBoth, ranBothOf};
 
 // A chain as it is asked for: which controller runs it, from which block on, and how many blocks it may fetch.
 pub struct Chain {
@@ -22,26 +23,19 @@ pub enum Order {
     SecondThenFirst,
 }
 
-// What a chain came to, its units aside.
-pub struct Came {
-    pub answer: RunAnswer,
-    pub failed: u8,
-    pub blocks: u32,
-    pub sectors: u32,
-}
-
 // What two chains came to, and the records that they left.
 pub struct Twice {
-    pub first: Came,
-    pub second: Came,
+    pub first: End,
+    pub second: End,
     pub units: Units,
 }
 
-fn told(o: Outcome) -> Came
-    ensures { λ r. ⌜ r ≡ cameOf o ⌝ }
+// How a chain ended, its units aside.
+fn end_of(o: Outcome) -> End
+    ensures { λ r. ⌜ r ≡ endIn o ⌝ }
 {
     let answer = o.answer;
-    Came {
+    End {
         answer,
         failed: o.failed,
         blocks: o.blocks,
@@ -135,8 +129,8 @@ fn in_turn(
     );
     let after = second.units;
     Twice {
-        first: told(first),
-        second: told(second),
+        first: end_of(first),
+        second: end_of(second),
         units: after,
     }
 }

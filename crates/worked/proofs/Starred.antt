@@ -21,7 +21,7 @@ use Rattle.request.specs.declared.Move.{Move}
 use Rattle.unit.specs.declared.Controller.the-variants.{First}
 use Rattle.worked.specs.SmallDrive.{All, Holds, Judged, RefusesWith, asking, drive, host, move, starred, unit}
 use Rattle.worked.specs.SmallDrive.Line.{reads, scatters, stands}
-use Rattle.worked.specs.SmallDrive.Says.{answer, passes}
+use Rattle.worked.specs.SmallDrive.Expected.{answer, passes}
 use Rattle.worked.proofs.Drive.{counts, need-7800, place, place-is, present, sectors-40, sectors-80}
 use Rattle.worked.proofs.Memory.{list-good, piece-good, ranges-good}
 

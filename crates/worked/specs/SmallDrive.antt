@@ -60,9 +60,9 @@ move n count buffer =
 abbrev pub asking : Move → ℕ → Asked
 asking m image = record { task = Task.Move m; controller = First; unit = unit; image = image; host = host }
 
-pub data Says : Type 0 where
-  passes : Says
-  answer : ℕ → Says
+pub data Expected : Type 0 where
+  passes : Expected
+  answer : ℕ → Expected
 
 -- A verdict refuses with a number.
 abbrev pub RefusesWith : ℕ → Verdict → Type 0
@@ -70,7 +70,7 @@ RefusesWith n (Refused r) = refusalNumber r ≡ n
 RefusesWith n (Do plan) = ⊥
 
 -- What the table says of a request from a number on: the verdict refuses it with that answer, or has it done from there.
-abbrev pub Judged : Move → ℕ → ℕ → Says → Type 0
+abbrev pub Judged : Move → ℕ → ℕ → Expected → Type 0
 Judged m n image (answer k) = RefusesWith k (verdict (asking m image))
 Judged m n image passes = verdict (asking m image) ≡ Do (carrying (jobOf m n))
 
@@ -96,9 +96,9 @@ pub data Line : Type 0 where
   -- a volume, a number in it, its place, and the first byte there
   stands : VolumeNumber → ℕ → ℕ → ℕ → Line
   -- a read from a number, of so many sectors, on an image of so many bytes
-  reads : ℕ → ℕ → ℕ → Says → Line
+  reads : ℕ → ℕ → ℕ → Expected → Line
   -- a read of a sector for each element, through a list of so many elements
-  scatters : ℕ → Says → Line
+  scatters : ℕ → Expected → Line
   -- on the unit with spares: a volume, a number in it, its place, and the first byte there
   lands : VolumeNumber → ℕ → ℕ → ℕ → Line
   -- there too: two addresses, and a byte that both reach

@@ -15,11 +15,11 @@ run-on-its-own-requires c κs = search needs
 run-on-its-own-requires-2 : tie.Need-run-on-its-own-requires-2
 run-on-its-own-requires-2 c κs = search needs
 
-told-requires : tie.Need-told-requires
-told-requires c κs = search needs
+end-of-requires : tie.Need-end-of-requires
+end-of-requires c κs = search needs
 
-told-requires-2 : tie.Need-told-requires-2
-told-requires-2 c κs = search needs
+end-of-requires-2 : tie.Need-end-of-requires-2
+end-of-requires-2 c κs = search needs
 
 same-length : tie.Need-same-length
 same-length c =
@@ -62,7 +62,7 @@ returns c =
     (bothOf (m .0) (m .1 .0) (m .1 .1 .0) (m .1 .1 .1 .0) (l .1 .1 .1 .1 .0) (m .1 .1 .1 .1 .0) (m .1 .1 .1 .1 .1 .0) (m .1 .1 .1 .1 .1 .1 .0) (second .run-on-its-own2 .result .units))
     (first .run-on-its-own .result) (second .run-on-its-own2 .result)
     (first .run-on-its-own .ensures First (now (a .events2))) (second .run-on-its-own2 .ensures Second (l .1 .1 .1 .1 .0))
-    (c .before .told .ensures) (c .told2 .ensures)
+    (c .before .end-of .ensures) (c .end-of2 .ensures)
 
 pub in-turn-spec : {M : Type 1} → statement M
 in-turn-spec =
@@ -70,8 +70,8 @@ in-turn-spec =
     (tie.spec
     run-on-its-own-requires
     run-on-its-own-requires-2
-    told-requires
-    told-requires-2
+    end-of-requires
+    end-of-requires-2
     same-length
     same-length-2
     same-length-3

@@ -7,7 +7,7 @@ use Rattle.answers.specs.declared.RunAnswer.{RunAnswer}
 use Rattle.answers.specs.Numbers.{refusalNumber}
 use Rattle.wire.proofs.Promises.{denied, granted}
 use Rattle.board.specs.Chain.{fetched}
-use Rattle.board.specs.Steps.{countedOf, tallyOf}
+use Rattle.board.specs.Chain.{counted}
 use Rattle.board.specs.Lent.{worldOf}
 use Rattle.board.specs.Records.{unitsIn}
 use Rattle.board.proofs.Chains.{ended-in, ended-the-same, executed-done, executed-failed, executed-on, fetched-bad, fetched-on, fetched-spent, spare-kept, spare-less}
@@ -78,7 +78,7 @@ module _ (t : ℕ) where
         (
           rw (c .before .before .before .before .before .before .before .before .before .before .before .counted .ensures)
               (spare-less (s .last .1 .1 .1 .0) (a .left) (a .count) (s .result .told .sectors) (omega arith)
-              (spare-kept (a .events .now) (s .last .1 .1 .1 .0) (a .left + 1) (tallyOf (a .count)) (s .kept .1 .1 .1 .0) (pre .1 .1))),
+              (spare-kept (a .events .now) (s .last .1 .1 .1 .0) (a .left + 1) (a .count) (s .kept .1 .1 .1 .0) (pre .1 .1))),
           s .ensures .knows,
         ),
       )
@@ -106,7 +106,7 @@ module _ (t : ℕ) where
       let w′ = (worldOf (a .c) (s .last .0) (s .last .1 .0) (s .last .1 .1 .0) (s .last .1 .1 .1 .0) (s .last .1 .1 .1 .1 .0) (s .last .1 .1 .1 .1 .1 .0) (unitsIn (s .last .1 .1 .1 .1 .1 .1 .0) (s .last .1 .1 .1 .1 .1 .1 .1 .0))) in
       let r = c .before .before .answer .given .0 .0 in
       rw (c .failed .ensures, c .before .before .before .before .counted .ensures)
-      (ended-in RunAnswer.BlockFailed (refusalNumber r) (countedOf (a .count) (s .result .told .sectors)) w′ _
+      (ended-in RunAnswer.BlockFailed (refusalNumber r) (counted (a .count) (s .result .told .sectors)) w′ _
       (executed-failed (fetched (a .left)) (a .count) (a .at) w w′ _ (s .ensures .to) r (c .before .before .answer .given .1)))
 
   execute-same-length-5 : execute-lts.Need-same-length-5 (step-reads.Asked, step-reads.Learnt, counted-reads.Asked, counted-reads.Learnt, failed-reads.Asked, failed-reads.Learnt, fetch-below t, fetch.Post, ended-reads.Asked, ended-reads.Learnt) (execute-at t) execute.Post
@@ -151,7 +151,7 @@ module _ (t : ℕ) where
       let w = (worldOf (a .c) (a .host .now) (a .image0 .now) (a .image1 .now) (a .events .now) (a .map0 .now) (a .map1 .now) (unitsIn (a .record0 .now) (a .record1 .now))) in
       let w′ = (worldOf (a .c) (s .last .0) (s .last .1 .0) (s .last .1 .1 .0) (s .last .1 .1 .1 .0) (s .last .1 .1 .1 .1 .0) (s .last .1 .1 .1 .1 .1 .0) (unitsIn (s .last .1 .1 .1 .1 .1 .1 .0) (s .last .1 .1 .1 .1 .1 .1 .1 .0))) in
       rw (c .ended .ensures, c .before .before .before .before .counted .ensures)
-      (ended-in RunAnswer.Done 0 (countedOf (a .count) (s .result .told .sectors)) w′ _
+      (ended-in RunAnswer.Done 0 (counted (a .count) (s .result .told .sectors)) w′ _
       (executed-done (fetched (a .left)) (a .count) (a .at) w w′ _ (s .ensures .to) (c .before .before .enum-told .given .1) (c .before .if1 .left)))
 
   fetch-ended-requires : fetch-lts.Need-ended-requires (ended-reads.Asked, ended-reads.Learnt, holds-block-reads.Asked, holds-block-reads.Learnt, execute-below t, execute.Post) (fetch-at t) fetch.Post
@@ -163,7 +163,7 @@ module _ (t : ℕ) where
       let w = (worldOf (a .c) (a .host .now) (a .image0 .now) (a .image1 .now) (a .events .now) (a .map0 .now) (a .map1 .now) (unitsIn (a .record0 .now) (a .record1 .now))) in
       rw (c .ended .ensures)
       (ended-in RunAnswer.AllowanceSpent 0 (a .count) w _
-      (fetched-spent (a .left) (tallyOf (a .count)) (a .at) w (c .before .if1 .taken)))
+      (fetched-spent (a .left) (a .count) (a .at) w (c .before .if1 .taken)))
 
   fetch-holds-block-requires : fetch-lts.Need-holds-block-requires (ended-reads.Asked, ended-reads.Learnt, holds-block-reads.Asked, holds-block-reads.Learnt, execute-below t, execute.Post) (fetch-at t) fetch.Post
   fetch-holds-block-requires c κs = search needs
@@ -181,7 +181,7 @@ module _ (t : ℕ) where
       let held = c .before .before .holds-block in
       rw (c .ended2 .ensures)
       (ended-in RunAnswer.LinkBad 0 (a .count) w _
-      (fetched-bad (a .left) (tallyOf (a .count)) (a .at) w (omega arith) (denied (held .result) _ (c .before .if2 .taken) (held .ensures))))
+      (fetched-bad (a .left) (a .count) (a .at) w (omega arith) (denied (held .result) _ (c .before .if2 .taken) (held .ensures))))
 
   fetch-sub-execute : fetch-lts.Need-sub-execute (ended-reads.Asked, ended-reads.Learnt, holds-block-reads.Asked, holds-block-reads.Learnt, execute-below t, execute.Post) (fetch-at t) fetch.Post
   fetch-sub-execute c = search needs
@@ -213,7 +213,7 @@ module _ (t : ℕ) where
       let held = c .before .before .before .before .before .before .before .before .before .before .before .before .before .before .before .before .before .before .holds-block in
       let e = c .before .before .before .before .before .before .before .before .execute in
       ended-the-same _ _ _ (e .result)
-      (fetched-on (a .left) (tallyOf (a .count)) (a .at) w (omega (arith, c .before .before .before .before .before .before .before .before .before .before .before .before .before .before .before .before .before .before .before .before .if1 .left)) (granted (held .result) _ (c .before .before .before .before .before .before .before .before .before .before .before .before .before .before .before .before .before .if2 .left) (held .ensures)))
+      (fetched-on (a .left) (a .count) (a .at) w (omega (arith, c .before .before .before .before .before .before .before .before .before .before .before .before .before .before .before .before .before .before .before .before .if1 .left)) (granted (held .result) _ (c .before .before .before .before .before .before .before .before .before .before .before .before .before .before .before .before .before .if2 .left) (held .ensures)))
       (e .ensures)
 
 pub +execute+fetch-spec : {M : Type 1} → statement M
