@@ -16,6 +16,10 @@ Inv-loop table m g i₀ i = (i ≤ m) × ((k : ℕ) → k < i → TrackOn g (get
 abbrev μ-loop : tie.MeasureT-loop
 μ-loop table m g i₀ i = m - i
 
+-- The loop's head, from where a track was asked about.
+abbrev at-loop : tie.After-is-on-drive Inv-loop μ-loop → tie.At-loop Inv-loop μ-loop
+at-loop c = c .before .before .before
+
 loop-holds : tie.Need-loop-holds Inv-loop μ-loop
 loop-holds c = (omega arith, λ k h. absurd (omega arith))
 
@@ -31,7 +35,7 @@ is-on-drive-requires c κs = search needs
 returns : tie.Need-returns Inv-loop μ-loop
 returns c =
     let asked = c .before .is-on-drive in
-    λ all. denied (asked .result) _ (c .if1 .taken) (asked .ensures) (all (c .before .before .before .before .loop .i) (omega arith))
+    λ all. denied (asked .result) _ (c .if1 .taken) (asked .ensures) (all (at-loop (c .before) .loop .i) (omega arith))
 
 add-i : tie.Need-add-i Inv-loop μ-loop
 add-i c = omega arith
@@ -41,10 +45,10 @@ loop-less c = omega arith
 
 loop-again : tie.Need-loop-again Inv-loop μ-loop
 loop-again c =
-    let at-loop = c .before .before .before .before .loop in
+    let loop = at-loop (c .before) .loop in
     let asked = c .before .is-on-drive in (
       omega arith,
-      rw add-one (all-more _ (at-loop .i) (at-loop .inv .1) (granted (asked .result) _ (c .if1 .left) (asked .ensures))),
+      rw add-one (all-more _ (loop .i) (loop .inv .1) (granted (asked .result) _ (c .if1 .left) (asked .ensures))),
     )
 
 returns-2 : tie.Need-returns-2 Inv-loop μ-loop

@@ -5,6 +5,10 @@ use Rattle.wire.proofs.Promises.{says-no, says-yes}
 use Rattle.spares.proofs.are_free.Statement.{statement}
 use Rattle.spares.proofs.are_free.Tie as tie
 
+-- Where the bad track was looked for, from the spare's own test.
+abbrev bad-asked : tie.Else3 → tie.After-is-in
+bad-asked c = c .before .before .before
+
 returns : tie.Need-returns
 returns c = search needs
 
@@ -27,9 +31,9 @@ returns-3 c =
 returns-4 : tie.Need-returns-4
 returns-4 c =
     let spare = c .before .is-in2 in
-    let bad = c .before .before .before .is-in in
+    let bad = bad-asked c .is-in in
     record {
-      differ = c .before .before .before .before .if1 .left;
+      differ = bad-asked c .before .if1 .left;
       bad-new = says-no (bad .result) _ (c .before .before .if2 .left) (bad .ensures);
       spare-new = says-no (spare .result) _ (c .if3 .left) (spare .ensures);
     }

@@ -27,8 +27,9 @@ none-is-twice-requires c κs = search needs
 returns-3 : tie.Need-returns-3
 returns-3 c =
     let asked = c .before .before .all-are-on-drive in
+    let fits = c .before .before .before in
     says-same (c .none-is-twice .result) _ _
-    (λ once. record { long = c .before .before .before .before .numbers .ensures; room = c .before .before .before .if1 .left; on = granted (asked .result) _ (c .before .if2 .left) (asked .ensures); once = once })
+    (λ once. record { long = fits .before .numbers .ensures; room = fits .if1 .left; on = granted (asked .result) _ (c .before .if2 .left) (asked .ensures); once = once })
     (λ good. good .once) (c .none-is-twice .ensures)
 
 pub is-good-spec : {M : Type 1} → statement M

@@ -7,6 +7,13 @@ use borrow.Author.Needs.{needs}
 use Rattle.spares.proofs.is_on_drive.Statement.{statement}
 use Rattle.spares.proofs.is_on_drive.Tie as tie
 
+-- The places: where the track is taken apart, from the cylinder's test; and that test, from the head's.
+abbrev apart : tie.After-struct-known → tie.After-stands-for
+apart c = c .before .before
+
+abbrev earlier : tie.After-struct-known2 → tie.After-struct-known
+earlier c = c .before .before .before
+
 stands-for-requires : tie.Need-stands-for-requires
 stands-for-requires c κs = search needs
 
@@ -15,26 +22,26 @@ cylinders-requires c κs = search needs
 
 returns : tie.Need-returns
 returns c =
-    let k = c .before .before .before .stands-for .ensures in
-    λ on. omega (arith, on .cylinder, ap (λ k. k .cylinder) k, c .before .before .cylinders .ensures)
+    let k = apart (c .before) .stands-for .ensures in
+    λ on. omega (arith, on .cylinder, ap (λ k. k .cylinder) k)
 
 heads-requires : tie.Need-heads-requires
 heads-requires c κs = search needs
 
 returns-2 : tie.Need-returns-2
 returns-2 c =
-    let k = c .before .before .before .before .before .before .stands-for .ensures in
-    λ on. omega (arith, on .head, ap (λ k. k .head) k, c .before .before .heads .ensures)
+    let k = apart (earlier (c .before)) .stands-for .ensures in
+    λ on. omega (arith, on .head, ap (λ k. k .head) k)
 
 returns-3 : tie.Need-returns-3
 returns-3 c =
-    let k = c .before .before .before .before .before .before .stands-for .ensures in
-    let t = c .before .before .before .before .before .before .before .args .t in
-    says-eqb (t % 256) 0 _
+    let taken = apart (earlier (c .before)) in
+    let k = taken .stands-for .ensures in
+    says-eqb (taken .before .args .t % 256) 0 _
     (λ last.
     record {
-      cylinder = omega (arith, ap (λ k. k .cylinder) k, c .before .before .before .before .before .cylinders .ensures);
-      head = omega (arith, ap (λ k. k .head) k, c .before .before .heads .ensures);
+      cylinder = omega (arith, ap (λ k. k .cylinder) k);
+      head = omega (arith, ap (λ k. k .head) k);
       last = last;
     })
     (λ other on. other (on .last))

@@ -14,6 +14,10 @@ Inv-loop table m t i₀ i = (i ≤ m) × ((k : ℕ) → k < i → getD table k 0
 abbrev μ-loop : tie.MeasureT-loop
 μ-loop table m t i₀ i = m - i
 
+-- The loop's head, from where a track was read.
+abbrev at-loop : tie.After-if12 Inv-loop μ-loop → tie.At-loop Inv-loop μ-loop
+at-loop c = c .before .before
+
 loop-holds : tie.Need-loop-holds Inv-loop μ-loop
 loop-holds c = (omega arith, λ k h. absurd (omega arith))
 
@@ -24,7 +28,7 @@ element-copy-out-if1 : tie.Need-element-copy-out-if1 Inv-loop μ-loop
 element-copy-out-if1 c = omega arith
 
 returns : tie.Need-returns Inv-loop μ-loop
-returns c = record { at = c .before .before .before .loop .i; less = omega arith; here = c .if1 .taken }
+returns c = record { at = at-loop (c .before) .loop .i; less = omega arith; here = c .if1 .taken }
 
 add-i : tie.Need-add-i Inv-loop μ-loop
 add-i c = omega arith
@@ -34,9 +38,9 @@ loop-less c = omega arith
 
 loop-again : tie.Need-loop-again Inv-loop μ-loop
 loop-again c =
-    let at-loop = c .before .before .before .loop in (
+    let loop = at-loop (c .before) .loop in (
       omega arith,
-      rw add-one (all-more _ (at-loop .i) (at-loop .inv .1) (c .if1 .left)),
+      rw add-one (all-more _ (loop .i) (loop .inv .1) (c .if1 .left)),
     )
 
 returns-2 : tie.Need-returns-2 Inv-loop μ-loop

@@ -15,6 +15,10 @@ Inv-loop table m j₀ j = (j ≤ m) × ((k : ℕ) → k < j → (i : ℕ) → i 
 abbrev μ-loop : tie.MeasureT-loop
 μ-loop table m j₀ j = m - j
 
+-- The loop's head, from where a track was looked for.
+abbrev at-loop : tie.After-is-one-of Inv-loop μ-loop → tie.At-loop Inv-loop μ-loop
+at-loop c = c .before .before .before
+
 loop-holds : tie.Need-loop-holds Inv-loop μ-loop
 loop-holds c = (omega arith, λ k h. absurd (omega arith))
 
@@ -31,7 +35,7 @@ returns : tie.Need-returns Inv-loop μ-loop
 returns c =
     let asked = c .before .is-one-of in
     let found = says-yes (asked .result) _ (c .if1 .taken) (asked .ensures) in
-    λ none. none (found .at) (c .before .before .before .before .loop .j) (found .less) (omega arith) (found .here)
+    λ none. none (found .at) (at-loop (c .before) .loop .j) (found .less) (omega arith) (found .here)
 
 add-j : tie.Need-add-j Inv-loop μ-loop
 add-j c = omega arith
@@ -41,11 +45,11 @@ loop-less c = omega arith
 
 loop-again : tie.Need-loop-again Inv-loop μ-loop
 loop-again c =
-    let at-loop = c .before .before .before .before .loop in
+    let loop = at-loop (c .before) .loop in
     let asked = c .before .is-one-of in
     let none = says-no (asked .result) _ (c .if1 .left) (asked .ensures) in (
       omega arith,
-      rw add-one (all-more _ (at-loop .j) (at-loop .inv .1) (λ i less same. none (record { at = i; less = less; here = same }))),
+      rw add-one (all-more _ (loop .j) (loop .inv .1) (λ i less same. none (record { at = i; less = less; here = same }))),
     )
 
 returns-2 : tie.Need-returns-2 Inv-loop μ-loop

@@ -16,6 +16,13 @@ Inv-loop table pairs g t n i₀ i = (i ≤ n) × (servedFrom g table 0 n t ≡ s
 abbrev μ-loop : tie.MeasureT-loop
 μ-loop table pairs g t n i₀ i = n - i
 
+-- The places: the call's beginning, from the loop's head; and where a pair was asked, from the track that it stands for.
+abbrev start : tie.At-loop Inv-loop μ-loop → tie.Start Inv-loop μ-loop
+start c = c .before .before
+
+abbrev asked : tie.After-stands-for Inv-loop μ-loop → tie.After-serves Inv-loop μ-loop
+asked c = c .before .before .before
+
 in-room-requires : tie.Need-in-room-requires Inv-loop μ-loop
 in-room-requires c κs = search needs
 
@@ -42,14 +49,13 @@ stands-for-requires c κs = search needs
 
 returns : tie.Need-returns Inv-loop μ-loop
 returns c =
-    let in-loop = c .before .before .before .before in
-    let a = in-loop .before .before .before .args in
-    let i = in-loop .before .loop .i in
-    let asked = c .before .before .before .serves in
-    let it = says-yes (asked .result) _ (c .before .before .if1 .taken) (asked .ensures) in
+    let in-loop = asked c .before in
+    let at-loop = in-loop .before in
+    let a = start at-loop .args in
+    let it = says-yes (asked c .serves .result) _ (c .before .before .if1 .taken) (asked c .serves .ensures) in
     rw (c .stands-for .ensures)
-    (sym (ap (λ (n : ℕ). servedFrom (a .g) (a .table .now) 0 n (a .t)) (sym (in-loop .before .before .in-room .ensures)) ∙
-    in-loop .before .loop .inv .1 ∙ serves-here (a .g) (a .table .now) (a .t) i _ (in-loop .loop-test .taken) it))
+    (sym (ap (λ (n : ℕ). servedFrom (a .g) (a .table .now) 0 n (a .t)) (sym (at-loop .before .in-room .ensures)) ∙
+    at-loop .loop .inv .1 ∙ serves-here (a .g) (a .table .now) (a .t) (at-loop .loop .i) _ (in-loop .loop-test .taken) it))
 
 add-i : tie.Need-add-i Inv-loop μ-loop
 add-i c = omega arith
@@ -60,20 +66,22 @@ loop-less c = omega arith
 loop-again : tie.Need-loop-again Inv-loop μ-loop
 loop-again c =
     let in-loop = c .before .before in
-    let a = in-loop .before .before .before .args in
-    let asked = c .before .serves in (
+    let at-loop = in-loop .before in
+    let a = start at-loop .args in
+    let serves = c .before .serves in (
       omega arith,
-      in-loop .before .loop .inv .1 ∙
-          serves-on (a .g) (a .table .now) (a .t) (in-loop .before .loop .i) _ (in-loop .loop-test .taken) (says-no (asked .result) _ (c .if1 .left) (asked .ensures)),
+      at-loop .loop .inv .1 ∙
+          serves-on (a .g) (a .table .now) (a .t) (at-loop .loop .i) _ (in-loop .loop-test .taken) (says-no (serves .result) _ (c .if1 .left) (serves .ensures)),
     )
 
 returns-2 : tie.Need-returns-2 Inv-loop μ-loop
 returns-2 c =
-    let a = c .before .before .before .args in
-    let n = c .before .before .in-room .result in
-    let none : n - c .before .loop .i ≡ 0 = omega arith in
-    sym (ap (λ (n : ℕ). servedFrom (a .g) (a .table .now) 0 n (a .t)) (sym (c .before .before .in-room .ensures)) ∙
-    c .before .loop .inv .1 ∙ rw none (serves-none (a .g) (a .table .now) (a .t) _))
+    let at-loop = c .before in
+    let a = start at-loop .args in
+    let room = at-loop .before .in-room in
+    let none : room .result - at-loop .loop .i ≡ 0 = omega arith in
+    sym (ap (λ (n : ℕ). servedFrom (a .g) (a .table .now) 0 n (a .t)) (sym (room .ensures)) ∙ at-loop .loop .inv .1 ∙
+    rw none (serves-none (a .g) (a .table .now) (a .t) _))
 
 pub server-spec : {M : Type 1} → statement M
 server-spec =

@@ -19,9 +19,10 @@ server-requires c κs = search needs
 
 returns : tie.Need-returns
 returns c =
-    let a = c .before .before .before .args in
+    let tested = c .before .before in
+    let a = tested .before .args in
     c .server .ensures ∙ ap (served (a .g) (a .pairs) (a .table .now)) (c .before .number .ensures) ∙
-    sym (if-pos (decLt (a .head) 256) (c .before .before .if1 .taken) _ _)
+    sym (if-pos (decLt (a .head) 256) (tested .if1 .taken) _ _)
 
 returns-2 : tie.Need-returns-2
 returns-2 c = sym (if-neg (decLt (c .before .args .head) 256) (λ less. omega arith) _ _)
