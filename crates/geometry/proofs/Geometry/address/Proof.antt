@@ -16,6 +16,10 @@ use Rattle.geometry.proofs.Counting.{Digits, digits-of}
 use Rattle.geometry.proofs.Geometry.address.Statement.{statement}
 use Rattle.geometry.proofs.Geometry.address.Tie as tie
 
+-- The call's beginning, from where the volume's heads are known.
+abbrev start : tie.After-heads-of → tie.Start
+start c = c .before .before .before .before
+
 volume-sectors-requires : tie.Need-volume-sectors-requires
 volume-sectors-requires c κs = search needs
 
@@ -32,19 +36,18 @@ cast-heads : tie.Need-cast-heads
 cast-heads c = search needs
 
 abbrev g : tie.After-heads-of → Geometry
-g c = c .before .before .before .before .args .self
+g c = start c .args .self
 
 abbrev n : tie.After-heads-of → ℕ
-n c = c .before .before .before .before .args .number
+n c = start c .args .number
 
 in-heads : (g : Geometry) (v : VolumeNumber) (n h : ℕ) → h ≡ N (volume g v) → n < volumeSectors g v → n < C g * h * S g
 in-heads g v n h is inside = rw is (rw volumeSectors-is at inside)
 
 digits : (c : tie.After-heads-of) → Digits (c .heads-of .result) (S (g c)) (C (g c)) (n c)
 digits c =
-    let v : VolumeNumber = c .before .before .before .before .args .v in
     digits-of (c .heads-of .result) (S (g c)) (C (g c)) (n c)
-    (in-heads (g c) v (n c) (c .heads-of .result) (c .heads-of .ensures .0) (omega arith))
+    (in-heads (g c) (start c .args .v) (n c) (c .heads-of .result) (c .heads-of .ensures .0) (omega arith))
 
 mul-cylinder : tie.Need-mul-cylinder
 mul-cylinder c = record { fits = product-below _ _ 65535 65535 _ (omega arith) (omega arith) tt }
@@ -78,7 +81,7 @@ add-t13 c = omega (arith, digits (c .before))
 
 returns-2 : tie.Need-returns-2
 returns-2 c =
-    let a = c .before .before .before .before .before .args in
+    let a = start (c .before) .args in
     let inside : a .number < volumeSectors (a .self) (a .v) = omega arith in
     rw (found-inside, addressOf-is, c .before .heads-of .ensures .0, c .start-of .ensures .0)
 

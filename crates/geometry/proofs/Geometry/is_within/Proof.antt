@@ -19,8 +19,9 @@ volumes-are-within-requires c κs = search needs
 
 returns-2 : tie.Need-returns-2
 returns-2 c =
-    let g = c .before .before .before .args .self in
-    let sizes = c .before .before .sizes-are-within in
+    let asked = c .before .before in
+    let g = asked .before .args .self in
+    let sizes = asked .sizes-are-within in
     let in-size = granted (sizes .result) (SizesWithin g) (c .before .if1 .left) (sizes .ensures) in
     says-same (c .volumes-are-within .result) (VolumesWithin g) (Within g)
     (λ w. record { sizes = in-size; volumes = w })

@@ -9,6 +9,10 @@ use Rattle.geometry.proofs.Answers.{numbered-inside, numbered-outside}
 use Rattle.geometry.proofs.Geometry.number.Statement.{statement}
 use Rattle.geometry.proofs.Geometry.number.Tie as tie
 
+-- Where the volume's heads are known, from the sector's count.
+abbrev counted : tie.After-count → tie.After-heads-of
+counted c = c .before .before .before .before .before .before
+
 heads-of-requires : tie.Need-heads-of-requires
 heads-of-requires c κs = search needs
 
@@ -26,13 +30,13 @@ count-requires c κs = search needs
 
 returns-4 : tie.Need-returns-4
 returns-4 c =
-    let a = c .before .before .before .before .before .before .before .args in
+    let a = counted c .before .args in
     let in-it : InVolume (a .self) (a .v) (a .cylinder) (a .head) (a .sector) = omega arith in
     rw (
       numbered-inside (a .self) (a .v) (a .cylinder) (a .head) (a .sector) in-it,
       numberOf-is,
       c .count .ensures,
-      c .before .before .before .before .before .before .heads-of .ensures .0,
+      counted c .heads-of .ensures .0,
     )
 
 pub number-spec : {M : Type 1} → statement M

@@ -9,6 +9,10 @@ use Rattle.geometry.proofs.Answers.{placed-inside, placed-outside}
 use Rattle.geometry.proofs.Geometry.place.Statement.{statement}
 use Rattle.geometry.proofs.Geometry.place.Tie as tie
 
+-- Where the heads were counted, from the sector's count.
+abbrev counted : tie.After-count → tie.After-heads
+counted c = c .before .before .before .before .before .before .before .before .before
+
 heads-requires : tie.Need-heads-requires
 heads-requires c κs = search needs
 
@@ -26,14 +30,9 @@ count-requires c κs = search needs
 
 returns-4 : tie.Need-returns-4
 returns-4 c =
-    let a = c .before .before .before .before .before .before .before .before .before .before .args in
+    let a = counted c .before .args in
     let on : OnDrive (a .self) (a .a) = omega arith in
-    rw (
-      placed-inside (a .self) (a .a) on,
-      placeOf-is,
-      c .count .ensures,
-      c .before .before .before .before .before .before .before .before .before .heads .ensures,
-    )
+    rw (placed-inside (a .self) (a .a) on, placeOf-is, c .count .ensures, counted c .heads .ensures)
 
 pub place-spec : {M : Type 1} → statement M
 place-spec =

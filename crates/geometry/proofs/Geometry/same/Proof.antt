@@ -9,6 +9,10 @@ use Rattle.geometry.proofs.Same.{geometry-is}
 use Rattle.geometry.proofs.Geometry.same.Statement.{statement}
 use Rattle.geometry.proofs.Geometry.same.Tie as tie
 
+-- The call's beginning, from where the volumes are compared.
+abbrev start : tie.After-same → tie.Start
+start c = c .before .before .before .before .before .before .before .before .before .before
+
 returns : tie.Need-returns
 returns c = λ e. omega (arith, ap C e)
 
@@ -29,9 +33,10 @@ same-requires-2 c κs = search needs
 
 returns-5 : tie.Need-returns-5
 returns-5 c =
-    let g = c .before .before .before .before .before .before .before .before .before .before .before .before .args .self in
-    let h = c .before .before .before .before .before .before .before .before .before .before .before .before .args .other in
-    says-same (c .same2 .result) _ (g ≡ h) (λ w. geometry-is g h (omega arith) (omega arith) (omega arith) (granted (c .before .before .same .result) _ (c .before .if4 .left) (c .before .before .same .ensures)) w)
+    let compared = c .before .before in
+    let g = start compared .args .self in
+    let h = start compared .args .other in
+    says-same (c .same2 .result) _ (g ≡ h) (λ w. geometry-is g h (omega arith) (omega arith) (omega arith) (granted (compared .same .result) _ (c .before .if4 .left) (compared .same .ensures)) w)
     (λ e. ap (λ x. x .volume1) e) (c .same2 .ensures)
 
 pub same-spec : {M : Type 1} → statement M

@@ -12,6 +12,10 @@ use Rattle.geometry.proofs.Answers.{sectorAt-inside, sectorAt-outside}
 use Rattle.geometry.proofs.Geometry.sector.Statement.{statement}
 use Rattle.geometry.proofs.Geometry.sector.Tie as tie
 
+-- Where the drive's sectors are known, from where the place is below them.
+abbrev counted : tie.After-struct-known → tie.After-drive-sectors
+counted c = c .before .before
+
 drive-sectors-requires : tie.Need-drive-sectors-requires
 drive-sectors-requires c κs = search needs
 
@@ -29,20 +33,20 @@ mul-t7 c = record { fits = product-below _ _ (2 ^ 48) 65535 _ (omega arith) (ome
 
 add-t8 : tie.Need-add-t8
 add-t8 c =
-    let all = c .before .before .drive-sectors .result in
-    let bytes = c .before .before .before .args .self .«bytes_a_sector» in
+    let all = counted c .drive-sectors .result in
+    let bytes = counted c .before .args .self .«bytes_a_sector» in
     omega (arith, product-below all bytes (2 ^ 48 - 1) 65535 (2 ^ 64 - 2 ^ 48) (omega arith) (omega arith) tt)
 
 returns-2 : tie.Need-returns-2
 returns-2 c =
-    let a = c .before .before .before .args in
+    let a = counted c .before .args in
     let inside : a .place < driveSectors (a .self) = omega arith in
     rw (
       sectorAt-inside (a .self) (a .place) inside,
       firstByte-is,
       markByte-is,
       marksAt-is,
-      c .before .before .drive-sectors .ensures .0,
+      counted c .drive-sectors .ensures .0,
     )
 
 pub sector-spec : {M : Type 1} → statement M

@@ -6,6 +6,16 @@ use Rattle.wire.proofs.Promises.{denied, granted}
 use Rattle.geometry.proofs.Geometry.sizes_are_within.Statement.{statement}
 use Rattle.geometry.proofs.Geometry.sizes_are_within.Tie as tie
 
+-- The places: where each size passed its test, from the last test.
+abbrev bytes-pass : tie.Else4 → tie.Else3
+bytes-pass c = c .before .before
+
+abbrev sectors-pass : tie.Else4 → tie.Else2
+sectors-pass c = bytes-pass c .before .before
+
+abbrev cylinders-pass : tie.Else4 → tie.Else1
+cylinders-pass c = sectors-pass c .before .before
+
 cylinders-are-within-requires : tie.Need-cylinders-are-within-requires
 cylinders-are-within-requires c κs = search needs
 
@@ -35,13 +45,13 @@ returns-4 c = search needs
 
 returns-5 : tie.Need-returns-5
 returns-5 c =
-    let cylinders = c .before .before .before .before .before .before .before .cylinders-are-within in
-    let sectors = c .before .before .before .before .before .sectors-are-within in
-    let bytes = c .before .before .before .bytes-are-within in
+    let cylinders = cylinders-pass c .before .cylinders-are-within in
+    let sectors = sectors-pass c .before .sectors-are-within in
+    let bytes = bytes-pass c .before .bytes-are-within in
     record {
-      cylinders = granted (cylinders .result) _ (c .before .before .before .before .before .before .if1 .left) (cylinders .ensures);
-      sectors = granted (sectors .result) _ (c .before .before .before .before .if2 .left) (sectors .ensures);
-      bytes = (omega arith, granted (bytes .result) _ (c .before .before .if3 .left) (bytes .ensures));
+      cylinders = granted (cylinders .result) _ (cylinders-pass c .if1 .left) (cylinders .ensures);
+      sectors = granted (sectors .result) _ (sectors-pass c .if2 .left) (sectors .ensures);
+      bytes = (omega arith, granted (bytes .result) _ (bytes-pass c .if3 .left) (bytes .ensures));
     }
 
 pub sizes-are-within-spec : {M : Type 1} → statement M

@@ -9,6 +9,10 @@ use Rattle.geometry.specs.Drive.{end}
 use Rattle.geometry.proofs.Geometry.volumes_are_apart.Statement.{statement}
 use Rattle.geometry.proofs.Geometry.volumes_are_apart.Tie as tie
 
+-- The call's beginning, from the second test.
+abbrev start : tie.After-struct-known2 → tie.Start
+start c = c .before .before .before .before .before
+
 end-requires : tie.Need-end-requires
 end-requires c κs = search needs
 
@@ -26,7 +30,7 @@ cast-result c = search needs
 
 returns-2 : tie.Need-returns-2
 returns-2 c =
-    let g = c .before .before .before .before .before .args .self in
+    let g = start c .args .self in
     let e0 = end (g .volume0) in
     let e1 = end (g .volume1) in
     says-leb (c .before .end2 .result) (g .volume1 .«start_head») ((e1 ≤ g .volume0 .«start_head») ⊎ (e0 ≤ g .volume1 .«start_head»))

@@ -9,6 +9,10 @@ use Rattle.geometry.proofs.Ends.{aside-of-within, end-present, low-of-w
 use Rattle.geometry.proofs.Geometry.volumes_are_within.Statement.{statement}
 use Rattle.geometry.proofs.Geometry.volumes_are_within.Tie as tie
 
+-- The call's beginning, from where the ends are judged.
+abbrev start : tie.After-ends-are-within → tie.Start
+start c = c .before .before .before
+
 returns : tie.Need-returns
 unfolding Present
 returns c = λ w. omega (arith, w .one-head)
@@ -18,7 +22,7 @@ ends-are-within-requires c κs = search needs
 
 returns-2 : tie.Need-returns-2
 returns-2 c =
-    let g = c .before .before .before .before .args .self in
+    let g = start (c .before) .args .self in
     let ends = c .before .ends-are-within in
     λ w. denied (ends .result) _ (c .if2 .taken) (ends .ensures) (low-of-within g w Zero, low-of-within g w One)
 
@@ -27,8 +31,9 @@ volumes-are-apart-requires c κs = search needs
 
 returns-3 : tie.Need-returns-3
 returns-3 c =
-    let g = c .before .before .before .before .before .args .self in
-    let ends = c .before .before .ends-are-within in
+    let judged = c .before .before in
+    let g = start judged .args .self in
+    let ends = judged .ends-are-within in
     let low = granted (ends .result) _ (c .before .if2 .left) (ends .ensures) in
     let some = end-present (g .volume0) (omega arith) in
     says-same (c .volumes-are-apart .result) _ (VolumesWithin g)

@@ -6,6 +6,10 @@ use Rattle.geometry.proofs.Ends.{end-absent, end-present}
 use Rattle.geometry.proofs.Volume.end.Statement.{statement}
 use Rattle.geometry.proofs.Volume.end.Tie as tie
 
+-- The call's beginning, from where the volume has heads.
+abbrev start : tie.After-struct-known3 → tie.Start
+start c = c .before .before .before .before
+
 cast-result : tie.Need-cast-result
 cast-result c = search needs
 
@@ -16,7 +20,7 @@ add-result : tie.Need-add-result
 add-result c = search needs
 
 returns : tie.Need-returns
-returns c = omega (arith, end-present (c .before .before .before .before .args .self) (omega arith))
+returns c = omega (arith, end-present (start c .args .self) (omega arith))
 
 returns-2 : tie.Need-returns-2
 returns-2 c = omega (arith, end-absent (c .before .before .args .self) (omega arith))
