@@ -19,6 +19,16 @@ says-beq true false = true≢false
 says-beq false true = false≢true
 says-beq false false = refl
 
+-- The places, from the last test: where the geometries are compared, where both holders' numbers are known, the call's beginning.
+abbrev compared : tie.After-struct-known6 → tie.After-same
+compared c = c .before .before .before
+
+abbrev numbered : tie.After-struct-known6 → tie.After-number2
+numbered c = compared c .before .before
+
+abbrev start : tie.After-struct-known6 → tie.Start
+start c = numbered c .before .before .before .before .before .before .before .before
+
 returns : tie.Need-returns
 returns c = λ e. omega (arith, ap (λ u. u .cylinder) e)
 
@@ -44,10 +54,10 @@ returns-4 c = λ e. denied (c .before .same .result) _ (c .if4 .taken) (c .befor
 
 returns-5 : tie.Need-returns-5
 returns-5 c =
-    let a = c .before .before .before .before .before .before .before .before .before .before .before .before .before .args in
-    let asked = c .before .before .before .same in
-    let its = c .before .before .before .before .before .number2 in
-    let mine = c .before .before .before .before .before .before .number in
+    let a = start c .args in
+    let asked = compared c .same in
+    let its = numbered c .number2 in
+    let mine = numbered c .before .number in
     let one : mine .result ≡ its .result = omega arith in
     says-same (Bool·beq (a .self .initialized) (a .other .initialized)) _ (a .self ≡ a .other)
     (λ i.

@@ -8,6 +8,10 @@ use borrow.Author.Needs.{needs}
 use Rattle.unit.proofs.Record.serve.Statement.{statement}
 use Rattle.unit.proofs.Record.serve.Tie as tie
 
+-- Where the serving track was asked for, from the spare's spot.
+abbrev asked : tie.After-spot → tie.After-serving
+asked c = c .before .before .before .before
+
 serving-requires : tie.Need-serving-requires
 serving-requires c κs = search needs
 
@@ -22,17 +26,18 @@ spot-requires c κs = search needs
 
 returns : tie.Need-returns
 returns c =
-    let start = c .before .before .before in
+    let serving = c .before .before in
+    let start = serving .before in
     let u = unitOf (start .args .self) (start .args .table .now) in
     ap Landing.At (start .pre .1) ∙
-    served-spot u (start .args .a) (start .pre .0) (sym (c .before .before .serving .ensures) ∙ c .enum-told .given .1)
+    served-spot u (start .args .a) (start .pre .0) (sym (serving .serving .ensures) ∙ c .enum-told .given .1)
 
 returns-2 : tie.Need-returns-2
 returns-2 c =
-    let start = c .before .before .before .before .before in
+    let start = asked c .before in
     let u = unitOf (start .args .self) (start .args .table .now) in
     c .spot .ensures ∙
-    served-spotted u (start .args .a) (start .pre .0) (sym (c .before .before .before .before .serving .ensures) ∙ c .before .before .k .given .1)
+    served-spotted u (start .args .a) (start .pre .0) (sym (asked c .serving .ensures) ∙ c .before .before .k .given .1)
 
 pub serve-spec : {M : Type 1} → statement M
 serve-spec =

@@ -7,6 +7,10 @@ use borrow.Author.Needs.{needs}
 use Rattle.unit.proofs.Record.spot.Statement.{statement}
 use Rattle.unit.proofs.Record.spot.Tie as tie
 
+-- Where the address has its place, from where the track's sectors are known.
+abbrev placed : tie.After-struct-known → tie.After-place2
+placed c = c .before .before .before
+
 place-requires : tie.Need-place-requires
 place-requires c κs = search needs
 
@@ -18,8 +22,8 @@ sectors-a-track-requires c κs = search needs
 
 sub-t7 : tie.Need-sub-t7
 sub-t7 c =
-    let a = c .before .before .before .before .before .before .args in
-    omega (arith, at-placed (a .self .geometry) (a .a) (c .before .before .before .place2 .given .0 .0) (cc))
+    let a = placed c .before .before .before .args in
+    omega (arith, at-placed (a .self .geometry) (a .a) (placed c .place2 .given .0 .0) (cc))
 
 enum-told : tie.Need-enum-told
 enum-told c = search needs
