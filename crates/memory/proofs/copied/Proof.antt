@@ -16,6 +16,10 @@ Inv-loop host at n lengths₀ addresses₀ i₀ lengths addresses i =
 abbrev μ-loop : tie.MeasureT-loop
 μ-loop host at n lengths₀ addresses₀ i₀ lengths addresses i = n - i
 
+-- The call's beginning, from the loop's head.
+abbrev start : tie.At-loop Inv-loop μ-loop → tie.Start Inv-loop μ-loop
+start c = c .before .before
+
 loop-holds : tie.Need-loop-holds Inv-loop μ-loop
 unfolding lengthsOf addressesOf
 loop-holds c = (omega arith, (refl, refl))
@@ -52,18 +56,19 @@ loop-less c = omega arith
 
 loop-again : tie.Need-loop-again Inv-loop μ-loop
 loop-again c =
-    let a = c .before .before .before .before .before .args in
-    let at-loop = c .before .before .before .loop in
+    let at-loop = c .before .before .before in
+    let a = start at-loop .args in
+    let loop = at-loop .loop in
     let e = c .before .read in (
       omega arith,
-      one-more-piece (a .host .now) (a .at) (at-loop .i) (e .result) (at-loop .lengths) (at-loop .addresses) (e .ensures)
-          (at-loop .inv .1 .0)
-          (at-loop .inv .1 .1),
+      one-more-piece (a .host .now) (a .at) (loop .i) (e .result) (loop .lengths) (loop .addresses) (e .ensures)
+          (loop .inv .1 .0)
+          (loop .inv .1 .1),
     )
 
 returns : tie.Need-returns Inv-loop μ-loop
 returns c =
-    let done : c .before .loop .i ≡ c .before .before .before .args .n = omega arith in
+    let done : c .before .loop .i ≡ start (c .before) .args .n = omega arith in
     let inv = c .before .loop .inv .1 in
     λ j. record { lengths = (rw done at (inv .0)) j; addresses = (rw done at (inv .1)) j }
 

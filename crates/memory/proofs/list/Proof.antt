@@ -27,9 +27,10 @@ returns-2 c =
 
 pass-over-requires : tie.Need-pass-over-requires
 pass-over-requires c κs =
-    let n = c .before .before .before .number-is-good in
+    let past-number = c .before .before in
+    let n = past-number .before .number-is-good in
     let h = c .before .holds in
-    let number = granted (n .result) _ (c .before .before .if1 .left) (n .ensures) in
+    let number = granted (n .result) _ (past-number .if1 .left) (n .ensures) in
     (number .0, number .1, granted (h .result) (InMemory _ _ _) (c .if2 .left) (h .ensures))
 
 returns-3 : tie.Need-returns-3

@@ -17,6 +17,20 @@ Inv-loop host at elements counts₀ ranges₀ sum₀ i₀ counts ranges sum i =
 abbrev μ-loop : tie.MeasureT-loop
 μ-loop host at elements counts₀ ranges₀ sum₀ i₀ counts ranges sum i = elements - i
 
+-- The places: the call's beginning, from the loop's head; and, from the turn's end, where the element's range is judged,
+-- where its count is, and the loop's head.
+abbrev start : tie.At-loop Inv-loop μ-loop → tie.Start Inv-loop μ-loop
+start c = c .before .before
+
+abbrev ranged : tie.After-struct-known2 Inv-loop μ-loop → tie.After-holds Inv-loop μ-loop
+ranged c = c .before .before
+
+abbrev counted : tie.After-struct-known2 Inv-loop μ-loop → tie.After-both Inv-loop μ-loop
+counted c = ranged c .before .before
+
+abbrev at-loop : tie.After-struct-known2 Inv-loop μ-loop → tie.At-loop Inv-loop μ-loop
+at-loop c = counted c .before .before .before .before
+
 loop-holds : tie.Need-loop-holds Inv-loop μ-loop
 loop-holds c = (omega arith, (nothing-scanned (c .before .args .host .now) (c .before .args .at), omega arith))
 
@@ -58,20 +72,20 @@ loop-less c = omega arith
 
 loop-again : tie.Need-loop-again Inv-loop μ-loop
 loop-again c =
-    let a = c .before .before .before .before .before .before .before .before .before .before .args in
-    let at-loop = c .before .before .before .before .before .before .before .before .loop in
-    let so : Seen = record { counts = at-loop .counts; ranges = at-loop .ranges; sum = at-loop .sum } in
-    let e = c .before .before .before .before .before .before .read in
-    let good = c .before .before .before .before .before .is-good in
-    let fits = c .before .before .holds in (
+    let a = start (at-loop c) .args in
+    let loop = at-loop c .loop in
+    let so : Seen = record { counts = loop .counts; ranges = loop .ranges; sum = loop .sum } in
+    let good = counted c .before .is-good in
+    let e = counted c .before .before .read in
+    let fits = ranged c .holds in (
       omega arith,
       (
-        one-more-scanned (a .host .now) (a .at) (at-loop .i) so (e .result) (good .result) (fits .result) (c .before .before .before .before .both .result)
+        one-more-scanned (a .host .now) (a .at) (loop .i) so (e .result) (good .result) (fits .result) (counted c .both .result)
             (c .before .both2 .result)
             (e .ensures)
-            (c .before .before .before .before .both .ensures)
+            (counted c .both .ensures)
             (c .before .both2 .ensures)
-            (at-loop .inv .1 .0)
+            (loop .inv .1 .0)
             (good .ensures)
             (fits .ensures),
         omega arith,
@@ -80,7 +94,7 @@ loop-again c =
 
 returns : tie.Need-returns Inv-loop μ-loop
 returns c =
-    let done : c .before .loop .i ≡ c .before .before .before .args .elements = omega arith in
+    let done : c .before .loop .i ≡ start (c .before) .args .elements = omega arith in
     rw done at (c .before .loop .inv .1 .0)
 
 pub scan-spec : {M : Type 1} → statement M
