@@ -16,6 +16,10 @@ Inv-loop number i₀ i = (i ≤ length errorTable) × (errorIn (drop i errorTabl
 abbrev μ-loop : tie.MeasureT-loop
 μ-loop number i₀ i = length errorTable - i
 
+-- The loop's head, from where a line's number is known.
+abbrev at-loop : tie.After-struct-known Inv-loop μ-loop → tie.At-loop Inv-loop μ-loop
+at-loop c = c .before .before .before
+
 loop-holds : tie.Need-loop-holds Inv-loop μ-loop
 loop-holds c = (omega arith, refl)
 
@@ -27,8 +31,8 @@ array-copy-out-line c = search needs
 
 returns : tie.Need-returns Inv-loop μ-loop
 returns c =
-    let i = c .before .before .before .before .loop .i in
-    sym (found errorTable (c .before .before .before .before .before .args .number) i (omega arith) (c .if1 .taken)) ∙ c .before .before .before .before .loop .inv .1
+    let at = at-loop (c .before) in
+    sym (found errorTable (at .before .args .number) (at .loop .i) (omega arith) (c .if1 .taken)) ∙ at .loop .inv .1
 
 add-i : tie.Need-add-i Inv-loop μ-loop
 add-i c = omega arith
@@ -38,8 +42,8 @@ loop-less c = omega arith
 
 loop-again : tie.Need-loop-again Inv-loop μ-loop
 loop-again c =
-    let i = c .before .before .before .before .loop .i in
-    (omega arith, sym (passed errorTable (c .before .before .before .before .before .args .number) i (omega arith) (c .if1 .left)) ∙ c .before .before .before .before .loop .inv .1)
+    let at = at-loop (c .before) in
+    (omega arith, sym (passed errorTable (at .before .args .number) (at .loop .i) (omega arith) (c .if1 .left)) ∙ at .loop .inv .1)
 
 returns-2 : tie.Need-returns-2 Inv-loop μ-loop
 returns-2 c = sym (none-left errorTable (c .before .before .args .number) (c .before .loop .i) (omega arith)) ∙ c .before .loop .inv .1

@@ -6,6 +6,10 @@ use borrow.Author.Needs.{needs}
 use Rattle.iopb.proofs.uib.Statement.{statement}
 use Rattle.iopb.proofs.uib.Tie as tie
 
+-- The call's beginning, from where the sectors a track are read.
+abbrev start : tie.After-shared-slice-known6 → tie.Start
+start c = c .before .before .before .before .before .before .before .before .before
+
 shared-slice-read-new : tie.Need-shared-slice-read-new
 shared-slice-read-new c = search needs
 
@@ -46,9 +50,7 @@ shared-slice-read-new-5 : tie.Need-shared-slice-read-new-5
 shared-slice-read-new-5 c = search needs
 
 cast-new : tie.Need-cast-new
-cast-new c =
-    let at = c .before .before .before .before .before .before .before .before .before .args .at in
-    omega (arith, c .shared-slice-known6 .given (at + 4))
+cast-new c = omega (arith, c .shared-slice-known6 .given (start c .args .at + 4))
 
 add-be16-2 : tie.Need-add-be16-2
 add-be16-2 c = search needs
