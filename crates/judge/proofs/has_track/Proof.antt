@@ -20,13 +20,13 @@ enum-told-2 c = search needs
 
 returns : tie.Need-returns
 returns c =
-    let place = c .before .before .place .ensures in
-    rw (c .before .before .before .geometry .ensures) at (at-placed _ _ _ (sym place ∙ c .enum-told .given .1) .0)
+    let asked = c .before .before in
+    rw (asked .before .geometry .ensures) at (at-placed _ _ _ (sym (asked .place .ensures) ∙ c .enum-told .given .1) .0)
 
 returns-2 : tie.Need-returns-2
 returns-2 c =
-    let place = c .before .before .place .ensures in
-    λ on. no-place _ _ (sym place ∙ c .enum-told2 .given .1) (rw (c .before .before .before .geometry .ensures) on)
+    let asked = c .before .before in
+    λ on. no-place _ _ (sym (asked .place .ensures) ∙ c .enum-told2 .given .1) (rw (asked .before .geometry .ensures) on)
 
 pub has-track-spec : {M : Type 1} → statement M
 has-track-spec =

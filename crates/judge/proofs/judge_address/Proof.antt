@@ -8,6 +8,10 @@ use Rattle.judge.proofs.Tasks.{address-done, address-nowhere, address-p
 use Rattle.judge.proofs.judge_address.Statement.{statement}
 use Rattle.judge.proofs.judge_address.Tie as tie
 
+-- Where the first sector has its number, from where it lands.
+abbrev numbered : tie.After-land → tie.After-n
+numbered c = c .before .before
+
 number-requires : tie.Need-number-requires
 number-requires c κs = search needs
 
@@ -31,18 +35,19 @@ enum-told-2 c = search needs
 
 returns : tie.Need-returns
 returns c host =
-    let b = c .before in
-    let n = b .before .before .before .before .before .n .given in
-    let spot = b .before .spot .given in
-    let landed = at-landing _ _ _ _ (sym (b .before .before .before .land .ensures) ∙ spot .1) in
+    let spot = c .before .before in
+    let land = spot .before .before in
+    let n = numbered land in
+    let landed = at-landing _ _ _ _ (sym (land .land .ensures) ∙ spot .spot .given .1) in
     (rw (landed .1) at (c .only .ensures))
-    ∙ sym (address-done _ _ _ host _ _ (sym (b .before .before .before .before .before .before .before .number .ensures) ∙ n .1) (omega (arith, landed)))
+    ∙ sym (address-done _ _ _ host _ _ (sym (n .before .before .number .ensures) ∙ n .n .given .1) (omega (arith, landed)))
 
 returns-2 : tie.Need-returns-2
 returns-2 c host =
-    let n = c .before .before .before .before .n .given in
-    let past = no-landing _ _ _ (sym (c .before .before .land .ensures) ∙ c .enum-told .given .1) in
-    sym (address-past _ _ _ host _ _ (sym (c .before .before .before .before .before .before .number .ensures) ∙ n .1) past)
+    let land = c .before .before in
+    let n = numbered land in
+    let past = no-landing _ _ _ (sym (land .land .ensures) ∙ c .enum-told .given .1) in
+    sym (address-past _ _ _ host _ _ (sym (n .before .before .number .ensures) ∙ n .n .given .1) past)
 
 returns-3 : tie.Need-returns-3
 returns-3 c host =

@@ -3,12 +3,15 @@
 use mathlib.Core.Path.{sym, _∙_}
 use native.Mathlib.Omega.{arith}
 use borrow.Author.Needs.{needs}
-use Rattle.unit.specs.Standing.{unitOf}
 use Rattle.wire.proofs.Numbers.{product-below}
 use Rattle.wire.proofs.Promises.{denied, granted}
 use Rattle.judge.proofs.Tasks.{list-18, list-19, list-done, piece-19, piece-done}
 use Rattle.judge.proofs.judge_buffer.Statement.{statement}
 use Rattle.judge.proofs.judge_buffer.Tie as tie
+
+-- The call's beginning, from where a sector's bytes are known.
+abbrev start : tie.After-sector-bytes → tie.Start
+start c = c .before .before .before .before
 
 cast-bytes : tie.Need-cast-bytes
 cast-bytes c = search needs
@@ -27,12 +30,11 @@ holds-requires c κs = search needs
 
 returns : tie.Need-returns
 returns c =
-    let a = c .before .before .before .before .before .before .before .before .before .args in
-    let is = c .before .before .before .buffer .given in
     let held = c .before .holds in
+    let piece = c .before .before .before in
     sym
-    (piece-19 (a .standing .controller) (unitOf (a .standing .record) (a .table .now)) (a .standing .image) (a .host .now) (a .m) (is .0 .0) (is .1)
-    (denied (held .result) _ (c .if1 .taken) (rw (c .before .before .before .before .before .sector-bytes .ensures .0) at (held .ensures))))
+    (piece-19 _ _ _ _ _ _ (piece .buffer .given .1)
+    (denied (held .result) _ (c .if1 .taken) (rw (piece .before .before .sector-bytes .ensures .0) at (held .ensures))))
 
 accepted-requires : tie.Need-accepted-requires
 accepted-requires c κs = search needs
@@ -57,36 +59,36 @@ enum-told-3 c = search needs
 
 returns-2 : tie.Need-returns-2
 returns-2 c =
-    let a = c .before .before .before .before .before .before .before .before .before .before .args in
-    let is = c .before .before .before .before .buffer .given in
-    let held = c .before .before .holds in
+    let asked = c .before .before in
+    let piece = asked .before .before in
+    let sized = piece .before .before in
     c .accepted .ensures
     ∙ sym
-    (piece-done (a .standing .controller) (unitOf (a .standing .record) (a .table .now)) (a .standing .image) (a .host .now) (a .m) (is .0 .0) (is .1) (a .n) (c .before .before .before .before .before .before .before .before .before .before .pre .starts)
-    (granted (held .result) _ (c .before .if1 .left) (rw (c .before .before .before .before .before .before .sector-bytes .ensures .0) at (held .ensures))))
+    (piece-done _ _ _ _ _ _ (piece .buffer .given .1) _ (start sized .pre .starts)
+    (granted (asked .holds .result) _ (c .before .if1 .left) (rw (sized .sector-bytes .ensures .0) at (asked .holds .ensures))))
 
 returns-3 : tie.Need-returns-3
 returns-3 c =
-    let a = c .before .before .before .before .before .before .before .before .before .before .before .args in
-    let is = c .before .before .before .before .before .buffer2 .given in
-    let found = rw (c .before .before .before .before .before .before .before .sector-bytes .ensures .0, c .before .enum-told .given .1) at (c .before .before .before .list .ensures) in
+    let asked = c .before .before .before in
+    let list = asked .before .before in
+    let sized = list .before .before in
+    let found = rw (sized .sector-bytes .ensures .0, c .before .enum-told .given .1) at (asked .list .ensures) in
     c .accepted2 .ensures
-    ∙ sym
-    (list-done (a .standing .controller) (unitOf (a .standing .record) (a .table .now)) (a .standing .image) (a .host .now) (a .m) (is .0 .0) (is .0 .1 .0) (is .1) (found .0) (a .n) (c .before .before .before .before .before .before .before .before .before .before .before .pre .starts) (found .1))
+    ∙ sym (list-done _ _ _ _ _ _ _ (list .buffer2 .given .1) (found .0) _ (start sized .pre .starts) (found .1))
 
 returns-4 : tie.Need-returns-4
 returns-4 c =
-    let a = c .before .before .before .before .before .before .before .before .before .before .args in
-    let is = c .before .before .before .before .buffer2 .given in
-    let found = rw (c .before .before .before .before .before .before .sector-bytes .ensures .0, c .enum-told2 .given .1) at (c .before .before .list .ensures) in
-    sym (list-18 (a .standing .controller) (unitOf (a .standing .record) (a .table .now)) (a .standing .image) (a .host .now) (a .m) (is .0 .0) (is .0 .1 .0) (is .1) found)
+    let asked = c .before .before in
+    let list = asked .before .before in
+    let found = rw (list .before .before .sector-bytes .ensures .0, c .enum-told2 .given .1) at (asked .list .ensures) in
+    sym (list-18 _ _ _ _ _ _ _ (list .buffer2 .given .1) found)
 
 returns-5 : tie.Need-returns-5
 returns-5 c =
-    let a = c .before .before .before .before .before .before .before .before .before .before .args in
-    let is = c .before .before .before .before .buffer2 .given in
-    let found = rw (c .before .before .before .before .before .before .sector-bytes .ensures .0, c .enum-told3 .given .1) at (c .before .before .list .ensures) in
-    sym (list-19 (a .standing .controller) (unitOf (a .standing .record) (a .table .now)) (a .standing .image) (a .host .now) (a .m) (is .0 .0) (is .0 .1 .0) (is .1) (found .0) (found .1))
+    let asked = c .before .before in
+    let list = asked .before .before in
+    let found = rw (list .before .before .sector-bytes .ensures .0, c .enum-told3 .given .1) at (asked .list .ensures) in
+    sym (list-19 _ _ _ _ _ _ _ (list .buffer2 .given .1) (found .0) (found .1))
 
 pub judge-buffer-spec : {M : Type 1} → statement M
 judge-buffer-spec =

@@ -7,6 +7,10 @@ use Rattle.judge.proofs.Tasks.{data-19, data-done}
 use Rattle.judge.proofs.judge_data.Statement.{statement}
 use Rattle.judge.proofs.judge_data.Tie as tie
 
+-- The call's beginning, from the question whether the data lies in memory.
+abbrev start : tie.After-holds → tie.Start
+start c = c .before .before .before .before
+
 sector-bytes-requires : tie.Need-sector-bytes-requires
 sector-bytes-requires c κs = search needs
 
@@ -23,9 +27,10 @@ formatted-requires c κs = search needs
 
 returns-2 : tie.Need-returns-2
 returns-2 c =
-    let held = c .before .before .holds in
-    let done = data-done _ _ _ _ _ (granted (held .result) _ (c .before .if1 .left) (rw (c .before .before .before .sector-bytes .ensures .0) at (held .ensures))) in
-    c .formatted .ensures ∙ rw (c .before .before .before .before .before .before .pre) (sym done)
+    let asked = c .before .before in
+    let held = asked .holds in
+    let done = data-done _ _ _ _ _ (granted (held .result) _ (c .before .if1 .left) (rw (asked .before .sector-bytes .ensures .0) at (held .ensures))) in
+    c .formatted .ensures ∙ rw (start asked .pre) (sym done)
 
 pub judge-data-spec : {M : Type 1} → statement M
 judge-data-spec =

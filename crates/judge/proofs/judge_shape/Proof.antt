@@ -8,6 +8,13 @@ use Rattle.judge.proofs.Tasks.{shape-given, shape-misplaced, shape-outs
 use Rattle.judge.proofs.judge_shape.Statement.{statement}
 use Rattle.judge.proofs.judge_shape.Tie as tie
 
+-- Where a geometry is given, from the question whether it is within its limits.
+abbrev shaped : tie.After-is-within → tie.After-s
+shaped c = c .before .before
+
+given : (c : tie.After-is-within) → shaped c .before .before .args .s ≡ Shape.Given (shaped c .s .given .0 .0)
+given c = cc
+
 enum-told : tie.Need-enum-told
 enum-told c = search needs
 
@@ -27,18 +34,14 @@ returns c κ u image host =
 
 returns-2 : tie.Need-returns-2
 returns-2 c κ u image host =
-    let t = c .before in
-    let g = t .before .before .before .s .given .0 .0 in
-    let is : t .before .before .before .before .before .args .s ≡ Shape.Given g = cc in
-    let within = t .before .is-within in
-    rw is (c .only .ensures ∙ sym (shape-given κ u image host g (says-yes (within .result) _ (t .if1 .taken) (within .ensures))))
+    let asked = c .before .before in
+    let within = asked .is-within in
+    rw (given asked) (c .only .ensures ∙ sym (shape-given κ u image host _ (says-yes (within .result) _ (c .before .if1 .taken) (within .ensures))))
 
 returns-3 : tie.Need-returns-3
 returns-3 c κ u image host =
-    let g = c .before .before .before .s .given .0 .0 in
-    let is : c .before .before .before .before .before .args .s ≡ Shape.Given g = cc in
     let within = c .before .is-within in
-    rw is (sym (shape-outside κ u image host g (says-no (within .result) _ (c .if1 .left) (within .ensures))))
+    rw (given (c .before)) (sym (shape-outside κ u image host _ (says-no (within .result) _ (c .if1 .left) (within .ensures))))
 
 pub judge-shape-spec : {M : Type 1} → statement M
 judge-shape-spec =

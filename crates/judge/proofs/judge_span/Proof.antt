@@ -8,12 +8,19 @@ use Rattle.judge.proofs.Tasks.{span-covers, span-first, span-inside, sp
 use Rattle.judge.proofs.judge_span.Statement.{statement}
 use Rattle.judge.proofs.judge_span.Tie as tie
 
+-- The places: the call's beginning, from where the volume's sectors are known; and that place, from the second test.
+abbrev start : tie.After-sectors-of → tie.Start
+start c = c .before .before .before .before
+
+abbrev asked : tie.After-struct-known → tie.After-sectors-of
+asked c = c .before .before
+
 sectors-of-requires : tie.Need-sectors-of-requires
 sectors-of-requires c κs = search needs
 
 returns : tie.Need-returns
 returns c =
-    let begins = c .before .before .before .before .before .pre in
+    let begins = start (c .before) .pre in
     sym (span-first _ _ _ _ _ _ (begins .starts) (omega arith))
 
 sub-if2 : tie.Need-sub-if2
@@ -24,7 +31,7 @@ cast-if2 c = search needs
 
 returns-2 : tie.Need-returns-2
 returns-2 c =
-    let begins = c .before .before .before .before .before .before .before .pre in
+    let begins = start (asked (c .before)) .pre in
     sym (span-last _ _ _ _ _ _ (begins .starts) (begins .some) (omega arith))
 
 judge-image-requires : tie.Need-judge-image-requires
@@ -32,8 +39,9 @@ judge-image-requires c κs = search needs
 
 returns-3 : tie.Need-returns-3
 returns-3 c =
-    let a = c .before .before .before .before .before .before .before .before .args in
-    let begins = c .before .before .before .before .before .before .before .before .pre in
+    let begun = start (asked (c .before .before)) in
+    let a = begun .args in
+    let begins = begun .pre in
     let covers = span-covers (a .standing .controller) (unitOf (a .standing .record) (a .table .now)) (a .standing .image) (a .host .now) (a .m) (a .n) (begins .starts) (begins .some) (omega arith) in
     c .judge-image .ensures ∙ sym (span-inside _ _ _ _ _ covers)
 
