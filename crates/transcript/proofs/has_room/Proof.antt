@@ -7,6 +7,10 @@ use borrow.Author.Needs.{needs}
 use Rattle.transcript.proofs.has_room.Statement.{statement}
 use Rattle.transcript.proofs.has_room.Tie as tie
 
+-- The call's beginning, from where host memory has room.
+abbrev start : tie.Else1 → tie.Start
+start c = c .before .before .before .before .before .before
+
 fits-requires : tie.Need-fits-requires
 fits-requires c κs = search needs
 
@@ -33,7 +37,7 @@ returns-5 c =
     let third = c .before .before in
     let second = third .before .before in
     let first = second .before .before in
-    let a = first .before .before .before .before .before .before .args in
+    let a = start first .args in
     let l = lentOf (a .host .now) (a .image0 .now) (a .image1 .now) (a .text .now) [] [] in
     says-leb (a .s .at) _ (Room (a .s) l)
     (λ early.

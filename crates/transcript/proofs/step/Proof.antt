@@ -12,9 +12,23 @@ use borrow.Author.Needs.{needs}
 use Rattle.transcript.proofs.step.Statement.{statement}
 use Rattle.transcript.proofs.step.Tie as tie
 
+-- The places: the call's beginning, from the question for room; where there is room, from the question for a field; where
+-- there is a field, from where it is to be heard; and where it was heard, from the end.
+abbrev start : tie.After-has-room → tie.Start
+start c = c .before .before .before .before .before .before .before .before .before .before
+
+abbrev roomy : tie.After-is-field → tie.Else1
+roomy c = c .before .before
+
+abbrev fielded : tie.After-hear-arg6 → tie.Else3
+fielded c = c .before .before .before .before .before .before
+
+abbrev heard : tie.After-slice-known9 → tie.After-hear
+heard c = c .before .before .before .before .before .before .before .before
+
 -- What is lent, as it came.
 abbrev lent : tie.Start → Lent
-lent start = lentOf (start .args .host .now) (start .args .image0 .now) (start .args .image1 .now) (start .args .text .now) (start .args .map0 .now) (start .args .map1 .now)
+lent c = lentOf (c .args .host .now) (c .args .image0 .now) (c .args .image1 .now) (c .args .text .now) (c .args .map0 .now) (c .args .map1 .now)
 
 has-room-requires : tie.Need-has-room-requires
 has-room-requires c κs = search needs
@@ -33,22 +47,17 @@ same-length-4 c = refl
 
 returns : tie.Need-returns
 returns c =
-    let start = c .before .before .before .before .before .before .before .before .before .before .before in
+    let asked = c .before in
+    let begun = start asked in
     sym
-    (no-room (start .args .field .now) (start .args .s) (lent start)
-    (λ r. denied (c .before .has-room .result) _ (c .if1 .taken) (c .before .has-room .ensures) (room-with r)))
+    (no-room (begun .args .field .now) (begun .args .s) (lent begun)
+    (λ r. denied (asked .has-room .result) _ (c .if1 .taken) (asked .has-room .ensures) (room-with r)))
 
 -- Past the first check there is room, and past the last a field.
-room :
-    (c : tie.Else1) →
-    let start = c .before .before .before .before .before .before .before .before .before .before .before in
-    Room (start .args .s) (lent start)
+room : (c : tie.Else1) → Room (start (c .before) .args .s) (lent (start (c .before)))
 room c = room-with (granted (c .before .has-room .result) _ (c .if1 .left) (c .before .has-room .ensures))
 
-good :
-    (c : tie.Else3) →
-    let first = c .before .before .before in
-    Field (first .before .before .before .before .before .before .before .before .before .before .before .args .field .now)
+good : (c : tie.Else3) → Field (start (roomy (c .before) .before) .args .field .now)
 good c = granted (c .before .is-field .result) _ (c .if3 .left) (c .before .is-field .ensures)
 
 same-length-5 : tie.Need-same-length-5
@@ -65,14 +74,14 @@ same-length-8 c = refl
 
 returns-2 : tie.Need-returns-2
 returns-2 c =
-    let start = c .before .before .before .before .before .before .before .before .before .before .before .before in
-    sym (at-the-end (start .args .field .now) (start .args .s) (lent start) (room (c .before)) (c .if2 .taken))
+    let begun = start (c .before .before) in
+    sym (at-the-end (begun .args .field .now) (begun .args .s) (lent begun) (room (c .before)) (c .if2 .taken))
 
 is-field-requires : tie.Need-is-field-requires
 is-field-requires c κs = search needs
 
 put-refusal-requires : tie.Need-put-refusal-requires
-put-refusal-requires c κs = omega (arith, room (c .before .before .before .before) .text)
+put-refusal-requires c κs = omega (arith, room (roomy (c .before .before)) .text)
 
 same-length-9 : tie.Need-same-length-9
 same-length-9 c = refl
@@ -88,40 +97,40 @@ same-length-12 c = c .before .before .put-refusal .kept .0
 
 returns-3 : tie.Need-returns-3
 returns-3 c =
-    let first = c .before .before .before .before .before .before .before in
-    let start = first .before .before .before .before .before .before .before .before .before .before .before in
-    let room = room first in
-    let asked = c .before .before .before .before .before in
-    let l = lent start in
-    let line = refusal-line-short (start .args .s .at) (omega (arith, room .at)) in
-    let said = said-over (c .before .before .put-refusal .ensures) (omega (arith, room .text)) in
+    let put = c .before .before in
+    let refused-it = put .before .before in
+    let asked = refused-it .before in
+    let begun = start (roomy asked .before) in
+    let room = room (roomy asked) in
+    let l = lent begun in
+    let line = refusal-line-short (begun .args .s .at) (omega (arith, room .at)) in
+    let said = said-over (put .put-refusal .ensures) (omega (arith, room .text)) in
     (λ t. spokenOf (saidOf Next.Over (said .1 t)) (lentOf (l .host) (l .image0) (l .image1) (said .0 t) (l .tracks0) (l .tracks1))) ∙
     sym
-    (refused (start .args .field .now) (start .args .s) (lent start) room (asked .before .if2 .left)
-    (denied (asked .is-field .result) _ (c .before .before .before .before .if3 .taken) (asked .is-field .ensures)))
+    (refused (begun .args .field .now) (begun .args .s) l room (asked .before .if2 .left)
+    (denied (asked .is-field .result) _ (refused-it .if3 .taken) (asked .is-field .ensures)))
 
 hear-requires : tie.Need-hear-requires
-hear-requires c κs = (room (c .before .before .before .before .before .before .before .before .before), good (c .before .before .before .before .before .before))
+hear-requires c κs = (room (roomy (fielded c .before)), good (fielded c))
 
 same-length-13 : tie.Need-same-length-13
-same-length-13 c = c .before .before .before .before .before .before .before .before .hear .kept .1 .0
+same-length-13 c = heard c .hear .kept .1 .0
 
 same-length-14 : tie.Need-same-length-14
-same-length-14 c = c .before .before .before .before .before .before .before .before .hear .kept .1 .1 .0
+same-length-14 c = heard c .hear .kept .1 .1 .0
 
 same-length-15 : tie.Need-same-length-15
-same-length-15 c = c .before .before .before .before .before .before .before .before .hear .kept .1 .1 .1 .0
+same-length-15 c = heard c .hear .kept .1 .1 .1 .0
 
 same-length-16 : tie.Need-same-length-16
-same-length-16 c = c .before .before .before .before .before .before .before .before .hear .kept .1 .1 .1 .1 .0
+same-length-16 c = heard c .hear .kept .1 .1 .1 .1 .0
 
 returns-4 : tie.Need-returns-4
 returns-4 c =
-    let heard = c .before .before .before .before .before .before .before .before in
-    let last = heard .before .before .before .before .before .before .before in
-    let first = last .before .before .before in
-    let start = first .before .before .before .before .before .before .before .before .before .before .before in
-    heard .hear .ensures ∙ sym (went-on (start .args .field .now) (start .args .s) (lent start) (room first) (good last))
+    let last = fielded (heard c .before) in
+    let first = roomy (last .before) in
+    let begun = start (first .before) in
+    heard c .hear .ensures ∙ sym (went-on (begun .args .field .now) (begun .args .s) (lent begun) (room first) (good last))
 
 pub step-spec : {M : Type 1} → statement M
 step-spec =

@@ -8,6 +8,13 @@ use borrow.Author.Needs.{needs}
 use Rattle.transcript.proofs.field.is_field.Statement.{statement}
 use Rattle.transcript.proofs.field.is_field.Tie as tie
 
+-- The call's beginning, from where the opening is good.
+abbrev start : tie.Else1 → tie.Start
+start c = c .before .before .before
+
+opened : (c : tie.Else1) → Opening (start c .args .bytes .now)
+opened c = granted (c .before .opens .result) _ (c .if1 .left) (c .before .opens .ensures)
+
 opens-requires : tie.Need-opens-requires
 opens-requires c κs = search needs
 
@@ -15,8 +22,7 @@ returns : tie.Need-returns
 returns c = λ field. denied (c .before .opens .result) _ (c .if1 .taken) (c .before .opens .ensures) (field .good)
 
 be16-requires : tie.Need-be16-requires
-be16-requires c κs =
-    granted (c .before .opens .result) (Opening (c .before .before .before .args .bytes .now)) (c .if1 .left) (c .before .opens .ensures) .there
+be16-requires c κs = opened c .there
 
 cast-result : tie.Need-cast-result
 cast-result c = search needs
@@ -26,10 +32,8 @@ add-result c = search needs
 
 returns-2 : tie.Need-returns-2
 returns-2 c =
-    let bytes = c .before .before .before .before .args .bytes .now in
-    let opens = c .before .before .opens in
-    let good = granted (opens .result) (Opening bytes) (c .before .if1 .left) (opens .ensures) in
-    says-leb (3 + c .be16 .result) (length bytes) (Field bytes) (λ fits. record { good = good; whole = omega (arith, c .be16 .ensures) })
+    let bytes = start (c .before) .args .bytes .now in
+    says-leb (3 + c .be16 .result) (length bytes) (Field bytes) (λ fits. record { good = opened (c .before); whole = omega (arith, c .be16 .ensures) })
     (λ short field. omega (arith, c .be16 .ensures, field .whole))
 
 pub is-field-spec : {M : Type 1} → statement M

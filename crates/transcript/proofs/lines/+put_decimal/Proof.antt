@@ -121,9 +121,10 @@ put-decimal-returns-2 : (t : ℕ) → put-decimal-lts.Need-returns-2 (
   put-decimal.Post,
 ) (put-decimal-at t) put-decimal.Post
 put-decimal-returns-2 t c =
-    let a = c .before .before .before .before .before .before .before .args in
-    let put = c .before .before .put-decimal in
-    rw (decimal-more (a .n) (omega arith), c .before .before .before .before .before .digit .ensures) (put-then (put .ensures) (byte-put (put .last .0) (put .result) _))
+    let asked = c .before .before in
+    let digit = asked .before .before .before in
+    let put = asked .put-decimal in
+    rw (decimal-more (digit .before .before .args .n) (omega arith), digit .digit .ensures) (put-then (put .ensures) (byte-put (put .last .0) (put .result) _))
 
 pub +put-decimal-spec : {M : Type 1} → statement M
 +put-decimal-spec = close μ-put-decimal λ t. put-decimal-lts.spec (

@@ -6,6 +6,10 @@ use borrow.Author.Needs.{needs}
 use Rattle.transcript.proofs.lines.put.Statement.{statement}
 use Rattle.transcript.proofs.lines.put.Tie as tie
 
+-- The call's beginning, from the copy.
+abbrev start : tie.After-copy → tie.Start
+start c = c .before .before .before .before
+
 copy-requires : tie.Need-copy-requires
 copy-requires c κs = search needs
 
@@ -17,9 +21,10 @@ same-length c = search needs
 
 returns : tie.Need-returns
 returns c =
-    let a = c .before .before .before .before .before .before .args in
+    let copied = c .before .before in
+    let a = start copied .args in
     record {
-      stored = c .before .before .copy .ensures ∙ copy-written (a .bytes .now) (a .text .now) (a .at) (omega arith);
+      stored = copied .copy .ensures ∙ copy-written (a .bytes .now) (a .text .now) (a .at) (omega arith);
       after = refl;
     }
 

@@ -15,6 +15,13 @@ Inv-loop text₀ at events blocks next₀ k₀ text next k = (k ≤ blocks) × (
 abbrev μ-loop : tie.MeasureT-loop
 μ-loop text₀ at events blocks next₀ k₀ text next k = blocks - k
 
+-- The places: the call's beginning, from the loop's head; and that, from where a line is to be put.
+abbrev start : tie.At-loop Inv-loop μ-loop → tie.Start Inv-loop μ-loop
+start c = c .before .before .before
+
+abbrev at-loop : tie.After-put-block-arg Inv-loop μ-loop → tie.At-loop Inv-loop μ-loop
+at-loop c = c .before .before
+
 loop-holds : tie.Need-loop-holds Inv-loop μ-loop
 loop-holds c =
     let a = c .before .before .args in
@@ -24,20 +31,20 @@ add-k : tie.Need-add-k Inv-loop μ-loop
 add-k c = omega arith
 
 put-block-requires : tie.Need-put-block-requires Inv-loop μ-loop
-put-block-requires c κs = omega (arith, put-keeps-length (c .before .before .loop .inv .1 .0), c .before .before .before .before .before .pre)
+put-block-requires c κs = omega (arith, put-keeps-length (at-loop c .loop .inv .1 .0), start (at-loop c) .pre)
 
 loop-less : tie.Need-loop-less Inv-loop μ-loop
 loop-less c = omega arith
 
 loop-again : tie.Need-loop-again Inv-loop μ-loop
 loop-again c =
-    let a = c .before .before .before .before .before .before .before .before .args in
-    let at-loop = c .before .before .before .before .before .loop in
-    let put = c .before .before .put-block in (
+    let put = c .before .before in
+    let turn = at-loop (put .before) in
+    let events = start turn .args .events .now in (
       omega arith,
       (
-        rw (one-line-more (a .events .now) (at-loop .k)) (put-then (at-loop .inv .1 .0) (put .ensures)),
-        omega (arith, put .ensures .after, block-line-short (a .events .now) (at-loop .k + 1) (omega arith)),
+        rw (one-line-more events (turn .loop .k)) (put-then (turn .loop .inv .1 .0) (put .put-block .ensures)),
+        omega (arith, put .put-block .ensures .after, block-line-short events (turn .loop .k + 1) (omega arith)),
       ),
     )
 
@@ -46,7 +53,7 @@ same-length c = put-keeps-length (c .before .loop .inv .1 .0)
 
 returns : tie.Need-returns Inv-loop μ-loop
 returns c =
-    let done : c .before .loop .k ≡ c .before .before .before .before .args .blocks = omega arith in
+    let done : c .before .loop .k ≡ start (c .before) .args .blocks = omega arith in
     rw done at (c .before .loop .inv .1 .0)
 
 pub put-blocks-spec : {M : Type 1} → statement M

@@ -32,7 +32,8 @@ same-length c = search needs
 
 returns : tie.Need-returns
 returns c =
-    let put = c .before .before .before .before .put in
+    let text = c .before .before in
+    let put = text .before .before .put in
     put-then (put .ensures) (rw (c .before .digit .ensures, c .digit2 .ensures) (two-put (put .last .0) (put .result) _ _))
 
 pub put-hex-spec : {M : Type 1} → statement M

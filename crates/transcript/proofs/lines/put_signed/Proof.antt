@@ -6,6 +6,13 @@ use borrow.Author.Needs.{needs}
 use Rattle.transcript.proofs.lines.put_signed.Statement.{statement}
 use Rattle.transcript.proofs.lines.put_signed.Tie as tie
 
+-- The places: the call's beginning, from the test; and the minus, from the number that is put after it.
+abbrev start : tie.After-shared-slice-known → tie.Start
+start c = c .before .before
+
+abbrev minus : tie.After-put-number2 → tie.After-put
+minus c = c .before .before .before .before .before
+
 put-number-requires : tie.Need-put-number-requires
 put-number-requires c κs = search needs
 
@@ -15,7 +22,8 @@ same-length c = search needs
 returns : tie.Need-returns
 returns c =
     let put = c .before .before in
-    rw (signed-plain (put .before .before .before .before .before .args .n) (omega arith)) (put .put-number .ensures)
+    let small = put .before .before in
+    rw (signed-plain (start (small .before) .args .n) (omega arith)) (put .put-number .ensures)
 
 put-requires : tie.Need-put-requires
 put-requires c κs = search needs
@@ -36,8 +44,9 @@ returns-2 : tie.Need-returns-2
 unfolding letters lettersFrom
 returns-2 c =
     let put = c .before .before in
-    let word = put .before .before .before .before .before in
-    rw (signed-minus (word .before .before .before .before .before .args .n) (omega arith)) (put-then (word .put .ensures) (put .put-number2 .ensures))
+    let word = minus put in
+    let great = word .before .before in
+    rw (signed-minus (start (great .before) .args .n) (omega arith)) (put-then (word .put .ensures) (put .put-number2 .ensures))
 
 pub put-signed-spec : {M : Type 1} → statement M
 put-signed-spec =

@@ -13,9 +13,26 @@ use borrow.Author.Needs.{needs}
 use Rattle.transcript.proofs.play.run.Statement.{statement}
 use Rattle.transcript.proofs.play.run.Tie as tie
 
+-- The places: the call's beginning, from where the place of the first block is read; that, from the run's first part and
+-- from the run; the run, from the number of its answer; and the run's own line, from where the blocks' are to be put.
+abbrev start : tie.After-be32 → tie.Start
+start c = c .before .before .before .before .before .before
+
+abbrev read : tie.After-run-arg → tie.After-be32
+read c = c .before .before
+
+abbrev asked : tie.After-run → tie.After-be32
+asked c = read (c .before .before .before .before .before .before)
+
+abbrev ran : tie.After-number → tie.After-run
+ran c = c .before .before .before .before .before .before .before .before .before
+
+abbrev line : tie.After-events3 → tie.After-put-run
+line c = c .before .before .before .before
+
 -- What is lent, as it came.
 abbrev lent : tie.Start → Lent
-lent start = lentOf (start .args .host .now) (start .args .image0 .now) (start .args .image1 .now) (start .args .text .now) (start .args .map0 .now) (start .args .map1 .now)
+lent c = lentOf (c .args .host .now) (c .args .image0 .now) (c .args .image1 .now) (c .args .text .now) (c .args .map0 .now) (c .args .map1 .now)
 
 be32-requires : tie.Need-be32-requires
 be32-requires c κs = search needs
@@ -31,7 +48,7 @@ slice-relend-prefix-run c = search needs
 
 slice-aggregate-run : tie.Need-slice-aggregate-run
 slice-aggregate-run c =
-    let a = c .before .before .before .before .before .before .before .before .args in
+    let a = start (read c) .args in
     sym (length-take-le (a .s .host) (a .host .now) (omega arith))
 
 slice-relend-prefix-run-2 : tie.Need-slice-relend-prefix-run-2
@@ -39,7 +56,7 @@ slice-relend-prefix-run-2 c = search needs
 
 slice-aggregate-run-2 : tie.Need-slice-aggregate-run-2
 slice-aggregate-run-2 c =
-    let a = c .before .before .before .before .before .before .before .before .before .args in
+    let a = start (read (c .before)) .args in
     sym (length-take-le (a .s .image0) (a .image0 .now) (omega arith))
 
 slice-relend-prefix-run-3 : tie.Need-slice-relend-prefix-run-3
@@ -47,7 +64,7 @@ slice-relend-prefix-run-3 c = search needs
 
 slice-aggregate-run-3 : tie.Need-slice-aggregate-run-3
 slice-aggregate-run-3 c =
-    let a = c .before .before .before .before .before .before .before .before .before .before .args in
+    let a = start (read (c .before .before)) .args in
     sym (length-take-le (a .s .image1) (a .image1 .now) (omega arith))
 
 slice-aggregate-run-4 : tie.Need-slice-aggregate-run-4
@@ -58,31 +75,26 @@ run-requires c κs = search needs
 
 few : (c : tie.After-run) → c .run .result .blocks ≤ 64
 few c =
-    let read = c .before .before .before .before .before .before .before .before in
-    let start = read .before .before .before .before .before .before in
-    blocks-few (read .be32 .result) (getD (start .args .field .now) 7 0) (heldIn (start .args .s) (lent start)) (c .run .ensures)
+    let begun = start (asked c) in
+    blocks-few (asked c .be32 .result) (getD (begun .args .field .now) 7 0) (heldIn (begun .args .s) (lent begun)) (c .run .ensures)
 
 number-requires : tie.Need-number-requires
 number-requires c κs = search needs
 
 put-run-requires : tie.Need-put-run-requires
-put-run-requires c κs =
-    let ran = c .before .before .before .before .before .before .before .before .before in
-    let room = ran .before .before .before .before .before .before .before .before .before .before .before .before .before .before .pre .0 in
-    omega (arith, room .text)
+put-run-requires c κs = omega (arith, start (asked (ran c)) .pre .0 .text)
 
 slice-aggregate-put-blocks : tie.Need-slice-aggregate-put-blocks
 slice-aggregate-put-blocks c = search needs
 
 put-blocks-requires : tie.Need-put-blocks-requires
 put-blocks-requires c κs =
-    let put = c .before .before .before .before in
-    let ran = put .before .before .before .before .before .before .before .before .before .before in
-    let r = ran .run .result in
-    let room = ran .before .before .before .before .before .before .before .before .before .before .before .before .before .before .pre .0 in
-    let line = run-line-short (put .before .number .result) (r .blocks) (r .sectors) (omega arith) (omega arith) (omega (arith, ran .run .ok)) in (
-      omega (arith, put .put-run .ensures .after, put .put-run .kept .0, few ran, line, room .text),
-      omega (arith, few ran, ran .run .kept .1 .1 .1 .0),
+    let put = line c in
+    let run = ran (put .before) in
+    let r = run .run .result in
+    let short = run-line-short (put .before .number .result) (r .blocks) (r .sectors) (omega arith) (omega arith) (omega (arith, run .run .ok)) in (
+      omega (arith, put .put-run .ensures .after, put .put-run .kept .0, few run, short, start (asked run) .pre .0 .text),
+      omega (arith, few run, run .run .kept .1 .1 .1 .0),
     )
 
 same-length : tie.Need-same-length
@@ -99,19 +111,19 @@ same-length-4 c = search needs
 
 returns : tie.Need-returns
 returns c =
-    let put = c .before .before .before .before .before .before .before .before in
-    let ran = put .before .before .before .before .before .before .before .before .before .before in
-    let read = ran .before .before .before .before .before .before .before .before in
-    let start = read .before .before .before .before .before .before in
-    let a = start .args in
-    let run = ran .run in
+    let blocks = c .before .before .before in
+    let put = line (blocks .before) in
+    let at-run = ran (put .before) in
+    let begun = start (asked at-run) in
+    let a = begun .args in
+    let run = at-run .run in
     let number = put .before .number in
-    run-went (a .s) (lent start) (a .at) (start .pre .0) (run .last .0) (run .last .1 .0) (run .last .1 .1 .0) (run .last .1 .1 .1 .0)
+    run-went (a .s) (lent begun) (a .at) (begun .pre .0) (run .last .0) (run .last .1 .0) (run .last .1 .1 .0) (run .last .1 .1 .1 .0)
     (run .last .1 .1 .1 .1 .0) (run .last .1 .1 .1 .1 .1 .0) (run .result) (run .ensures) (run .kept .0) (run .kept .1 .0) (run .kept .1 .1 .0) (number .ensures)
-    (omega (arith, number .ok)) (few ran) (omega (arith, run .ok)) (put .put-run .ensures)
-    (c .before .before .before .put-blocks .ensures) ∙
-    ap (λ e. went (runHeard e) (a .at) (lent start))
-    (run-ending (a .field .now) (start .pre .1 .0) (heldIn (a .s) (lent start)) (read .be32 .ensures))
+    (omega (arith, number .ok)) (few at-run) (omega (arith, run .ok)) (put .put-run .ensures)
+    (blocks .put-blocks .ensures) ∙
+    ap (λ e. went (runHeard e) (a .at) (lent begun))
+    (run-ending (a .field .now) (begun .pre .1 .0) (heldIn (a .s) (lent begun)) (asked at-run .be32 .ensures))
 
 pub run-spec : {M : Type 1} → statement M
 run-spec =
