@@ -7,6 +7,10 @@ use borrow.Author.Needs.{needs}
 use Rattle.session.proofs.hear.Statement.{statement}
 use Rattle.session.proofs.hear.Tie as tie
 
+-- Where the field was read, from where it is to be heard.
+abbrev read : tie.After-step-arg → tie.After-read-field
+read c = c .before .before .before .before
+
 read-field-requires : tie.Need-read-field-requires
 read-field-requires c κs = search needs
 
@@ -20,7 +24,7 @@ slice-reshare-prefix-step : tie.Need-slice-reshare-prefix-step
 slice-reshare-prefix-step c = search needs
 
 slice-aggregate-step : tie.Need-slice-aggregate-step
-slice-aggregate-step c = sym (length-take-le (c .before .before .before .before .read-field .result) (c .before .before .before .before .read-field .last .0) (omega arith))
+slice-aggregate-step c = sym (length-take-le (read c .read-field .result) (read c .read-field .last .0) (omega arith))
 
 step-requires : tie.Need-step-requires
 step-requires c κs = search needs

@@ -11,6 +11,13 @@ use borrow.Author.Needs.{needs}
 use Rattle.session.proofs.read_field.Statement.{statement}
 use Rattle.session.proofs.read_field.Tie as tie
 
+-- The places: the call's beginning, from where the opening is to be read; and where it was read, from where what it wants is asked.
+abbrev start : tie.After-read-full-arg → tie.Start
+start c = c .before .before .before
+
+abbrev opened : tie.After-wanted-arg → tie.After-read-full
+opened c = c .before .before .before .before
+
 returns : tie.Need-returns
 returns c = search needs
 
@@ -18,7 +25,7 @@ slice-relend-prefix-read-full : tie.Need-slice-relend-prefix-read-full
 slice-relend-prefix-read-full c = search needs
 
 slice-aggregate-read-full : tie.Need-slice-aggregate-read-full
-slice-aggregate-read-full c = sym (length-take-le 3 (now (c .before .before .before .args .field)) (omega arith))
+slice-aggregate-read-full c = sym (length-take-le 3 (now (start c .args .field)) (omega arith))
 
 read-full-requires : tie.Need-read-full-requires
 read-full-requires c κs = search needs
@@ -34,9 +41,10 @@ slice-reshare-prefix-wanted c = search needs
 
 slice-aggregate-wanted : tie.Need-slice-aggregate-wanted
 slice-aggregate-wanted c =
-    let field = now (c .before .before .before .before .before .before .before .before .args .field) in
-    let opening = c .before .before .before .before .read-full .last .1 .0 in
-    let three : length opening ≡ 3 = c .before .before .before .before .read-full .kept .1 .0 ∙ length-take-le 3 field (omega arith) in
+    let read = opened c .read-full in
+    let field = now (start (opened c .before) .args .field) in
+    let opening = read .last .1 .0 in
+    let three : length opening ≡ 3 = read .kept .1 .0 ∙ length-take-le 3 field (omega arith) in
     let long : 3 ≤ length (opening ++ drop 3 field) = rw (length-append opening (drop 3 field)) (omega arith) in
     sym (length-take-le 3 (opening ++ drop 3 field) long)
 
