@@ -14,7 +14,7 @@ use Rattle.board.specs.Chain.{Ending, ran}
 use Rattle.board.specs.Inspection.{partOf}
 use Rattle.board.specs.Steps.{CameTo}
 use Rattle.board.specs.Lent.{worldOf}
-use Rattle.abi.specs.Calls.{Lent, answered, calledAs, calledOf, controllerOf, controllerUnknown, imageNumber, inspectedOf, inspection, lentOf, made, outcomeShort, record0Short, record1Short, recordLeft, worldIn}
+use Rattle.abi.specs.Calls.{CallLent, answered, calledAs, calledOf, controllerOf, controllerUnknown, imageNumber, inspectedOf, inspection, lentOf, made, outcomeShort, record0Short, record1Short, recordLeft, worldIn}
 use Rattle.abi.specs.Layouts.{outcomeBytes, recordIn, wordsFrom}
 use Rattle.board.specs.declared.Units.{Units}
 use Rattle.unit.specs.declared.Controller.{Controller}
@@ -23,7 +23,7 @@ use Rattle.wire.specs.Words.{written}
 
 -- A run that was made, from what the code ran and stored, and from what it read.
 pub answered-is :
-    (l : Lent) (e : Ending) {c : Controller} {r : Outcome} {number : ℕ} {host image0 image1 events tracks0 tracks1 record0 record1 outcome : List ℕ} →
+    (l : CallLent) (e : Ending) {c : Controller} {r : Outcome} {number : ℕ} {host image0 image1 events tracks0 tracks1 record0 record1 outcome : List ℕ} →
     CameTo e (worldOf c host image0 image1 events tracks0 tracks1 (r .units)) r →
     record0 ≡ recordLeft (l .record0) (unitOf (r .units .zero) tracks0) →
     record1 ≡ recordLeft (l .record1) (unitOf (r .units .one) tracks1) →
@@ -53,7 +53,7 @@ pub tracks-read :
 tracks-read bytes u is counts read = rw (read, counts, is)
 
 pub made-is :
-    (c : Controller) (first allowance : ℕ) (l : Lent) (units : Units) {r : Outcome} {number : ℕ}
+    (c : Controller) (first allowance : ℕ) (l : CallLent) (units : Units) {r : Outcome} {number : ℕ}
     {tracks0 tracks1 host image0 image1 events tracks0′ tracks1′ record0 record1 outcome : List ℕ} →
     unitOf (units .zero) tracks0 ≡ recordIn (l .record0) →
     unitOf (units .one) tracks1 ≡ recordIn (l .record1) →
@@ -67,7 +67,7 @@ pub made-is :
 made-is c first allowance l units is-zero is-one came left0 left1 is-number left =
     answered-is l (ran first allowance (worldIn c l)) (rw (is-zero, is-one) at came) left0 left1 is-number left
 
-module _ (controller first allowance : ℕ) (l : Lent) where
+module _ (controller first allowance : ℕ) (l : CallLent) where
   pub called-refused-0 : length (l .record0) < 276 → calledAs controller first allowance l ≡ calledOf record0Short l
   unfolding calledAs
   called-refused-0 short = if-pos (decLt (length (l .record0)) 276) short _ _

@@ -4,12 +4,12 @@ use mathlib.Core.Path.{_≡_, refl, sym, ap, _∙_}
 use denote.Ref.{now}
 use Rattle.unit.specs.declared.Controller.{Controller}
 use Rattle.unit.specs.declared.Controller.the-variants.{First, Second}
-use Rattle.abi.specs.Calls.{Lent, calledAs, calledOf, lentOf}
+use Rattle.abi.specs.Calls.{CallLent, calledAs, calledOf, lentOf}
 use Rattle.abi.specs.Machines.{Asking, EachForItself, Machines, afterCall, asking, controllerNumber, ownOf}
 use Rattle.abi.proofs.vsmd_run_as.Reads as run-as
 
 -- What is the other's is not lent, so it stays.
-other-stays : (m : Machines) (l : Lent) (c d : Controller) → (c ≡ d → ⊥) → ownOf (afterCall m c l) d ≡ ownOf m d
+other-stays : (m : Machines) (l : CallLent) (c d : Controller) → (c ≡ d → ⊥) → ownOf (afterCall m c l) d ≡ ownOf m d
 other-stays m l First First apart = absurd (apart refl)
 other-stays m l First Second apart = refl
 other-stays m l Second First apart = refl

@@ -14,7 +14,7 @@ use Rattle.demands.specs.Footprint.{RunWritesRecord}
 use Rattle.demands.proofs.Keeps.{run-keeps-record}
 use Rattle.demands.proofs.Tables.{run-keeps-blank}
 use Rattle.board.specs.Chain.{ran}
-use Rattle.abi.specs.Calls.{Called, Lent, calledAs, calledOf, controllerOf, made, recordLeft, standsIn?, worldIn}
+use Rattle.abi.specs.Calls.{Called, CallLent, calledAs, calledOf, controllerOf, made, recordLeft, standsIn?, worldIn}
 use Rattle.abi.specs.Layouts.{recordBytes, recordIn}
 use Rattle.abi.proofs.Called.{called-made, called-refused-0, called-refused-1, called-refused-2, called-refused-3}
 use Rattle.abi.proofs.Laws.{Narrow, left-reads-back, read-blank, record-length}
@@ -22,7 +22,7 @@ use Rattle.abi.proofs.Left.{left-anew, left-as-it-came, stands-as-read}
 use Rattle.abi.proofs.Tracks.{past-written}
 use Rattle.board.specs.World.{World}
 
-module _ (controller first allowance : ℕ) (l : Lent) where
+module _ (controller first allowance : ℕ) (l : CallLent) where
   abbrev before : World
   before = worldIn (controllerOf controller) l
 

@@ -22,7 +22,7 @@ use Rattle.wire.specs.Words.{written}
 use Rattle.board.specs.World.{World}
 
 -- All that a caller lends to a run, no two of them overlapping: what a caller in C has to see to.
-pub record Lent : Type 0 where
+pub record CallLent : Type 0 where
   pub host : List ℕ
   pub image0 : List ℕ
   pub image1 : List ℕ
@@ -31,7 +31,7 @@ pub record Lent : Type 0 where
   pub record1 : List ℕ
   pub outcome : List ℕ
 
-abbrev pub lentOf : (host image0 image1 events record0 record1 outcome : List ℕ) → Lent
+abbrev pub lentOf : (host image0 image1 events record0 record1 outcome : List ℕ) → CallLent
 lentOf host image0 image1 events record0 record1 outcome =
     record {
       host = host;
@@ -46,9 +46,9 @@ lentOf host image0 image1 events record0 record1 outcome =
 -- What a call comes to: the number that it returns, and every lent byte.
 pub record Called : Type 0 where
   pub code : ℕ
-  pub lent : Lent
+  pub lent : CallLent
 
-abbrev pub calledOf : ℕ → Lent → Called
+abbrev pub calledOf : ℕ → CallLent → Called
 calledOf code lent = record { code = code; lent = lent }
 
 -- The codes of the refusals, apart from the paper's numbers, also where a caller keeps only the low byte.
@@ -65,7 +65,7 @@ abbrev pub controllerUnknown : ℕ
 controllerUnknown = 0x1F4
 
 -- The world that the bytes stand for, of a run by a controller.
-abbrev pub worldIn : Controller → Lent → World
+abbrev pub worldIn : Controller → CallLent → World
 worldIn c l =
     record {
       controller = c;
@@ -89,14 +89,14 @@ unfoldable pub recordLeft : List ℕ → UnitRecord → List ℕ
 recordLeft bytes u = ite (standsIn? bytes u) bytes (written bytes 0 (recordBytes u))
 
 -- A run that was made: its answer is returned, and the world that it leaves stands in the bytes.
-abbrev pub answered : Lent → Ending → Called
+abbrev pub answered : CallLent → Ending → Called
 answered l e =
     let w = e .world in
     calledOf (runNumber (e .answer))
     (lentOf (w .host) (w .drive0 .image) (w .drive1 .image) (w .events) (recordLeft (l .record0) (w .drive0 .unit))
     (recordLeft (l .record1) (w .drive1 .unit)) (written (l .outcome) 0 (endingBytes e)))
 
-abbrev pub made : Controller → ℕ → ℕ → Lent → Called
+abbrev pub made : Controller → ℕ → ℕ → CallLent → Called
 made c first allowance l = answered l (ran first allowance (worldIn c l))
 
 -- The first controller has the number 0, the second 1.
@@ -105,7 +105,7 @@ controllerOf zero = First
 controllerOf (suc n) = Second
 
 -- A run of the controller with a number (02, K10). The lengths of the layouts' buffers are asked first, and then the number: there are two controllers.
-unfoldable pub calledAs : (controller first allowance : ℕ) → Lent → Called
+unfoldable pub calledAs : (controller first allowance : ℕ) → CallLent → Called
 calledAs controller first allowance l =
     ite (decLt (length (l .record0)) recordLength) (calledOf record0Short l)
     (ite (decLt (length (l .record1)) recordLength) (calledOf record1Short l)
@@ -114,7 +114,7 @@ calledAs controller first allowance l =
     (made (controllerOf controller) first allowance l))))
 
 -- A run that is told no controller is the first one's.
-abbrev pub called : (first allowance : ℕ) → Lent → Called
+abbrev pub called : (first allowance : ℕ) → CallLent → Called
 called first allowance l = calledAs 0 first allowance l
 
 -- What an inspection comes to: a code, 0 where it was made, also where it hands back no part, and which image, from which byte on, how

@@ -4,7 +4,7 @@ use mathlib.Core.List.{List}
 use mathlib.Core.Path.{_≡_}
 use Rattle.unit.specs.declared.Controller.{Controller}
 use Rattle.unit.specs.declared.Controller.the-variants.{First, Second}
-use Rattle.abi.specs.Calls.{Called, Lent, lentOf}
+use Rattle.abi.specs.Calls.{Called, CallLent, lentOf}
 
 -- What a machine has for itself: its host memory, its event buffer, and where it has outcomes put.
 pub record Own : Type 0 where
@@ -26,19 +26,19 @@ ownOf m First = m .one
 ownOf m Second = m .two
 
 -- What a call of a controller is lent: what is its own, and the drives.
-abbrev pub lentBy : Machines → Controller → Lent
+abbrev pub lentBy : Machines → Controller → CallLent
 lentBy m c =
     let own = ownOf m c in
     lentOf (own .host) (m .image0) (m .image1) (own .events) (m .record0) (m .record1) (own .outcome)
 
 -- What is there once the call has left that so.
-abbrev pub ownIn : Lent → Own
+abbrev pub ownIn : CallLent → Own
 ownIn l = record { host = l .host; events = l .events; outcome = l .outcome }
 
-abbrev pub drivesLeft : (one two : Own) → Lent → Machines
+abbrev pub drivesLeft : (one two : Own) → CallLent → Machines
 drivesLeft one two l = record { one = one; two = two; image0 = l .image0; image1 = l .image1; record0 = l .record0; record1 = l .record1 }
 
-abbrev pub afterCall : Machines → Controller → Lent → Machines
+abbrev pub afterCall : Machines → Controller → CallLent → Machines
 afterCall m First l = drivesLeft (ownIn l) (m .two) l
 afterCall m Second l = drivesLeft (m .one) (ownIn l) l
 
@@ -47,9 +47,9 @@ pub record Asking : Type 0 where
   pub controller : ℕ
   pub first : ℕ
   pub allowance : ℕ
-  pub lent : Lent
+  pub lent : CallLent
 
-abbrev pub asking : (controller first allowance : ℕ) → Lent → Asking
+abbrev pub asking : (controller first allowance : ℕ) → CallLent → Asking
 asking controller first allowance l = record { controller = controller; first = first; allowance = allowance; lent = l }
 
 abbrev pub controllerNumber : Controller → ℕ

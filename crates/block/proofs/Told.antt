@@ -23,7 +23,7 @@ use Rattle.transfer.proofs.Stores.{after-append}
 use Rattle.unit.specs.declared.Controller.{Controller}
 use Rattle.block.specs.Block.{Drive, Performance, asking, effectOn, finish, finished, holding, judged}
 use Rattle.block.specs.Events.{entry, twosComplement}
-use Rattle.block.specs.Steps.{Room, three}
+use Rattle.block.specs.Steps.{BlockRoom, three}
 use Rattle.block.specs.Tells.{Tells}
 use Rattle.block.proofs.Effects.{finish-leaves}
 use Rattle.wire.specs.Words.{fourBytes, written}
@@ -38,7 +38,7 @@ row-stands ns l at k fits less =
 
 -- After the finish.
 finish-tells :
-    (b : Block) (at i : ℕ) (answer : BlockAnswer) (travel : ℤ) (host image events : List ℕ) → Room host events at i →
+    (b : Block) (at i : ℕ) (answer : BlockAnswer) (travel : ℤ) (host image events : List ℕ) → BlockRoom host events at i →
     Tells b at i answer travel (after (finish b at i answer travel) (three host image events))
 unfolding written
 finish-tells b at i answer travel host image events room =
@@ -59,7 +59,7 @@ finish-tells b at i answer travel host image events room =
     row : (k x : ℕ) → x ≡ 8 * i + k → k < 8 → getD (sets events (8 * i) (entry b answer travel)) x 0 ≡ getD (entry b answer travel) k 0
     row k x here less = rw here (row-stands (entry b answer travel) events (8 * i) k (omega (arith, room .entry)) less)
 
-module _ (host : List ℕ) (d : Drive) (at i : ℕ) (events : List ℕ) (room : Room host events at i) where
+module _ (host : List ℕ) (d : Drive) (at i : ℕ) (events : List ℕ) (room : BlockRoom host events at i) where
   -- After what was performed, whatever that is, and the finish.
   finished-tells :
       (p : Performance) →

@@ -28,7 +28,7 @@ abbrev pub three : List ℕ → List ℕ → List ℕ → Buffers
 three host image events = record { host = host; image = image; events = events }
 
 -- There is room for the block and for its event entry.
-pub record Room (host events : List ℕ) (at i : ℕ) : Type 0 where
+pub record BlockRoom (host events : List ℕ) (at i : ℕ) : Type 0 where
   pub block : at + 28 ≤ length host
   pub entry : 8 * i + 8 ≤ length events
 

@@ -33,7 +33,7 @@ ghost use Rattle.judge.specs.Fits.{JobGood, LeavingFits, MovingFits, PlanFits, 
 ghost use Rattle.answers.specs.declared.BlockAnswer.{BlockAnswer};
 ghost use Rattle.request.specs.declared.Buffer.{Buffer};
 ghost use Rattle.block.specs.Block.{effectOn, finish, heldAfter, holderLeft, leftBy, performed, refused, transferOf, transferWith, travelled, wordsOf};
-ghost use Rattle.block.specs.Steps.{Carries, Did, Knows, Made, Performs, Ready, Room, driveWith, performedOf, tableBy, three};
+ghost use Rattle.block.specs.Steps.{Carries, Did, Knows, Made, Performs, Ready, BlockRoom, driveWith, performedOf, tableBy, three};
 ghost use Rattle.transfer.specs.declared.Attempt.{Attempt};
 ghost use Rattle.transfer.specs.declared.Moved.{Moved};
 ghost use Rattle.transfer.specs.Progress.{lastTried};
@@ -484,7 +484,7 @@ fn finish(
     p: Performed,
     counts: bool,
 ) -> Done
-    requires { ⌜ Room (now host) (now events) at i ⌝ }
+    requires { ⌜ BlockRoom (now host) (now events) at i ⌝ }
     ensures result { λ d. ⌜ d ≡ record { unit = p .unit; counts = counts; answer = p .answer; sectors = p .sectors; linked = b .options .link; link = b .link } ⌝ }
     ensures stored { λ _. ⌜ ((image : List ℕ) → three (now (host .exit)) image (now (events .exit)) ≡ after (finish b at i (p .answer) (p .travel)) (three (now (host .entry)) image (now (events .entry)))) ⌝ }
 {
@@ -526,7 +526,7 @@ pub fn run_block(
     at: usize,
     i: usize,
 ) -> Done
-    requires { ⌜ Room (now host) (now events) at i × Knows known (unitOf u (now table)) ⌝ }
+    requires { ⌜ BlockRoom (now host) (now events) at i × Knows known (unitOf u (now table)) ⌝ }
     ensures { λ d. ⌜ Did (blockAt (now (host .entry)) at) (effectOn c (now (host .entry)) (driveWith (unitOf u (now (table .entry))) (now (image .entry))) at i) (three (now (host .entry)) (now (image .entry)) (now (events .entry))) (three (now (host .exit)) (now (image .exit)) (now (events .exit))) (now (table .exit)) d ⌝ }
 {
     let b = Block::read(host, at);

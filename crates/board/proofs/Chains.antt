@@ -55,7 +55,7 @@ module _ (w : World) (at i : ℕ) (n : UnitNumber) (named : unitAt w at ≡ n) w
 
 -- The same with the unit as it was told: it is the unit of the block's request.
 pub step-by :
-    (w : World) (at i : ℕ) (x n : UnitNumber) → x ≡ ask.unitOf (blockAt (w .host) at) → x ≡ n →
+    (w : World) (at i : ℕ) (x n : UnitNumber) → x ≡ ask.unitAsked (blockAt (w .host) at) → x ≡ n →
     (m : Buffers) (ts : List ℕ) (d : Done) (units : Units) →
     Did (blockAt (w .host) at) (effectOn (w .controller) (w .host) (driveOf w n) at i) (buffersOf w n) m ts d →
     SteppedTo w at i (changed w n m (unitOf (d .unit) ts)) (steppedOf (toldOf d) units)

@@ -4,7 +4,7 @@ use Prim.Native.Nat.{ℕ}
 use mathlib.Core.List.{List}
 use Rattle.unit.specs.declared.UnitNumber.{UnitNumber}
 use Rattle.unit.specs.declared.UnitNumber.the-variants.{Zero, One}
-use Rattle.iopb.specs.Ask.{unitOf}
+use Rattle.iopb.specs.Ask.{unitAsked}
 use Rattle.iopb.specs.Layout.{blockAt}
 use Rattle.transfer.specs.Stores.{Buffers, after}
 use Rattle.unit.specs.declared.Controller.{Controller}
@@ -35,7 +35,7 @@ changed w One m u =
 
 -- The unit that the block at an address names, and what the block does to the world: it works on that unit's drive.
 abbrev pub unitAt : World → ℕ → UnitNumber
-unitAt w at = unitOf (blockAt (w .host) at)
+unitAt w at = unitAsked (blockAt (w .host) at)
 
 unfoldable pub effectAt : ℕ → ℕ → World → Effect
 effectAt at i w = effectOn (w .controller) (w .host) (driveOf w (unitAt w at)) at i

@@ -17,7 +17,7 @@ ghost use lib.ListN.{length};
 ghost use Rattle.board.specs.Chain.{counted, endedOf, executed, fetched, nothing, ran};
 ghost use Rattle.board.specs.Steps.{CameTo, EndedIn, KnowsBoth, RanOne, Spare, SteppedOn, doneWith, nothingLearnt, outcomeWith, steppedOf, toldOf};
 ghost use Rattle.block.specs.Block.{effectOn};
-ghost use Rattle.block.specs.Steps.{Did, Knows, Room, driveWith, three};
+ghost use Rattle.block.specs.Steps.{Did, Knows, BlockRoom, driveWith, three};
 ghost use Rattle.board.specs.Lent.{worldOf};
 ghost use Rattle.board.specs.Records.{unitIn, unitsIn};
 ghost use Rattle.iopb.specs.Layout.{blockAt};
@@ -106,7 +106,7 @@ fn work_on(
     at: usize,
     i: usize,
 ) -> BlockTold
-    requires { ⌜ Room (now host) (now events) at i × Knows known (unitIn (now held) (now map)) ⌝ }
+    requires { ⌜ BlockRoom (now host) (now events) at i × Knows known (unitIn (now held) (now map)) ⌝ }
     ensures { λ t. ⌜ Did (blockAt (now (host .entry)) at) (effectOn c (now (host .entry)) (driveWith (unitIn (now (held .entry)) (now (map .entry))) (now (image .entry))) at i) (three (now (host .entry)) (now (image .entry)) (now (events .entry))) (three (now (host .exit)) (now (image .exit)) (now (events .exit))) (now (map .exit)) (doneWith t (unitIn (now (held .exit)) (now (map .exit)))) ⌝ }
 {
     let done = run_block(host, image, events, c, record_of(held), known, map, at, i);
@@ -129,7 +129,7 @@ pub(crate) fn step(
     at: usize,
     i: usize,
 ) -> Went
-    requires { ⌜ Room (now host) (now events) at i × KnowsBoth learnt (unitIn (now record0) (now map0)) (unitIn (now record1) (now map1)) ⌝ }
+    requires { ⌜ BlockRoom (now host) (now events) at i × KnowsBoth learnt (unitIn (now record0) (now map0)) (unitIn (now record1) (now map1)) ⌝ }
     ensures { λ s. ⌜ SteppedOn (worldOf c (now (host .entry)) (now (image0 .entry)) (now (image1 .entry)) (now (events .entry)) (now (map0 .entry)) (now (map1 .entry)) (unitsIn (now (record0 .entry)) (now (record1 .entry)))) at i (worldOf c (now (host .exit)) (now (image0 .exit)) (now (image1 .exit)) (now (events .exit)) (now (map0 .exit)) (now (map1 .exit)) (unitsIn (now (record0 .exit)) (now (record1 .exit)))) s ⌝ }
 {
     let zero = learnt.zero;

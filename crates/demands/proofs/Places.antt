@@ -30,7 +30,7 @@ use Rattle.wire.proofs.Promises.{never}
 use Rattle.judge.specs.declared.Plan.{Plan}
 use Rattle.judge.specs.declared.Verdict.{Verdict}
 use Rattle.judge.specs.declared.Verdict.the-variants.{Refused, Do}
-use Rattle.judge.specs.Asks.{asksHolder, found, planOf}
+use Rattle.judge.specs.Asks.{asksHolder, numberThere, planOf}
 use Rattle.judge.specs.Fits.{MovingFits}
 use Rattle.judge.specs.Given.{Asked, beginsAt, on}
 use Rattle.judge.specs.Verdict.{byItsOwn, verdict}
@@ -121,7 +121,7 @@ module _ (a : Asked) where
           let v = m .target .volume in
           let begins = begins-at p so (fits .counts) m is (fits .span .some) in
           let n = begins .0 in
-          let same : found (beginsAt u (m .target)) ≡ n = ap found (begins .1) in
+          let same : numberThere (beginsAt u (m .target)) ≡ n = ap numberThere (begins .1) in
           record {
             counts = fits .counts;
             address = addressOf g v (n + j);

@@ -14,7 +14,7 @@ use Rattle.request.specs.declared.Buffer.{Buffer}
 use Rattle.request.specs.declared.Buffer.the-variants.{Piece, List as Elements}
 use Rattle.geometry.specs.Drive.{B}
 use Rattle.iopb.specs.declared.Block.{Block}
-use Rattle.iopb.specs.Ask.{taskOf, unitOf}
+use Rattle.iopb.specs.Ask.{taskOf, unitAsked}
 use Rattle.iopb.specs.Layout.{blockAt, optionsOf}
 use Rattle.memory.specs.Lists.{elementOf}
 use Rattle.memory.proofs.Locality.{element-same}
@@ -100,7 +100,7 @@ module _
     block-alike = block-same h (k .host) (v .at) (λ x among. alike x (block among))
 
     pub names-alike : names v ≡ names there
-    names-alike = ap unitOf block-alike
+    names-alike = ap unitAsked block-alike
 
     drive-alike : namedDrive v ≡ namedDrive there
     drive-alike = drive ∙ ap (driveOf k) names-alike

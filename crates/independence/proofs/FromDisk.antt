@@ -22,7 +22,7 @@ use Rattle.judge.specs.declared.Verdict.{Verdict}
 use Rattle.judge.specs.Asks.{only}
 use Rattle.judge.specs.Checks.{None}
 use Rattle.judge.proofs.EachTask.{passes-first}
-use Rattle.judge.proofs.First.{never}
+use Rattle.judge.proofs.First.{no-more}
 use Rattle.judge.proofs.Locality.{placed-uib-read}
 use Rattle.judge.proofs.Tasks.{own, shape-given, shape-outside}
 use Rattle.unit.specs.declared.UnitNumber.the-variants.{Zero, One}
@@ -149,7 +149,7 @@ uib-outside : verdictOf (visit (secondIn fromDisk) 248 0) ≡ Verdict.Refused Re
 unfolding word taskOf Present
 uib-outside =
     rw (shapeAt-inside (fromDisk .host1) 148 (omega arith))
-    (own _ _ _ _ _ never refl ∙ shape-outside FirstController (unit 0) 130 (fromDisk .host1) (uibAt (fromDisk .host1) 148)
+    (own _ _ _ _ _ no-more refl ∙ shape-outside FirstController (unit 0) 130 (fromDisk .host1) (uibAt (fromDisk .host1) 148)
     (λ within. let one-head : 0 < 0 = within .volumes .one-head in omega arith))
 
 initialize-lies : Alone 248 (secondIn fromDisk) One ((248, 28) ∷ (148, 18) ∷ []) ((250, 2) ∷ [])
@@ -167,7 +167,7 @@ then-within : verdictOf (visit (secondIn then) 248 0) ≡ Verdict.Do (only (Leav
 unfolding word taskOf after bytesFrom upTo
 then-within =
     rw (shapeAt-inside (then .host1) 148 (omega arith))
-    (own _ _ _ _ _ never refl ∙ shape-given FirstController (unit 0) 130 (then .host1) tiny (counts 0 (omega arith) .within))
+    (own _ _ _ _ _ no-more refl ∙ shape-given FirstController (unit 0) 130 (then .host1) tiny (counts 0 (omega arith) .within))
 
 then-done : runOf Second initialize .out then ≡ come RunAnswer.Done 0 0
 unfolding after bytesFrom upTo
@@ -183,7 +183,7 @@ unfolding word taskOf None
 uib-read =
     by-block 248 _ initialize-pass (λ v. ReadsHost v 148)
     (its-uib
-    (placed-uib-read _ _ _ _ _ refl (passes-first (askedOf (visit (secondIn fromDisk) 248 0)) never never)
+    (placed-uib-read _ _ _ _ _ refl (passes-first (askedOf (visit (secondIn fromDisk) 248 0)) no-more no-more)
     (λ bad. rw (shapeAt-inside (fromDisk .host1) 148 (omega arith)) at bad) (omega arith)))
 
 outside-120 : In ((2, 2) ∷ (56, 64) ∷ []) 120 → ⊥

@@ -19,7 +19,7 @@ use Rattle.judge.specs.declared.Verdict.{Verdict}
 use Rattle.judge.specs.Asks.{firstChecks, only, ownChecks}
 use Rattle.judge.specs.Checks.{None, before}
 use Rattle.judge.specs.Reads.{InList, InUib}
-use Rattle.judge.proofs.First.{never}
+use Rattle.judge.proofs.First.{no-more}
 use Rattle.judge.proofs.Locality.{misplaced-uib-unread}
 use Rattle.judge.proofs.Tasks.{move-11, own, restore-done, shape-misplaced}
 use Rattle.request.specs.declared.Buffer.{Buffer}
@@ -80,7 +80,7 @@ module _ (w : World) (at : ℕ) (passes : Passes at 1 w) where
     misplaced-unread uib task bad =
         let misplaced : taskOf (w .host) (blockOf b) ≡ Task.Initialize Shape.Misplaced =
         task ∙ ap Task.Initialize (shapeAt-outside (w .host) uib bad) in
-        turned-away Refusal.UibMisplaced (rw misplaced (own _ _ _ _ _ never nobody ∙ shape-misplaced _ _ _ _)) (λ x u. misplaced-uib-unread _ _ _ x misplaced u)
+        turned-away Refusal.UibMisplaced (rw misplaced (own _ _ _ _ _ no-more nobody ∙ shape-misplaced _ _ _ _)) (λ x u. misplaced-uib-unread _ _ _ x misplaced u)
         (λ x l. no-list _ x (λ m is. impossible (cc (misplaced, is))) l)
 
     -- A transfer of a unit that is not initialized, in one piece or through a list.
@@ -88,7 +88,7 @@ module _ (w : World) (at : ℕ) (passes : Passes at 1 w) where
         (m : Move) → taskOf (w .host) (blockOf b) ≡ Task.Move m → (CountsAsInitialized (namedDrive b .unit) → ⊥) → TurnedAway Refusal.NotInitialized
     unfolding None
     unready-unread m task unready =
-        turned-away Refusal.NotInitialized (rw task (own _ _ _ _ _ never nobody ∙ move-11 _ _ _ _ m unready))
+        turned-away Refusal.NotInitialized (rw task (own _ _ _ _ _ no-more nobody ∙ move-11 _ _ _ _ m unready))
         (λ x u. no-uib _ _ _ x (λ s is. impossible (cc (task, is))) u)
         (λ x l.
         let a = askedOf b in
@@ -102,7 +102,7 @@ module _ (w : World) (at : ℕ) (passes : Passes at 1 w) where
   restored byte mark same task unlinked =
       let judged : verdictOf b ≡ Verdict.Do (only (Leaving.HeadsAt 0)) =
       rw (task, same)
-      (own (w .controller) (unit 0) 130 (w .host) Task.Restore never (free (w .controller) 0) ∙
+      (own (w .controller) (unit 0) 130 (w .host) Task.Restore no-more (free (w .controller) 0) ∙
       restore-done (w .controller) (unit 0) 130 (w .host) (counts 0 (omega arith))) in
       record {
         footprint = idle w at passes _ judged refl refl (λ s is. impossible (cc (task, is))) (λ m is. impossible (cc (task, is)));

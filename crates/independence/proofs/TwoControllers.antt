@@ -1,5 +1,5 @@
 -- The pairs where a drive is held, and those on two controllers.
--- A block that is refused by 24 is told by its verdict alone, and bytes of two memories are never the same byte.
+-- A block that is refused by 24 is told by its verdict alone, and bytes of two memories are no-more the same byte.
 use Prim.Native.Nat.{ℕ, _+_}
 use mathlib.Core.Bool.{true}
 use mathlib.Core.List.{[], _∷_, _++_}
@@ -18,7 +18,7 @@ use Rattle.iopb.specs.Layout.{blockAt}
 use Rattle.judge.specs.declared.Leaving.{Leaving}
 use Rattle.judge.specs.declared.Verdict.{Verdict}
 use Rattle.judge.specs.Asks.{only}
-use Rattle.judge.proofs.First.{never}
+use Rattle.judge.proofs.First.{no-more}
 use Rattle.judge.proofs.Tasks.{held-24, own, restore-done}
 use Rattle.request.specs.declared.Task.{Task}
 use Rattle.unit.specs.declared.UnitNumber.the-variants.{Zero, One}
@@ -160,11 +160,11 @@ shared-pass = (passes-at (firstIn sharedDrive) 0 refl refl (omega arith), passes
 
 first-restores : verdictOf (v (firstIn sharedDrive) 0 (shared-pass .0)) ≡ Verdict.Do (only (Leaving.HeadsAt 0))
 unfolding word taskOf
-first-restores = own _ _ _ _ _ never refl ∙ restore-done FirstController (unit 0) 130 (sharedDrive .host1) (counts 0 (omega arith))
+first-restores = own _ _ _ _ _ no-more refl ∙ restore-done FirstController (unit 0) 130 (sharedDrive .host1) (counts 0 (omega arith))
 
 other-restores : verdictOf (v (otherIn sharedDrive) 28 (shared-pass .1)) ≡ Verdict.Do (only (Leaving.HeadsAt 0))
 unfolding word taskOf
-other-restores = own _ _ _ _ _ never refl ∙ restore-done SecondController (unit 0) 130 (sharedDrive .host2) (counts 0 (omega arith))
+other-restores = own _ _ _ _ _ no-more refl ∙ restore-done SecondController (unit 0) 130 (sharedDrive .host2) (counts 0 (omega arith))
 
 alone-done : ofOther sharedDrive ≡ come RunAnswer.Done 0 0
 alone-done = comes-done (otherIn sharedDrive) 28 (shared-pass .1) refl _ other-restores refl

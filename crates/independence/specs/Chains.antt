@@ -15,7 +15,7 @@ use Rattle.independence.specs.Local.{Kind, Place, Step, placed}
 use Rattle.independence.specs.Reads.{RunReads}
 use Rattle.independence.specs.Worlds.{Touches, byte, disk, events, worlds}
 use Rattle.block.specs.Block.{Drive}
-use Rattle.board.specs.World.{World, driveOf}
+use Rattle.board.specs.World.{World}
 
 -- A chain as it is asked for: the controller that runs it, and "the address of a first IOPB (a "block") and an allowance".
 pub record Chain : Type 0 where

@@ -23,18 +23,18 @@ use Rattle.iopb.specs.Layout.{uibAt, uibBytes}
 abbrev pub unitIn : Options → UnitNumber
 unitIn o = cond (o .unit) UnitNumber.One UnitNumber.Zero
 
-abbrev pub unitOf : Block → UnitNumber
-unitOf b = unitIn (b .options)
+abbrev pub unitAsked : Block → UnitNumber
+unitAsked b = unitIn (b .options)
 
-abbrev pub volumeOf : Block → VolumeNumber
-volumeOf b = cond (b .options .volume) VolumeNumber.One VolumeNumber.Zero
+abbrev pub volumeAsked : Block → VolumeNumber
+volumeAsked b = cond (b .options .volume) VolumeNumber.One VolumeNumber.Zero
 
 -- "With XL set, words 2 and 3 are one 32-bit logical sector number in the volume."
 abbrev pub startOf : Block → Start
 startOf b = cond (b .options .logical) (Start.Logical (b .number)) (Start.Physical (b .cylinder) (b .head) (b .sector))
 
 abbrev pub targetOf : Block → Target
-targetOf b = record { volume = volumeOf b; start = startOf b }
+targetOf b = record { volume = volumeAsked b; start = startOf b }
 
 -- "A1 and A2 have a list's address there"
 abbrev pub listOf : Block → Buffer
@@ -45,8 +45,8 @@ moveOf b to-host buffer =
     record { «to_host» = to-host; «past_marks» = b .options .disable; target = targetOf b; count = b .count; buffer = buffer }
 
 -- 8C "ignores VO, XL, sector and count; its head is counted over the whole drive"
-abbrev pub trackOf : Block → Track
-trackOf b = record { cylinder = b .cylinder; head = b .head; buffer = b .address }
+abbrev pub trackAsked : Block → Track
+trackAsked b = record { cylinder = b .cylinder; head = b .head; buffer = b .address }
 
 -- 85: "Words 2 and 3 name the bad track, words 4 and 5 the spare, both physical over the whole drive" (02, K5), a cylinder and then a head
 -- in the upper byte, as the manual has it. Word 4 is a count elsewhere, and the upper byte of word 5 the first of the address. The lower bytes of
@@ -75,7 +75,7 @@ tasks host b =
     (0x87, Task.Initialize (shapeAt host (b .address))) ∷
     (0x89, Task.Restore) ∷
     (0x8a, Task.Seek (targetOf b)) ∷
-    (0x8c, Task.Format (trackOf b)) ∷
+    (0x8c, Task.Format (trackAsked b)) ∷
     (0xa1, Task.Move (moveOf b true (listOf b))) ∷
     (0xa2, Task.Move (moveOf b false (listOf b))) ∷
     (0x85, Task.Map (pairOf b)) ∷

@@ -18,12 +18,12 @@ ghost use lib.ListN.{length};
 ghost use Rattle.iopb.specs.Layout.{blockAt, uibBytes};
 ghost use Rattle.wire.specs.Memory.{InMemory};
 ghost use Rattle.wire.specs.Promise.{Says};
-ghost use Rattle.iopb.specs.Ask.{listOf, moveOf, pairOf, shapeAt, startOf, targetOf, taskOf, trackOf, unitIn, unitOf};
+ghost use Rattle.iopb.specs.Ask.{listOf, moveOf, pairOf, shapeAt, startOf, targetOf, taskOf, trackAsked, unitIn, unitAsked};
 
 // The unit that the block at an address names, told without the rest of it: whoever picks a drive by it need not keep a block.
 pub fn unit_at(host: &[u8], at: usize) -> UnitNumber
     requires { ⌜ at + 28 ≤ length (now host) ⌝ }
-    ensures { λ r. ⌜ r ≡ unitOf (blockAt (now (host .entry)) at) ⌝ }
+    ensures { λ r. ⌜ r ≡ unitAsked (blockAt (now (host .entry)) at) ⌝ }
 {
     unit(Options::of(host[at + 1]))
 }
@@ -115,7 +115,7 @@ fn list(b: Block) -> Buffer
 }
 
 fn track(b: Block) -> Track
-    ensures { λ r. ⌜ r ≡ trackOf b ⌝ }
+    ensures { λ r. ⌜ r ≡ trackAsked b ⌝ }
 {
     Track {
         cylinder: b.cylinder,

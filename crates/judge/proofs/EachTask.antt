@@ -27,7 +27,7 @@ use Rattle.unit.proofs.Laws.{track-inside, track-whole}
 use Rattle.wire.specs.Memory.{inMemory?}
 use Rattle.judge.specs.declared.Leaving.{Leaving}
 use Rattle.judge.specs.declared.Verdict.{Verdict}
-use Rattle.judge.specs.Asks.{asksHolder, beforeBuffer, bytesOf, driveHeld, firstChecks, found, imageShort, jobOf, notInitialized, ofBuffer, ownChecks, planOf, trackOutside, unlisted}
+use Rattle.judge.specs.Asks.{asksHolder, beforeBuffer, bytesOf, driveHeld, firstChecks, numberThere, imageShort, jobOf, notInitialized, ofBuffer, ownChecks, planOf, trackOutside, unlisted}
 use Rattle.judge.specs.Checks.{None, first}
 use Rattle.judge.specs.Decided.{covers?, hasTracks?}
 use Rattle.judge.specs.Fits.{SpanGood}
@@ -119,7 +119,7 @@ module _ (c : Controller) (u : UnitRecord) (image : ℕ) (host : List ℕ) where
       let a = on c u image (Moves m) host in
       let begin = beginsAt u (m .target) in
       let some : 0 < m .count = omega arith in
-      let span : SpanGood u (jobOf m (found begin) .span) =
+      let span : SpanGood u (jobOf m (numberThere begin) .span) =
       record {
         some = some;
         inside = covered c u image host (m .target .volume) begin (m .count) some (so (covers? u (m .target .volume) begin (m .count)) inside);
@@ -161,7 +161,7 @@ module _ (c : Controller) (u : UnitRecord) (image : ℕ) (host : List ℕ) where
       heads-only c u image host _ (Leaving.HeadsAt 0) (counts, omega (arith, counts .within .sizes .cylinders))
   accepted (Seek t) first (initialized, (present, (inside, rest))) =
       let begin = beginsAt u t in
-      heads-only c u image host _ (Leaving.HeadsAt (spotOf u (t .volume) (found begin) .cylinder))
+      heads-only c u image host _ (Leaving.HeadsAt (spotOf u (t .volume) (numberThere begin) .cylinder))
       (so (counts? u) initialized, seek-inside c u image host (t .volume) begin (so (covers? u (t .volume) begin 1) inside))
   accepted (Format k) first (initialized, (inside, (long, (held, rest)))) =
       let counts = so (counts? u) initialized in

@@ -80,8 +80,8 @@ refused-among (k ∷ ks) p r e =
 
 -- ---- the verdict
 
-pub never : ⊥ → ⊥
-never x = x
+pub no-more : ⊥ → ⊥
+no-more x = x
 
 -- A command that passes what all are asked first is judged by its own checks.
 pub on-its-own : (a : Asked) → None (firstChecks a (a .task)) → verdict a ≡ byItsOwn a

@@ -33,7 +33,7 @@ use Rattle.judge.specs.declared.Moving.the-variants.{Sectors, Track}
 use Rattle.judge.specs.declared.Report.{Report}
 use Rattle.judge.specs.declared.Report.the-variants.{Nothing, Identity, Formatted}
 use Rattle.judge.specs.declared.Verdict.{Verdict}
-use Rattle.judge.specs.Asks.{found, ofBuffer, only}
+use Rattle.judge.specs.Asks.{numberThere, ofBuffer, only}
 use Rattle.judge.specs.Checks.{Check, None, first}
 use Rattle.judge.specs.Fits.{BufferGood, LeavingFits, PlanFits}
 use Rattle.judge.specs.Given.{Asked, Covers, HasTrack, on}
@@ -101,11 +101,11 @@ module _ (c : Controller) (u : UnitRecord) (image : ℕ) (host : List ℕ) where
   good-buffer a (Elements at n) bytes none = (so (listGood? (a .host) at n bytes) (none .0), so (ranges? (a .host) at n) (none .1 .0))
 
   pub covered :
-      (v : VolumeNumber) (x : Number) (count : ℕ) → 0 < count → Covers u v x count → found x + count ≤ volumeSectors (geometry u) v
+      (v : VolumeNumber) (x : Number) (count : ℕ) → 0 < count → Covers u v x count → numberThere x + count ≤ volumeSectors (geometry u) v
   covered v (Is n) count some c = omega arith
   covered v Outside count some c = absurd c
 
-  pub seek-inside : (v : VolumeNumber) (x : Number) → Covers u v x 1 → spotOf u v (found x) .cylinder < C (geometry u)
+  pub seek-inside : (v : VolumeNumber) (x : Number) → Covers u v x 1 → spotOf u v (numberThere x) .cylinder < C (geometry u)
   seek-inside v (Is n) c = spot-inside u v n (c .0) .cylinder
   seek-inside v Outside c = absurd c
 

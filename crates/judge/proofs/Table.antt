@@ -15,7 +15,7 @@ use Rattle.geometry.specs.declared.VolumeNumber.{VolumeNumber}
 use Rattle.geometry.specs.Sectors.{inVolume?}
 use Rattle.geometry.proofs.Answers.{numbered-inside, numbered-outside}
 use Rattle.iopb.specs.declared.Block.{Block}
-use Rattle.iopb.specs.Ask.{targetOf, taskAt, taskOf, tasks, volumeOf}
+use Rattle.iopb.specs.Ask.{targetOf, taskAt, taskOf, tasks, volumeAsked}
 use Rattle.iopb.proofs.Answers.{shapeAt-inside, shapeAt-outside}
 use Rattle.request.specs.declared.Start.{Start}
 use Rattle.request.specs.declared.Task.{Task}
@@ -29,7 +29,7 @@ use Rattle.judge.specs.declared.Verdict.{Verdict}
 use Rattle.judge.specs.declared.Verdict.the-variants.{Refused, Do}
 use Rattle.judge.specs.Asks.{checks, planOf}
 use Rattle.judge.specs.Checks.{Check, first}
-use Rattle.judge.specs.Given.{Asked, Covers, beginsAt, numberOf, on}
+use Rattle.judge.specs.Given.{Asked, Covers, beginsAt, startNumber, on}
 use Rattle.judge.specs.Table.{AnsweredWith, Applies, BeforeTransfer, FromStart, Line, SectorsInside, Unanswered, listed, oneOf, paper}
 use Rattle.judge.specs.Verdict.{verdict}
 use Rattle.judge.proofs.EachTask.{never-asked-20}
@@ -168,7 +168,7 @@ module _ (b : Block) (a : Asked) where
   g = geometry (a .unit)
 
   abbrev v : VolumeNumber
-  v = volumeOf b
+  v = volumeAsked b
 
   -- 16: a logical start is its number, and a physical one has a number where the volume has it.
   outside : (count : ℕ) → (Covers (a .unit) v (beginsAt (a .unit) (targetOf b)) count → ⊥) ↔ (SectorsInside b a count → ⊥)
@@ -177,7 +177,7 @@ module _ (b : Block) (a : Asked) where
     where
       by-start :
           (logical : Bool) →
-          Covers (a .unit) v (numberOf g v (cond logical (Start.Logical (b .number)) (Start.Physical (b .cylinder) (b .head) (b .sector)))) count ↔
+          Covers (a .unit) v (startNumber g v (cond logical (Start.Logical (b .number)) (Start.Physical (b .cylinder) (b .head) (b .sector)))) count ↔
           FromStart b a logical count
       by-start true = Iff·rfl
       by-start false =

@@ -35,7 +35,7 @@ use Rattle.judge.specs.Checks.{None}
 use Rattle.judge.specs.Given.{Asked, Covers, HasTrack, HasTracks, badNumber, beginsAt, on, spareNumber}
 use Rattle.judge.specs.Verdict.{byItsOwn, fromAddress, fromBuffer, fromData, fromImage, fromSectors, fromTable, verdict}
 use Rattle.judge.proofs.EachTask.{asked-is-listed, passes-first, stopped-by-holder}
-use Rattle.judge.proofs.First.{done, never, on-its-own, pass, skip, stop}
+use Rattle.judge.proofs.First.{done, no-more, on-its-own, pass, skip, stop}
 
 not-held : (asks held : Bool) → T asks → asks && held ≡ false → held ≡ false
 not-held true held asks is = is
@@ -83,7 +83,7 @@ module _ (c : Controller) (u : UnitRecord) (image : ℕ) (host : List ℕ) where
 
   pub handshake : verdict (on c u image Task.Handshake host) ≡ Verdict.Do (plan Moving.Nothing Report.Identity Leaving.AsItWas)
   unfolding verdict
-  handshake = skip _ _ _ never ∙ done _
+  handshake = skip _ _ _ no-more ∙ done _
 
   -- ---- 87
 
@@ -94,11 +94,11 @@ module _ (c : Controller) (u : UnitRecord) (image : ℕ) (host : List ℕ) where
   module _ (x : Geometry) where
     pub shape-outside : (Within x → ⊥) → byItsOwn (on c u image (Task.Initialize (Shape.Given x)) host) ≡ Verdict.Refused Refusal.UibOutsideLimits
     unfolding byItsOwn
-    shape-outside out = skip _ _ _ never ∙ stop _ _ _ out
+    shape-outside out = skip _ _ _ no-more ∙ stop _ _ _ out
 
     pub shape-given : Within x → byItsOwn (on c u image (Task.Initialize (Shape.Given x)) host) ≡ Verdict.Do (only (Leaving.Fresh x))
     unfolding byItsOwn
-    shape-given within = skip _ _ _ never ∙ skip _ _ _ (λ n. n within) ∙ done _
+    shape-given within = skip _ _ _ no-more ∙ skip _ _ _ (λ n. n within) ∙ done _
 
   -- ---- 89
 

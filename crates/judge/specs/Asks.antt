@@ -186,10 +186,10 @@ module _ (a : Asked) where
 
 -- ---- what is done
 
--- A number that a check has found: the one of the start, and 0 where there is none, which check 16 refuses.
-abbrev pub found : Number → ℕ
-found (Is n) = n
-found Outside = 0
+-- A number that a check has numberThere: the one of the start, and 0 where there is none, which check 16 refuses.
+abbrev pub numberThere : Number → ℕ
+numberThere (Is n) = n
+numberThere Outside = 0
 
 -- A transfer from a number on.
 abbrev pub jobOf : Move → ℕ → Job
@@ -220,14 +220,14 @@ renewed (Uib g) = Fresh g
 -- here is never asked for.
 abbrev pub planOf : UnitRecord → Task → Plan
 planOf u Unknown = only AsItWas
-planOf u (Moves m) = carrying (jobOf m (found (beginsAt u (m .target))))
+planOf u (Moves m) = carrying (jobOf m (numberThere (beginsAt u (m .target))))
 -- 86 "writes words 2 to 7 with this board's own identity"
 planOf u Handshake = plan Moving.Nothing Identity AsItWas
 -- "87 replaces the unit record"
 planOf u (Initialize s) = only (renewed s)
 -- "89 goes to cylinder 0"; "8A goes to the address given", to the cylinder on which that lands
 planOf u Restore = only (HeadsAt 0)
-planOf u (Seek t) = only (HeadsAt (spotOf u (t .volume) (found (beginsAt u t)) .cylinder))
+planOf u (Seek t) = only (HeadsAt (spotOf u (t .volume) (numberThere (beginsAt u t)) .cylinder))
 -- 8C reports how many sectors the track has (02, K1). "The heads end on the named cylinder", but where the track is bad "the heads then stand
 -- on the spare's cylinder" (02, K5).
 planOf u (Format k) =

@@ -37,12 +37,12 @@ abbrev pub asked : Task → Standing → (tracks host : List ℕ) → Asked
 asked t s tracks host = on (s .controller) (unitOf (s .record) tracks) (s .image) t host
 
 -- The number at which a request begins: a logical number as it came, and a physical address's where the volume has it.
-abbrev pub numberOf : Geometry → VolumeNumber → Start → Number
-numberOf g v (Logical n) = Is n
-numberOf g v (Physical c h s) = numberOn g v c h s
+abbrev pub startNumber : Geometry → VolumeNumber → Start → Number
+startNumber g v (Logical n) = Is n
+startNumber g v (Physical c h s) = numberOn g v c h s
 
 abbrev pub beginsAt : UnitRecord → Target → Number
-beginsAt u t = numberOf (geometry u) (t .volume) (t .start)
+beginsAt u t = startNumber (geometry u) (t .volume) (t .start)
 
 -- "first sector outside the volume, or the last": neither is, of a request for so many sectors.
 abbrev pub Covers : UnitRecord → VolumeNumber → Number → ℕ → Type 0

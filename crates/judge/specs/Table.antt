@@ -15,7 +15,7 @@ use Rattle.geometry.specs.Drive.{B, need, volume, volumeSectors}
 use Rattle.geometry.specs.Limits.{Present, Within}
 use Rattle.geometry.specs.Sectors.{InVolume, OnDrive, address, numberOf}
 use Rattle.iopb.specs.declared.Block.{Block}
-use Rattle.iopb.specs.Ask.{volumeOf}
+use Rattle.iopb.specs.Ask.{volumeAsked}
 use Rattle.iopb.specs.Layout.{uibAt}
 use Rattle.memory.specs.Lists.{ListGood, Ranges}
 use Rattle.spares.specs.Table.{Free}
@@ -56,13 +56,13 @@ module _ (b : Block) (a : Asked) where
 
   -- "first sector outside the volume, or the last": neither is, of so many sectors from a number on.
   abbrev pub FromNumber : ℕ → ℕ → Type 0
-  FromNumber first count = (first < volumeSectors g (volumeOf b)) × (first + (count - 1) < volumeSectors g (volumeOf b))
+  FromNumber first count = (first < volumeSectors g (volumeAsked b)) × (first + (count - 1) < volumeSectors g (volumeAsked b))
 
   -- The same from where the block begins: with XL at a logical number, and else at a physical address, which the volume has.
   abbrev pub FromStart : (logical : Bool) → ℕ → Type 0
   FromStart true count = FromNumber (b .number) count
   FromStart false count =
-      InVolume g (volumeOf b) (b .cylinder) (b .head) (b .sector) × FromNumber (numberOf g (volumeOf b) (b .cylinder) (b .head) (b .sector)) count
+      InVolume g (volumeAsked b) (b .cylinder) (b .head) (b .sector) × FromNumber (numberOf g (volumeAsked b) (b .cylinder) (b .head) (b .sector)) count
 
   abbrev pub SectorsInside : ℕ → Type 0
   SectorsInside count = FromStart (b .options .logical) count
@@ -88,7 +88,7 @@ module _ (b : Block) (a : Asked) where
       -- "UIB outside the geometry's limits"
       line 13 (these (0x87 ∷ [])) (Within (uibAt (a .host) (b .address)) → ⊥) ∷
       -- "volume absent"
-      line 14 (these (0x81 ∷ 0x82 ∷ 0x8a ∷ 0xa1 ∷ 0xa2 ∷ [])) (Present (volume g (volumeOf b)) → ⊥) ∷
+      line 14 (these (0x81 ∷ 0x82 ∷ 0x8a ∷ 0xa1 ∷ 0xa2 ∷ [])) (Present (volume g (volumeAsked b)) → ⊥) ∷
       -- "count 0"
       line 15 (these (0x81 ∷ 0x82 ∷ 0xa1 ∷ 0xa2 ∷ [])) (b .count ≡ 0) ∷
       -- "first sector outside the volume, or the last"

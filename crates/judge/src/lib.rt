@@ -29,7 +29,7 @@ ghost use mathlib.Core.Path.{_≡_};
 ghost use Prim.Native.Nat.{ℕ, _<_};
 ghost use Rattle.geometry.specs.Drive.{B, S, need, volume, volumeSectors};
 ghost use Rattle.geometry.specs.Limits.{Present};
-ghost use Rattle.judge.specs.Given.{HasTrack, HasTracks, asked, numberOf, on};
+ghost use Rattle.judge.specs.Given.{HasTrack, HasTracks, asked, startNumber, on};
 ghost use Rattle.judge.specs.Asks.{asksHolder, carrying, jobOf, only, plan};
 ghost use Rattle.judge.specs.Verdict.{Begins, byItsOwn, fromAddress, fromBuffer, fromData, fromImage, fromSectors, fromTable, verdict};
 ghost use Rattle.judge.specs.declared.Leaving.{Leaving};
@@ -222,7 +222,7 @@ fn is_short(s: Standing) -> bool
 
 // The number of a request's first sector in its volume.
 fn number(u: Record, v: VolumeNumber, start: Start) -> Number
-    ensures { λ n. ⌜ n ≡ numberOf (geometry (bare u)) v start ⌝ }
+    ensures { λ n. ⌜ n ≡ startNumber (geometry (bare u)) v start ⌝ }
 {
     match start {
         Start::Logical(n) => Number::Is(n as u64),
@@ -444,7 +444,7 @@ fn judge_buffer(m: Move, n: u64, standing: Standing, table: &[u32; 64], host: &[
         Buffer::List { at, elements } => match list(host, at, elements, bytes) {
             Listed::Good => accepted(m, n),
             Listed::Bad => Verdict::Refused(Refusal::ListBad),
-            Listed::Misplaced => Verdict::Refused(Refusal::DataMisplaced),
+            Listed::RangeBad => Verdict::Refused(Refusal::DataMisplaced),
         },
     }
 }

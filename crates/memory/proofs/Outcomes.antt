@@ -5,7 +5,7 @@ use Prim.Native.Nat.{ℕ}
 use mathlib.Core.List.{List}
 use Rattle.wire.specs.Promise.{OneResult}
 use Rattle.memory.specs.declared.Listed.{Listed}
-use Rattle.memory.specs.declared.Listed.the-variants.{Bad, Misplaced, Good}
+use Rattle.memory.specs.declared.Listed.the-variants.{Bad, RangeBad, Good}
 use Rattle.memory.specs.Scan.{Listing}
 use Rattle.memory.proofs.copy_out.Reads as copy-out
 use Rattle.memory.proofs.Element.read.Reads as element-read
@@ -14,13 +14,13 @@ use Rattle.memory.proofs.list.Reads as list
 listing-once :
     (host : List ℕ) (at n bytes : ℕ) (x y : Listed) → Listing host at n bytes x → Listing host at n bytes y → x ≡ y
 listing-once host at n bytes Bad Bad p q = refl
-listing-once host at n bytes Bad Misplaced p q = absurd (p (q .0))
+listing-once host at n bytes Bad RangeBad p q = absurd (p (q .0))
 listing-once host at n bytes Bad Good p q = absurd (p (q .0))
-listing-once host at n bytes Misplaced Bad p q = absurd (q (p .0))
-listing-once host at n bytes Misplaced Misplaced p q = refl
-listing-once host at n bytes Misplaced Good p q = absurd (p .1 (q .1))
+listing-once host at n bytes RangeBad Bad p q = absurd (q (p .0))
+listing-once host at n bytes RangeBad RangeBad p q = refl
+listing-once host at n bytes RangeBad Good p q = absurd (p .1 (q .1))
 listing-once host at n bytes Good Bad p q = absurd (q (p .0))
-listing-once host at n bytes Good Misplaced p q = absurd (q .1 (p .1))
+listing-once host at n bytes Good RangeBad p q = absurd (q .1 (p .1))
 listing-once host at n bytes Good Good p q = refl
 
 list-once : OneResult list.Post

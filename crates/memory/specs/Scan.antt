@@ -3,7 +3,7 @@ use Prim.Native.Nat.{ℕ, _<_}
 use mathlib.Core.List.{List}
 use mathlib.Core.Path.{_≡_}
 use Rattle.memory.specs.declared.Listed.{Listed}
-use Rattle.memory.specs.declared.Listed.the-variants.{Bad, Misplaced, Good}
+use Rattle.memory.specs.declared.Listed.the-variants.{Bad, RangeBad, Good}
 use Rattle.memory.specs.declared.Seen.{Seen}
 use Rattle.memory.specs.Lists.{GoodCount, ListGood, Ranges, elementOf, total}
 use Rattle.wire.specs.Promise.{Says}
@@ -19,5 +19,5 @@ pub record Scanned (host : List ℕ) (at n : ℕ) (s : Seen) : Type 0 where
 -- The two checks of a list, in their order.
 abbrev pub Listing : List ℕ → ℕ → ℕ → ℕ → Listed → Type 0
 Listing host at n bytes Bad = ListGood host at n bytes → ⊥
-Listing host at n bytes Misplaced = ListGood host at n bytes × (Ranges host at n → ⊥)
+Listing host at n bytes RangeBad = ListGood host at n bytes × (Ranges host at n → ⊥)
 Listing host at n bytes Good = ListGood host at n bytes × Ranges host at n

@@ -82,7 +82,7 @@ fn scan(host: &[u8], at: usize, elements: usize) -> Seen
 // What checks 18 and 19 find of a list.
 pub enum Listed {
     Bad,
-    Misplaced,
+    RangeBad,
     Good,
 }
 
@@ -124,7 +124,7 @@ fn pass_over(host: &[u8], at: usize, elements: usize, bytes: u64) -> Listed
         return Listed::Bad;
     }
     if !seen.ranges {
-        return Listed::Misplaced;
+        return Listed::RangeBad;
     }
     Listed::Good
 }

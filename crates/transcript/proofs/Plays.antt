@@ -22,7 +22,7 @@ use Rattle.wire.specs.Words.{be32, written}
 use Rattle.wire.proofs.Laws.{word-same}
 use Rattle.transcript.specs.declared.State.{State}
 use Rattle.transcript.specs.Session.{Held, bytesIn, endingOf, heard, longOf, runHeard}
-use Rattle.transcript.specs.Steps.{Appended, Fits, Lent, Room, heldIn, lentOf, onWith, atStart, spokenOf, went}
+use Rattle.transcript.specs.Steps.{Appended, Fits, SessionLent, SessionRoom, heldIn, lentOf, onWith, atStart, spokenOf, went}
 use Rattle.transcript.specs.Text.{blockLines, runLine}
 use Rattle.transcript.proofs.Texts.{block-lines-short, put-then, run-line-short}
 use Rattle.board.specs.World.{World}
@@ -57,7 +57,7 @@ Stays used buffer = (used ≡ length (take used buffer)) × (buffer ≡ atStart 
 stays : (used : ℕ) (buffer : List ℕ) → Fits used buffer → Stays used buffer
 stays used buffer fits = (sym (length-take-le used buffer (omega arith)), sym (over-same used buffer (omega arith)))
 
-module _ (field : List ℕ) (s : State) (l : Lent) (at : ℕ) (room : Room s l) (whole : 3 + longOf field ≤ length field) where
+module _ (field : List ℕ) (s : State) (l : SessionLent) (at : ℕ) (room : SessionRoom s l) (whole : 3 + longOf field ≤ length field) where
   host-stays : Stays (s .host) (l .host)
   host-stays = stays (s .host) (l .host) (room .host)
 
@@ -148,7 +148,7 @@ came-back used buffer part fits kept =
 
 -- The lines of a run are what it says, and the parts that it leaves are what is held.
 pub run-went :
-    (s : State) (l : Lent) (at : ℕ) → Room s l →
+    (s : State) (l : SessionLent) (at : ℕ) → SessionRoom s l →
     {e : Ending} (host image0 image1 events tracks0 tracks1 : List ℕ) (r : Outcome) →
     CameTo e (worldOf First host image0 image1 events tracks0 tracks1 (r .units)) r →
     length host ≡ length (take (s .host) (l .host)) →

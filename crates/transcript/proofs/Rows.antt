@@ -17,7 +17,7 @@ use Rattle.wire.specs.Words.{be32}
 use Rattle.transcript.specs.declared.State.{State}
 use Rattle.transcript.specs.Rows.{inARow, onward, readFor}
 use Rattle.transcript.specs.Session.{Held, Heard, begin, bytesIn, endingOf, field?, heard, longOf, playedWithin, runHeard, session, tagOf}
-use Rattle.transcript.specs.Steps.{Lent, Room, Spoken, closed, heldIn, lentOf, mostBytes, mostField, atStart, spoken, stateOf, textRoom, wanted, went}
+use Rattle.transcript.specs.Steps.{SessionLent, SessionRoom, Spoken, closed, heldIn, lentOf, mostBytes, mostField, atStart, spoken, stateOf, textRoom, wanted, went}
 use Rattle.transcript.specs.Text.{refusalLine}
 use Rattle.transcript.proofs.Fields.{read-bytes, read-field, read-length, read-long, read-no-field, read-some, read-tag}
 use Rattle.transcript.proofs.Plays.{bytes-long, met, run-heard}
@@ -44,7 +44,7 @@ images-keep-lengths :
     (length (ran first allowance w .world .drive1 .image) ≡ length (w .drive1 .image))
 images-keep-lengths first allowance w = let keeps = run-keeps-lengths first allowance w .1 .1 in (keeps Zero, keeps One)
 
-few-held : (s : State) (l : Lent) → Room s l → Few (heldIn s l)
+few-held : (s : State) (l : SessionLent) → SessionRoom s l → Few (heldIn s l)
 few-held s l room =
     record {
       host = omega (arith, length-take (s .host) (l .host), room .host .0);
@@ -68,7 +68,7 @@ few-heard h tag bytes few short =
         let images = images-keep-lengths (be32 bytes 0) (getD bytes 4 0) (met h) in
         record { host = rw (keeps .0) (few .host); image0 = rw (images .0) (few .image0); image1 = rw (images .1) (few .image1) }
 
-module _ (x : Heard) (at : ℕ) (l : Lent) where
+module _ (x : Heard) (at : ℕ) (l : SessionLent) where
   -- The state and the buffers after a field hold what it leaves,
   holds-what-was-heard : heldIn (stateOf (x .held) at) (went x at l .lent) ≡ x .held
   holds-what-was-heard =
@@ -86,7 +86,7 @@ module _ (x : Heard) (at : ℕ) (l : Lent) where
   over-length bytes buffer = simp (length-append, length-drop) (omega arith)
 
   room-again :
-      (s : State) → Room s l → Few (x .held) → at + mostField < 2 ^ 64 → Room (stateOf (x .held) at) (went x at l .lent)
+      (s : State) → SessionRoom s l → Few (x .held) → at + mostField < 2 ^ 64 → SessionRoom (stateOf (x .held) at) (went x at l .lent)
   room-again s room few early =
       record {
         host = (few .host, omega (arith, room .host .1, over-length (x .held .host) (l .host)));
@@ -98,7 +98,7 @@ module _ (x : Heard) (at : ℕ) (l : Lent) where
 
 -- ---- one step after the other
 
-module _ (k : ℕ) (s : State) (l : Lent) (rest : List ℕ) where
+module _ (k : ℕ) (s : State) (l : SessionLent) (rest : List ℕ) where
   -- What a step says, and what goes on after it.
   one-step :
       (x : Spoken) → spoken (readFor rest) s l ≡ x →
@@ -120,7 +120,7 @@ module _ (k : ℕ) (s : State) (l : Lent) (rest : List ℕ) where
       take-append-seam text (drop (length text) (l .text))
 
 row :
-    (k : ℕ) (s : State) (l : Lent) (rest : List ℕ) → Room s l → s .at + length rest + mostField < 2 ^ 64 →
+    (k : ℕ) (s : State) (l : SessionLent) (rest : List ℕ) → SessionRoom s l → s .at + length rest + mostField < 2 ^ 64 →
     inARow k s l rest ≡ playedWithin k (heldIn s l) (s .at) rest
 unfolding inARow playedWithin
 row zero s l rest room early = refl
@@ -156,7 +156,7 @@ row (suc k) s l (byte ∷ more) room early =
 -- have room for any field and for the lines of any run. It begins with nothing held, with tables of zeros, and makes at most one step more than the input
 -- has bytes.
 pub steps-in-a-row :
-    (input : List ℕ) (l : Lent) → length input + mostField < 2 ^ 64 →
+    (input : List ℕ) (l : SessionLent) → length input + mostField < 2 ^ 64 →
     mostBytes ≤ length (l .host) → mostBytes ≤ length (l .image0) → mostBytes ≤ length (l .image1) → textRoom ≤ length (l .text) →
     l .tracks0 ≡ noTracks → l .tracks1 ≡ noTracks →
     inARow (length input + 1) (stateOf begin 0) l input ≡ session input

@@ -9,21 +9,21 @@ use lib.ListN.{length}
 use Rattle.transcript.specs.declared.Next.{Next}
 use Rattle.transcript.specs.declared.State.{State}
 use Rattle.transcript.specs.Session.{Field, bytesIn, field?, heard, longOf, tagOf}
-use Rattle.transcript.specs.Steps.{Lent, Room, closed, heldIn, lentOf, room?, saidOf, spoken, spokenOf, spokenOn, went}
+use Rattle.transcript.specs.Steps.{SessionLent, SessionRoom, closed, heldIn, lentOf, room?, saidOf, spoken, spokenOf, spokenOn, went}
 use Rattle.transcript.specs.Text.{refusalLine}
 
 -- Whether there is room does not go by the tables.
 pub room-with :
     {s : State} {host image0 image1 text tracks0 tracks1 other0 other1 : List ℕ} →
-    Room s (lentOf host image0 image1 text tracks0 tracks1) → Room s (lentOf host image0 image1 text other0 other1)
+    SessionRoom s (lentOf host image0 image1 text tracks0 tracks1) → SessionRoom s (lentOf host image0 image1 text other0 other1)
 room-with r = record { host = r .host; image0 = r .image0; image1 = r .image1; text = r .text; at = r .at }
 
-module _ (field : List ℕ) (s : State) (l : Lent) where
-  pub no-room : (Room s l → ⊥) → spoken field s l ≡ spokenOf (saidOf Next.NoRoom 0) l
+module _ (field : List ℕ) (s : State) (l : SessionLent) where
+  pub no-room : (SessionRoom s l → ⊥) → spoken field s l ≡ spokenOf (saidOf Next.NoRoom 0) l
   unfolding spoken
   no-room none = if-neg (room? s l) none _ _
 
-  module _ (room : Room s l) where
+  module _ (room : SessionRoom s l) where
     with-room : spoken field s l ≡ spokenOn field s l
     unfolding spoken
     with-room = if-pos (room? s l) room _ _

@@ -6,7 +6,7 @@ use lib.ListN.{drop, length, take}
 use Rattle.transcript.specs.declared.Next.{Next}
 use Rattle.transcript.specs.declared.Next.the-variants.{On, Over, NoRoom}
 use Rattle.transcript.specs.declared.State.{State}
-use Rattle.transcript.specs.Steps.{Lent, spoken, wanted}
+use Rattle.transcript.specs.Steps.{SessionLent, spoken, wanted}
 
 -- What is read of the input for one field: 3 bytes, and on up to as many in all as these want; fewer where the input ends.
 abbrev pub readFor : List ℕ → List ℕ
@@ -19,7 +19,7 @@ onward next Over = []
 onward next NoRoom = []
 
 -- Each step is made on the bytes read for it and on the buffers as the step before left them, and what it says is written.
-unfoldable pub inARow : ℕ → State → Lent → List ℕ → List ℕ
+unfoldable pub inARow : ℕ → State → SessionLent → List ℕ → List ℕ
 inARow zero s l rest = []
 inARow (suc k) s l rest =
     let x = spoken (readFor rest) s l in

@@ -26,7 +26,7 @@ abbrev pub mostField : ℕ
 mostField = 3 + mostBytes
 
 -- What is lent for one step.
-pub record Lent : Type 0 where
+pub record SessionLent : Type 0 where
   pub host : List ℕ
   pub image0 : List ℕ
   pub image1 : List ℕ
@@ -34,7 +34,7 @@ pub record Lent : Type 0 where
   pub tracks0 : List ℕ
   pub tracks1 : List ℕ
 
-abbrev pub lentOf : (host image0 image1 text tracks0 tracks1 : List ℕ) → Lent
+abbrev pub lentOf : (host image0 image1 text tracks0 tracks1 : List ℕ) → SessionLent
 lentOf host image0 image1 text tracks0 tracks1 =
     record { host = host; image0 = image0; image1 = image1; text = text; tracks0 = tracks0; tracks1 = tracks1 }
 
@@ -43,7 +43,7 @@ abbrev pub Fits : ℕ → List ℕ → Type 0
 Fits used buffer = (used ≤ mostBytes) × (mostBytes ≤ length buffer)
 
 -- A state that the buffers can hold, with room for any field and for the lines of any run, and a place that can still be counted.
-pub record Room (s : State) (l : Lent) : Type 0 where
+pub record SessionRoom (s : State) (l : SessionLent) : Type 0 where
   pub host : Fits (s .host) (l .host)
   pub image0 : Fits (s .image0) (l .image0)
   pub image1 : Fits (s .image1) (l .image1)
@@ -53,7 +53,7 @@ pub record Room (s : State) (l : Lent) : Type 0 where
 fits? : (used : ℕ) (buffer : List ℕ) → Dec (Fits used buffer)
 fits? used buffer = Dec·and (decLe used mostBytes) (decLe mostBytes (length buffer))
 
-pub room? : (s : State) (l : Lent) → Dec (Room s l)
+pub room? : (s : State) (l : SessionLent) → Dec (SessionRoom s l)
 room? s l =
     map-dec
     (λ d. record { host = d .0; image0 = d .1 .0; image1 = d .1 .1 .0; text = d .1 .1 .1 .0; at = d .1 .1 .1 .1 })
@@ -64,7 +64,7 @@ room? s l =
     (Dec·and (decLe textRoom (length (l .text))) (decLt (s .at + mostField) (2 ^ 64))))))
 
 -- What a state and its buffers hold.
-abbrev pub heldIn : State → Lent → Held
+abbrev pub heldIn : State → SessionLent → Held
 heldIn s l =
     record {
       host = take (s .host) (l .host);
@@ -89,9 +89,9 @@ atStart bytes buffer = bytes ++ drop (length bytes) buffer
 -- What a step comes to: what it answers, and every lent byte.
 pub record Spoken : Type 0 where
   pub said : Said
-  pub lent : Lent
+  pub lent : SessionLent
 
-abbrev pub spokenOf : Said → Lent → Spoken
+abbrev pub spokenOf : Said → SessionLent → Spoken
 spokenOf said lent = record { said = said; lent = lent }
 
 abbrev pub saidOf : Next → ℕ → Said
@@ -103,7 +103,7 @@ onWith units host image0 image1 at text =
     saidOf (Next.On (record { units = units; host = host; image0 = image0; image1 = image1; at = at })) text
 
 -- A field that was heard: its text stands in the text buffer, and what is held after it in the others.
-abbrev pub went : Heard → ℕ → Lent → Spoken
+abbrev pub went : Heard → ℕ → SessionLent → Spoken
 went x at l =
     let h = x .held in
     spokenOf (saidOf (Next.On (stateOf h at)) (length (x .text)))
@@ -111,13 +111,13 @@ went x at l =
     (atStart (x .text) (l .text)) (table (h .drive0 .unit)) (table (h .drive1 .unit)))
 
 -- A text that is the session's last.
-abbrev pub closed : List ℕ → Lent → Spoken
+abbrev pub closed : List ℕ → SessionLent → Spoken
 closed text l =
     spokenOf (saidOf Next.Over (length text))
     (lentOf (l .host) (l .image0) (l .image1) (atStart text (l .text)) (l .tracks0) (l .tracks1))
 
 -- A step on what was read of a field; that is [] where the input has ended.
-abbrev pub spokenOn : List ℕ → State → Lent → Spoken
+abbrev pub spokenOn : List ℕ → State → SessionLent → Spoken
 spokenOn [] s l = closed [] l
 spokenOn (byte ∷ more) s l =
     let field = byte ∷ more in
@@ -126,7 +126,7 @@ spokenOn (byte ∷ more) s l =
     (closed (refusalLine (s .at)) l)
 
 -- Without room nothing is said and nothing changed.
-unfoldable pub spoken : List ℕ → State → Lent → Spoken
+unfoldable pub spoken : List ℕ → State → SessionLent → Spoken
 spoken field s l = ite (room? s l) (spokenOn field s l) (spokenOf (saidOf Next.NoRoom 0) l)
 
 -- How many bytes of the input the field takes that begins with these: the 3 of its opening, and its length where the opening is good.

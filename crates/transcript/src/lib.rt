@@ -6,7 +6,7 @@ use unit::Record;
 ghost use mathlib.Core.List.{[]};
 ghost use mathlib.Core.Path.{_≡_};
 ghost use Rattle.transcript.specs.Session.{begin};
-ghost use Rattle.transcript.specs.Steps.{Fits, Room, lentOf, spoken, spokenOf, stateOf};
+ghost use Rattle.transcript.specs.Steps.{Fits, SessionRoom, lentOf, spoken, spokenOf, stateOf};
 ghost use Rattle.wire.specs.Promise.{Says};
 
 mod field;
@@ -68,7 +68,7 @@ fn fits(buffer: &[u8], used: usize) -> bool
 }
 
 fn has_room(host: &[u8], image0: &[u8], image1: &[u8], text: &[u8], s: State) -> bool
-    ensures { λ r. ⌜ Says r (Room s (lentOf (now (host .entry)) (now (image0 .entry)) (now (image1 .entry)) (now (text .entry)) [] [])) ⌝ }
+    ensures { λ r. ⌜ Says r (SessionRoom s (lentOf (now (host .entry)) (now (image0 .entry)) (now (image1 .entry)) (now (text .entry)) [] [])) ⌝ }
 {
     if !fits(host, s.host) {
         return false;

@@ -8,7 +8,7 @@ ghost use mathlib.Core.Path.{_≡_};
 ghost use Prim.Native.Nat.{_+_, _≤_};
 ghost use lib.ListN.{length};
 ghost use Rattle.transcript.specs.Session.{Field, bytesIn, endingOf, heard, longOf, runHeard, tagOf};
-ghost use Rattle.transcript.specs.Steps.{Room, heldIn, lentOf, onWith, spokenOf, went};
+ghost use Rattle.transcript.specs.Steps.{SessionRoom, heldIn, lentOf, onWith, spokenOf, went};
 
 // A field without text: the session goes on with other lengths, from a later place.
 fn on(s: State, host: usize, image0: usize, image1: usize, at: u64) -> Said
@@ -39,7 +39,7 @@ fn run(
     s: State,
     at: u64,
 ) -> Said
-    requires { ⌜ Room s (lentOf (now host) (now image0) (now image1) (now text) (now map0) (now map1)) × ((longOf (now field) ≡ 5) × (8 ≤ length (now field))) ⌝ }
+    requires { ⌜ SessionRoom s (lentOf (now host) (now image0) (now image1) (now text) (now map0) (now map1)) × ((longOf (now field) ≡ 5) × (8 ≤ length (now field))) ⌝ }
     ensures { λ r. ⌜ spokenOf r (lentOf (now (host .exit)) (now (image0 .exit)) (now (image1 .exit)) (now (text .exit)) (now (map0 .exit)) (now (map1 .exit)))
         ≡ went (runHeard (endingOf (heldIn s (lentOf (now (host .entry)) (now (image0 .entry)) (now (image1 .entry)) (now (text .entry)) (now (map0 .entry)) (now (map1 .entry)))) (bytesIn (now (field .entry))))) at (lentOf (now (host .entry)) (now (image0 .entry)) (now (image1 .entry)) (now (text .entry)) (now (map0 .entry)) (now (map1 .entry))) ⌝ }
 {
@@ -87,7 +87,7 @@ pub(crate) fn hear(
     map1: &mut [u32; 64],
     s: State,
 ) -> Said
-    requires { ⌜ Room s (lentOf (now host) (now image0) (now image1) (now text) (now map0) (now map1)) × Field (now field) ⌝ }
+    requires { ⌜ SessionRoom s (lentOf (now host) (now image0) (now image1) (now text) (now map0) (now map1)) × Field (now field) ⌝ }
     ensures { λ r. ⌜ spokenOf r (lentOf (now (host .exit)) (now (image0 .exit)) (now (image1 .exit)) (now (text .exit)) (now (map0 .exit)) (now (map1 .exit)))
         ≡ went (heard (heldIn s (lentOf (now (host .entry)) (now (image0 .entry)) (now (image1 .entry)) (now (text .entry)) (now (map0 .entry)) (now (map1 .entry)))) (tagOf (now (field .entry))) (bytesIn (now (field .entry)))) (s .at + (3 + longOf (now (field .entry)))) (lentOf (now (host .entry)) (now (image0 .entry)) (now (image1 .entry)) (now (text .entry)) (now (map0 .entry)) (now (map1 .entry))) ⌝ }
 {

@@ -14,7 +14,7 @@ use Rattle.geometry.specs.Sectors.Inside.{firstByte-is}
 use Rattle.judge.specs.declared.Verdict.the-variants.{Refused}
 use Rattle.judge.specs.Given.{Asked, Covers}
 use Rattle.judge.specs.Verdict.{fromBuffer, fromSectors, verdict}
-use Rattle.judge.proofs.First.{never}
+use Rattle.judge.proofs.First.{no-more}
 use Rattle.judge.proofs.Tasks.{list-18, list-done, move-on, own, piece-done, span-17, span-last, span-on}
 use Rattle.request.specs.declared.Buffer.{Buffer}
 use Rattle.request.specs.declared.Move.{Move}
@@ -42,7 +42,7 @@ module _ (n count image : ℕ) (b : Buffer) where
 
   -- It passes what it is asked of the unit; its sectors decide, and then its buffer.
   by-its-sectors : 0 < count → verdict (asking m image) ≡ fromSectors (asking m image) m
-  by-its-sectors some = own First unit image host _ never refl ∙ move-on First unit image host m counts present (λ none. omega arith)
+  by-its-sectors some = own First unit image host _ no-more refl ∙ move-on First unit image host m counts present (λ none. omega arith)
 
   outside-is-16 : (0 < count) × (80 < n + count) → Judged m n image (answer 16)
   outside-is-16 is =

@@ -1,7 +1,7 @@
 -- Each buffer in its turn, then the text and the place: the first that fails refuses.
 use mathlib.Core.List.{[]}
 use native.Mathlib.Omega.{arith}
-use Rattle.transcript.specs.Steps.{Room, lentOf}
+use Rattle.transcript.specs.Steps.{SessionRoom, lentOf}
 use Rattle.wire.proofs.Promises.{denied, granted, says-leb}
 use borrow.Author.Needs.{needs}
 use Rattle.transcript.proofs.has_room.Statement.{statement}
@@ -39,7 +39,7 @@ returns-5 c =
     let first = second .before .before in
     let a = start first .args in
     let l = lentOf (a .host .now) (a .image0 .now) (a .image1 .now) (a .text .now) [] [] in
-    says-leb (a .s .at) _ (Room (a .s) l)
+    says-leb (a .s .at) _ (SessionRoom (a .s) l)
     (λ early.
     record {
       host = granted (first .before .fits2 .result) _ (first .if1 .left) (first .before .fits2 .ensures);

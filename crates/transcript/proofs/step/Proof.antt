@@ -1,7 +1,7 @@
 -- The checks in their order, each by its law; a good field is heard.
 use mathlib.Core.Path.{refl, sym, _∙_}
 use native.Mathlib.Omega.{arith}
-use Rattle.transcript.specs.Steps.{Lent, Room, lentOf, saidOf, spokenOf}
+use Rattle.transcript.specs.Steps.{SessionLent, SessionRoom, lentOf, saidOf, spokenOf}
 use Rattle.transcript.specs.Session.{Field}
 use Rattle.transcript.specs.declared.Next.{Next}
 use Rattle.transcript.proofs.Plays.{said-over}
@@ -27,7 +27,7 @@ abbrev heard : tie.After-slice-known9 → tie.After-hear
 heard c = c .before .before .before .before .before .before .before .before
 
 -- What is lent, as it came.
-abbrev lent : tie.Start → Lent
+abbrev lent : tie.Start → SessionLent
 lent c = lentOf (c .args .host .now) (c .args .image0 .now) (c .args .image1 .now) (c .args .text .now) (c .args .map0 .now) (c .args .map1 .now)
 
 has-room-requires : tie.Need-has-room-requires
@@ -54,7 +54,7 @@ returns c =
     (λ r. denied (asked .has-room .result) _ (c .if1 .taken) (asked .has-room .ensures) (room-with r)))
 
 -- Past the first check there is room, and past the last a field.
-room : (c : tie.Else1) → Room (start (c .before) .args .s) (lent (start (c .before)))
+room : (c : tie.Else1) → SessionRoom (start (c .before) .args .s) (lent (start (c .before)))
 room c = room-with (granted (c .before .has-room .result) _ (c .if1 .left) (c .before .has-room .ensures))
 
 good : (c : tie.Else3) → Field (start (roomy (c .before) .before) .args .field .now)

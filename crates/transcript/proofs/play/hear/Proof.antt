@@ -3,7 +3,7 @@ use Prim.Native.Nat.{_+_}
 use mathlib.Core.Path.{ap, _∙_}
 use native.Mathlib.Omega.{arith}
 use Rattle.transcript.specs.Session.{bytesIn, endingOf, runHeard, tagOf}
-use Rattle.transcript.specs.Steps.{Lent, heldIn, lentOf, went}
+use Rattle.transcript.specs.Steps.{SessionLent, heldIn, lentOf, went}
 use Rattle.transcript.proofs.Plays.{host-given, image0-given, image1-given, run-heard}
 use borrow.Author.Needs.{needs}
 use Rattle.transcript.proofs.play.hear.Statement.{statement}
@@ -21,7 +21,7 @@ abbrev unmatched : tie.After-run-arg6 → tie.At-match-rest
 unmatched c = c .before .before .before .before .before .before
 
 -- What is lent, as it came.
-abbrev lent : tie.Start → Lent
+abbrev lent : tie.Start → SessionLent
 lent c = lentOf (c .args .host .now) (c .args .image0 .now) (c .args .image1 .now) (c .args .text .now) (c .args .map0 .now) (c .args .map1 .now)
 
 shared-slice-read-tag : tie.Need-shared-slice-read-tag

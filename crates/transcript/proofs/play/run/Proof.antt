@@ -6,7 +6,7 @@ use native.Mathlib.Omega.{arith}
 use lib.ListN.{getD}
 use lib.Seq.{length-take-le}
 use Rattle.transcript.specs.Session.{runHeard}
-use Rattle.transcript.specs.Steps.{Lent, heldIn, lentOf, went}
+use Rattle.transcript.specs.Steps.{SessionLent, heldIn, lentOf, went}
 use Rattle.transcript.proofs.Plays.{blocks-few, run-ending, run-went}
 use Rattle.transcript.proofs.Texts.{run-line-short}
 use borrow.Author.Needs.{needs}
@@ -31,7 +31,7 @@ abbrev line : tie.After-events3 → tie.After-put-run
 line c = c .before .before .before .before
 
 -- What is lent, as it came.
-abbrev lent : tie.Start → Lent
+abbrev lent : tie.Start → SessionLent
 lent c = lentOf (c .args .host .now) (c .args .image0 .now) (c .args .image1 .now) (c .args .text .now) (c .args .map0 .now) (c .args .map1 .now)
 
 be32-requires : tie.Need-be32-requires

@@ -6,12 +6,9 @@ use borrow.Author.Needs.{needs}
 use Rattle.unit.proofs.Record.counts_as_initialized.Statement.{statement}
 use Rattle.unit.proofs.Record.counts_as_initialized.Tie as tie
 
--- The places, from where the table is judged: past the heads, past the limits and past the record's own word.
-abbrev past-heads : tie.After-table-is-good → tie.Else3
-past-heads c = c .before
-
+-- The places, from where the table is judged: past the limits, and past the record's own word.
 abbrev past-limits : tie.After-table-is-good → tie.Else2
-past-limits c = past-heads c .before .before
+past-limits c = c .before .before .before
 
 abbrev past-word : tie.After-table-is-good → tie.Else1
 past-word c = past-limits c .before .before
@@ -40,13 +37,13 @@ returns-4 : tie.Need-returns-4
 returns-4 c =
     let u = past-word c .before .before .args .self in
     let within = past-limits c .before .is-within in
-    let heads = past-heads c .before .heads-are-on-the-drive in
+    let heads = c .before .before .heads-are-on-the-drive in
     says-same (c .table-is-good .result) _ _
     (λ good.
     record {
       said = granted (u .initialized) _ (past-word c .if1 .left) (says-set (u .initialized));
       within = granted (within .result) _ (past-limits c .if2 .left) (within .ensures);
-      cylinder = granted (heads .result) _ (past-heads c .if3 .left) (heads .ensures);
+      cylinder = granted (heads .result) _ (c .before .if3 .left) (heads .ensures);
       good = good;
     })
     (λ w. w .good) (c .table-is-good .ensures)
