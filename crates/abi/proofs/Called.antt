@@ -12,14 +12,13 @@ use Rattle.board.specs.declared.chain.Outcome.{Outcome}
 use Rattle.board.specs.declared.inspection.Part.{Part}
 use Rattle.board.specs.Chain.{Ending, ran}
 use Rattle.board.specs.Inspection.{partOf}
-use Rattle.board.specs.Steps.{CameTo}
-use Rattle.board.specs.Lent.{worldOf}
 use Rattle.abi.specs.Calls.{CallLent, answered, calledAs, calledOf, controllerOf, controllerUnknown, imageNumber, inspectedOf, inspection, lentOf, made, outcomeShort, record0Short, record1Short, recordLeft, worldIn}
 use Rattle.abi.specs.Layouts.{outcomeBytes, recordIn, wordsFrom}
 use Rattle.board.specs.declared.Units.{Units}
 use Rattle.unit.specs.declared.Controller.{Controller}
 use Rattle.unit.specs.Standing.{UnitRecord, byValue, noTracks, pairs, unitOf}
-use Rattle.wire.specs.Words.{written}
+use Rattle.board.specs.Run.{CameTo, worldOf}
+use Rattle.wire.specs.Storing.{written}
 
 -- A run that was made, from what the code ran and stored, and from what it read.
 pub answered-is :

@@ -8,22 +8,24 @@ use mathlib.Core.Path.{_≡_, refl, sym, _∙_, ap}
 use native.Mathlib.Omega.{arith}
 use lib.ListN.{drop, getD, length, length-drop, replicate, take-append-drop}
 use lib.Seq.{ext-getD, getD-drop, getD-take, length-sets, length-take-le}
-use Rattle.wire.specs.Words.{twoBytes, word, written}
+use Rattle.wire.specs.Words.{word}
 use Rattle.geometry.specs.declared.Geometry.{Geometry}
 use Rattle.geometry.specs.Drive.{B, C, S}
 use Rattle.geometry.proofs.Same.{geometry-is}
-use Rattle.spares.specs.Table.{BlankPast, counted}
 use Rattle.unit.proofs.Decided.{record-is}
 use Rattle.unit.proofs.Holders.{holder-back}
 use Rattle.unit.specs.declared.Holder.{Holder}
 use Rattle.unit.specs.declared.Holder.the-variants.{Nobody, TheFirst, TheSecond}
-use Rattle.unit.specs.Holding.{holderNumber}
-use Rattle.unit.specs.Standing.{UnitRecord, bare, byValue, cylinder, geometry, holder, initialized, noTracks, pairs, table, unitOf}
+use Rattle.unit.specs.Standing.{UnitRecord, byValue, cylinder, geometry, holder, initialized, noTracks, pairs, table, unitOf}
 use Rattle.board.specs.Chain.{Ending}
 use Rattle.abi.specs.Calls.{recordLeft, standsIn?}
 use Rattle.abi.specs.Layouts.{endingBytes, geometryBytes, holderIn, openingBytes, outcomeLength, pairsIn, recordBytes, recordIn, recordLength, saysInitialized, trackBytes, tracksIn, wordsFrom}
 use Rattle.abi.proofs.Left.{left-anew, left-as-it-came, same-tracks}
 use Rattle.abi.proofs.Tracks.{at-the-head, length-tracks, length-words, past-written, tracks-back, words-past}
+use Rattle.spares.specs.Lands.{BlankPast, counted}
+use Rattle.unit.specs.Made.{bare}
+use Rattle.unit.specs.HolderNumbers.{holderNumber}
+use Rattle.wire.specs.Storing.{twoBytes, written}
 
 -- A record is stored to the last pair that counts, which lies within the layout.
 module _ (u : UnitRecord) (long : length (table u) ≡ 64) where

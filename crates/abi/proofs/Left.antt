@@ -6,12 +6,12 @@ use mathlib.Core.Logic.{if-neg, if-pos}
 use mathlib.Core.Path.{_≡_, ap}
 use native.Mathlib.Omega.{arith}
 use lib.Seq.{take-at}
-use Rattle.spares.specs.Table.{counted}
 use Rattle.unit.specs.Standing.{UnitRecord, byValue, noTracks, pairs, table}
 use Rattle.abi.specs.Calls.{StandsIn, recordLeft, standsIn?}
 use Rattle.abi.specs.Layouts.{pairsIn, recordBytes, recordIn, tracksIn, wordsFrom}
 use Rattle.abi.proofs.Tracks.{at-the-head, length-words}
-use Rattle.wire.specs.Words.{written}
+use Rattle.spares.specs.Lands.{counted}
+use Rattle.wire.specs.Storing.{written}
 
 -- The record that is read from some bytes stands in them.
 pub stands-as-read : (bytes : List ℕ) {u : UnitRecord} → recordIn bytes ≡ u → StandsIn bytes u

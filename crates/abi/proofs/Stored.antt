@@ -6,10 +6,10 @@ use mathlib.Core.List.{List, [], _∷_, _++_}
 use mathlib.Core.Path.{_≡_, refl}
 use native.Mathlib.Numerals.{add-one}
 use lib.ListN.{set}
-use Rattle.wire.specs.Words.{stored, twoBytes, with16, with32, written}
 use Rattle.geometry.specs.declared.Geometry.{Geometry}
 use Rattle.geometry.specs.declared.Volume.{Volume}
 use Rattle.abi.specs.Layouts.{geometryBytes, openingBytes, outcomeBytes, trackBytes, volumeBytes}
+use Rattle.wire.specs.Storing.{stored, twoBytes, with16, with32, written}
 
 pub two-stored : (bytes : List ℕ) (at a b : ℕ) → set (set bytes at a) (at + 1) b ≡ written bytes at (a ∷ b ∷ [])
 unfolding written

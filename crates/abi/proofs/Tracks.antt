@@ -7,10 +7,11 @@ use native.Mathlib.Nat.{add-assoc, add-zero, zero-add}
 use native.Mathlib.Omega.{arith}
 use lib.ListN.{drop, getD, length, set, take}
 use lib.Seq.{ext-getD, getD-append-add, getD-set-other, getD-take, length-take-le, sets-eq, take-suc}
-use Rattle.wire.specs.Words.{be32, fourBytes, with32, word, written}
+use Rattle.wire.specs.Words.{be32, fourBytes, word}
 use Rattle.wire.proofs.Laws.{word-same}
 use Rattle.block.proofs.Entries.{with32-is, written-row}
 use Rattle.abi.specs.Layouts.{trackBytes, wordsFrom}
+use Rattle.wire.specs.Storing.{with32, written}
 
 -- ---- what stands once a list is stored
 

@@ -10,7 +10,6 @@ use Rattle.answers.specs.Numbers.{runNumber}
 use Rattle.unit.specs.declared.UnitNumber.{UnitNumber}
 use Rattle.unit.specs.declared.UnitNumber.the-variants.{Zero, One}
 use Rattle.unit.proofs.Decided.{same?}
-use Rattle.spares.specs.Table.{counted}
 use Rattle.unit.specs.declared.Controller.{Controller}
 use Rattle.unit.specs.declared.Controller.the-variants.{First, Second}
 use Rattle.unit.specs.Standing.{UnitRecord, byValue, pairs, table}
@@ -18,8 +17,9 @@ use Rattle.board.specs.declared.inspection.Part.{Part}
 use Rattle.board.specs.Chain.{Ending, ran}
 use Rattle.board.specs.Inspection.{partOf}
 use Rattle.abi.specs.Layouts.{endingBytes, outcomeLength, recordBytes, recordIn, recordLength, tracksIn}
-use Rattle.wire.specs.Words.{written}
 use Rattle.board.specs.World.{World}
+use Rattle.spares.specs.Lands.{counted}
+use Rattle.wire.specs.Storing.{written}
 
 -- All that a caller lends to a run, no two of them overlapping: what a caller in C has to see to.
 pub record CallLent : Type 0 where

@@ -21,18 +21,20 @@ use mathlib.Core.Bool.{Bool, cond, _&&_}
 use mathlib.Core.List.{List, [], _∷_, _++_}
 use lib.Dec.{eqb, leb}
 use lib.ListN.{getD}
-use Rattle.wire.specs.Words.{be16, be32, fourBytes, twoBytes, written}
+use Rattle.wire.specs.Words.{be16, be32, fourBytes}
 use Rattle.geometry.specs.declared.Geometry.{Geometry}
 use Rattle.geometry.specs.declared.Volume.{Volume}
 use Rattle.geometry.specs.declared.VolumeNumber.the-variants.{Zero, One}
 use Rattle.geometry.specs.Drive.{B, C, N, S, geometryOf, start, volume, volumeOf}
-use Rattle.spares.specs.Table.{counted}
 use Rattle.unit.specs.declared.Holder.{Holder}
 use Rattle.unit.specs.declared.Holder.the-variants.{Nobody}
-use Rattle.unit.specs.Holding.{holderNumber, holderOf}
-use Rattle.unit.specs.Standing.{UnitRecord, cylinder, geometry, heldBy, holder, initialized, noTracks, pairs, recordOf, table}
+use Rattle.unit.specs.Standing.{UnitRecord, cylinder, geometry, heldBy, holder, initialized, noTracks, pairs, table}
 use Rattle.answers.specs.Numbers.{runNumber}
 use Rattle.board.specs.Chain.{Ending}
+use Rattle.spares.specs.Lands.{counted}
+use Rattle.unit.specs.Made.{recordOf}
+use Rattle.unit.specs.HolderNumbers.{holderNumber, holderOf}
+use Rattle.wire.specs.Storing.{twoBytes, written}
 
 abbrev pub recordLength : ℕ
 recordLength = 276

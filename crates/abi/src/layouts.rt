@@ -11,10 +11,10 @@ ghost use Prim.Native.Nat.{_+_, _*_, _≤_, min};
 ghost use lib.ListN.{length};
 ghost use Rattle.abi.specs.Calls.{StandsIn, recordLeft};
 ghost use Rattle.abi.specs.Layouts.{geometryBytes, geometryIn, holderIn, openingBytes, outcomeBytes, recordBytes, recordIn, saysInitialized, trackBytes, volumeBytes, volumeIn, wordsFrom};
-ghost use Rattle.spares.specs.Table.{counted};
 ghost use Rattle.unit.specs.Standing.{byValue, unitOf};
 ghost use Rattle.wire.specs.Promise.{Says};
-ghost use Rattle.wire.specs.Words.{written};
+ghost use Rattle.spares.specs.Lands.{counted};
+ghost use Rattle.wire.specs.Storing.{written};
 
 fn volume(bytes: &[u8], at: usize) -> Volume
     requires { ⌜ at + 2 ≤ length (now bytes) ⌝ }

@@ -25,7 +25,7 @@ use Rattle.unit.specs.declared.Controller.{Controller}
 use Rattle.block.specs.Block.{Drive, Effect, asking, effectOn, finish, finished, holding, judged}
 use Rattle.block.specs.Events.{entry}
 use Rattle.block.specs.Steps.{doneOf, three}
-use Rattle.wire.specs.Words.{written}
+use Rattle.wire.specs.Storing.{written}
 
 pub host-written :
     (ns host image events : List ℕ) (at : ℕ) →

@@ -14,8 +14,9 @@ use Rattle.answers.specs.declared.BlockAnswer.{BlockAnswer}
 use Rattle.answers.specs.Numbers.{statusOf}
 use Rattle.iopb.specs.declared.Block.{Block}
 use Rattle.iopb.specs.Errors.{errorByte}
-use Rattle.wire.specs.Words.{fourBytes, stored, with32, written}
+use Rattle.wire.specs.Words.{fourBytes}
 use Rattle.block.specs.Events.{entry, levelOf, twosComplement, vectorOf}
+use Rattle.wire.specs.Storing.{stored, with32, written}
 
 two : (n : ℕ) → n + 2 ≡ suc (suc n)
 two n = omega arith

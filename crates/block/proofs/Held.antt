@@ -8,11 +8,12 @@ use Rattle.judge.specs.declared.Leaving.{Leaving}
 use Rattle.judge.specs.declared.Leaving.the-variants.{AsItWas, HeadsAt, HeadsAtLastTried, Fresh, Mapped}
 use Rattle.unit.specs.declared.Controller.{Controller}
 use Rattle.unit.specs.declared.Holder.{Holder}
-use Rattle.unit.specs.Standing.{CountsAsInitialized, UnitRecord, bare, byValue, heldBy, table}
+use Rattle.unit.specs.Standing.{CountsAsInitialized, UnitRecord, byValue, heldBy, table}
 use Rattle.wire.specs.Promise.{Says}
 use Rattle.block.specs.declared.Performed.{Performed}
 use Rattle.block.specs.Block.{Performance, heldAfter, holderLeft}
 use Rattle.block.specs.Steps.{performedOf}
+use Rattle.unit.specs.Made.{bare}
 
 -- What was performed, with another record.
 abbrev withUnit : Performed → UnitRecord → Performed

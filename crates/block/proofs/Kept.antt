@@ -8,12 +8,12 @@ use Rattle.judge.specs.declared.Leaving.the-variants.{AsItWas, HeadsAt, HeadsAt
 use Rattle.judge.specs.Fits.{LeavingFits}
 use Rattle.transfer.specs.Progress.{lastTried}
 use Rattle.unit.specs.Landing.{spotOf}
-use Rattle.spares.specs.Table.{BlankPast}
 use Rattle.unit.specs.Standing.{CountsAsInitialized, UnitRecord, pairs, table}
 use Rattle.unit.proofs.Kept.{fresh-blank, fresh-counts, mapped-blank, mapped-counts, moved-counts}
 use Rattle.unit.proofs.Laws.{spot-inside}
 use Rattle.wire.specs.Promise.{Says}
 use Rattle.block.specs.Block.{leftBy}
+use Rattle.spares.specs.Lands.{BlankPast}
 
 module _ (u : UnitRecord) (moved : ℕ) where
   pub still-counts : (l : Leaving) → CountsAsInitialized u → LeavingFits u l → CountsAsInitialized (leftBy u moved l)

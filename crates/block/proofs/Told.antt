@@ -26,7 +26,8 @@ use Rattle.block.specs.Events.{entry, twosComplement}
 use Rattle.block.specs.Steps.{BlockRoom, three}
 use Rattle.block.specs.Tells.{Tells}
 use Rattle.block.proofs.Effects.{finish-leaves}
-use Rattle.wire.specs.Words.{fourBytes, written}
+use Rattle.wire.specs.Words.{fourBytes}
+use Rattle.wire.specs.Storing.{written}
 
 -- Numbers stored in a row stand there in their order.
 pub row-stands : (ns l : List ℕ) (at k : ℕ) → at + length ns ≤ length l → k < length ns → getD (sets l at ns) (at + k) 0 ≡ getD ns k 0

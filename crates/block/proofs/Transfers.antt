@@ -15,7 +15,7 @@ use Rattle.block.specs.Block.{begun, transferWith}
 use Rattle.block.specs.Steps.{Stores, three}
 use Rattle.block.proofs.Effects.{host-written, then-made}
 use Rattle.unit.specs.Standing.{UnitRecord}
-use Rattle.wire.specs.Words.{written}
+use Rattle.wire.specs.Storing.{written}
 
 abbrev beside : Buffers → List ℕ → Buffers
 beside m events = three (m .host) (m .image) events

@@ -5,7 +5,7 @@ ghost use mathlib.Core.Path.{_≡_};
 ghost use Prim.Native.Nat.{_+_, _*_, _≤_};
 ghost use lib.ListN.{length};
 ghost use Rattle.block.specs.Events.{entry, levelOf, travelTo, twosComplement, vectorOf};
-ghost use Rattle.wire.specs.Words.{written};
+ghost use Rattle.wire.specs.Storing.{written};
 
 // How far the heads went: the new cylinder minus the old one. Any two numbers of 16 bits have a difference in 32.
 pub(crate) fn travel(old: u16, new: u16) -> i32

@@ -41,8 +41,9 @@ ghost use Rattle.transfer.specs.Runs.{pieceByte};
 ghost use Rattle.transfer.specs.Stores.{after};
 ghost use Rattle.unit.specs.Landing.{spotOf};
 ghost use Rattle.wire.specs.Promise.{Says};
-ghost use Rattle.unit.specs.Standing.{CountsAsInitialized, UnitRecord, bare, byValue, cylinder, geometry, unitOf};
-ghost use Rattle.wire.specs.Words.{written};
+ghost use Rattle.unit.specs.Standing.{CountsAsInitialized, UnitRecord, byValue, cylinder, geometry, unitOf};
+ghost use Rattle.unit.specs.Made.{bare};
+ghost use Rattle.wire.specs.Storing.{written};
 
 mod events;
 

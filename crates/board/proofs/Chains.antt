@@ -25,13 +25,13 @@ use Rattle.board.specs.declared.chain.Stepped.{Stepped}
 use Rattle.block.specs.declared.Known.the-variants.{Counts}
 use Rattle.block.specs.Block.{Effect, effectOn}
 use Rattle.board.specs.Chain.{Ending, counted, endedOf, ends, executed, fetched, nothing}
-use Rattle.board.specs.Steps.{CameTo, EndedIn, Spare, SteppedTo, outcomeWith, steppedOf, toldOf}
+use Rattle.board.specs.Steps.{EndedIn, Spare, SteppedTo, steppedOf, toldOf}
 use Rattle.block.specs.Steps.{Did, Knows}
 use Rattle.unit.specs.Standing.{unitOf}
 use Rattle.unit.proofs.Decided.{counts?}
 use Rattle.wire.proofs.Promises.{decided-says}
-use Rattle.board.specs.Lent.{unitsOf}
 use Rattle.board.specs.World.{World, buffersOf, changed, driveOf, effectAt, unitAt, worldAfter}
+use Rattle.board.specs.Run.{CameTo, outcomeWith, unitsOf}
 
 module _ (w : World) (at i : ℕ) (n : UnitNumber) (named : unitAt w at ≡ n) where
   effect-named : effectAt at i w ≡ effectOn (w .controller) (w .host) (driveOf w n) at i

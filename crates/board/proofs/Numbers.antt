@@ -9,10 +9,10 @@ use lib.Dec.{eqb}
 use Rattle.geometry.specs.declared.Volume.{Volume}
 use Rattle.geometry.specs.declared.VolumeNumber.the-variants.{Zero, One}
 use Rattle.geometry.specs.Drive.{B, C, N, S, start, volume}
-use Rattle.unit.specs.Holding.{holderNumber}
 use Rattle.unit.specs.Standing.{UnitRecord, byValue, cylinder, geometry, holder, initialized, pairs}
 use Rattle.unit.proofs.Holders.{holder-back}
 use Rattle.board.specs.Records.{recordIn}
+use Rattle.unit.specs.HolderNumbers.{holderNumber}
 
 -- The numbers of a record.
 abbrev pub numbersOf : UnitRecord → List ℕ

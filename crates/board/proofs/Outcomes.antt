@@ -13,15 +13,15 @@ use Rattle.iopb.specs.declared.Block.{Block}
 use Rattle.iopb.specs.Layout.{blockAt}
 use Rattle.board.specs.Chain.{Ending}
 use Rattle.block.specs.Block.{Effect}
-use Rattle.board.specs.Steps.{CameTo, RanOne, SteppedTo}
+use Rattle.board.specs.Steps.{RanOne, SteppedTo}
 use Rattle.unit.specs.declared.Controller.the-variants.{First}
-use Rattle.board.specs.Lent.{worldOf}
 use Rattle.unit.specs.Standing.{byValue, table}
 use Rattle.board.proofs.chain.run.Reads as run
 use Rattle.board.proofs.chain.run_one.Reads as run-one
 use Rattle.board.proofs.inspection.inspect.Reads as inspect
 use Rattle.board.proofs.inspection.part_of.Reads as part-of
 use Rattle.board.specs.World.{World, effectAt, worldAfter}
+use Rattle.board.specs.Run.{CameTo, worldOf}
 
 part-of-once : OneResult part-of.Post
 part-of-once κ a x y e f p q = p ∙ sym q

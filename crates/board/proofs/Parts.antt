@@ -15,7 +15,8 @@ use Rattle.unit.specs.declared.UnitNumber.the-variants.{Zero, One}
 use Rattle.board.specs.Inspection.{Inspectable, baseOf, bytesOf, imageOf, inspectable?, liesAt, noPart, partOf, sectorPart}
 use Rattle.board.specs.declared.inspection.Part.{Part}
 use Rattle.spares.proofs.Laws.{empty-is-good}
-use Rattle.unit.specs.Standing.{CountsAsInitialized, UnitRecord, cylinder, geometry, initialized, noTracks, recordOf}
+use Rattle.unit.specs.Standing.{CountsAsInitialized, UnitRecord, cylinder, geometry, initialized, noTracks}
+use Rattle.unit.specs.Made.{recordOf}
 
 -- One unit: its sector, or nothing.
 module _ (n : UnitNumber) (u : UnitRecord) (long place : ℕ) where

@@ -1,6 +1,6 @@
 pub mod Chain
 pub mod Inspection
-pub mod Lent
 pub mod Records
+pub mod Run
 pub mod Steps
 pub mod World

@@ -4,9 +4,10 @@ use mathlib.Core.List.{List, []}
 use lib.Dec.{eqb}
 use lib.ListN.{getD}
 use Rattle.geometry.specs.Drive.{geometryOf, volumeOf}
-use Rattle.unit.specs.Holding.{holderOf}
-use Rattle.unit.specs.Standing.{UnitRecord, byValue, heldBy, recordOf, unitOf}
+use Rattle.unit.specs.Standing.{UnitRecord, byValue, heldBy, unitOf}
 use Rattle.board.specs.declared.Units.{Units}
+use Rattle.unit.specs.Made.{recordOf}
+use Rattle.unit.specs.HolderNumbers.{holderOf}
 
 -- The record in some numbers, but for its table: 1 for an initialized unit; cylinders, sectors a track and bytes a sector; start head and
 -- heads of the two volumes, each a byte; the cylinder of the heads, the pairs that count, and the number of the holder.

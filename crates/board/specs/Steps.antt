@@ -13,15 +13,14 @@ use Rattle.board.specs.declared.Units.{Units}
 use Rattle.board.specs.declared.chain.Count.{Count}
 use Rattle.board.specs.declared.chain.End.{End}
 use Rattle.board.specs.declared.chain.Learnt.{Learnt}
-use Rattle.board.specs.declared.chain.Outcome.{Outcome}
 use Rattle.board.specs.declared.chain.Single.{Single}
 use Rattle.board.specs.declared.chain.Single.the-variants.{Ran, NoRoom}
 use Rattle.board.specs.declared.chain.Went.{Went}
 use Rattle.board.specs.declared.chain.Stepped.{Stepped}
 use Rattle.board.specs.declared.chain.BlockTold.{BlockTold}
 use Rattle.board.specs.Chain.{Ending, endOf}
-use Rattle.board.specs.Lent.{unitsOf, worldOf}
 use Rattle.board.specs.World.{World, effectAt, worldAfter}
+use Rattle.board.specs.Run.{unitsOf, worldOf}
 
 -- What is returned of a block, in two parts: what it told, and the record that it left of its unit.
 abbrev pub toldOf : Done → BlockTold
@@ -54,25 +53,9 @@ pub record SteppedOn (w : World) (at i : ℕ) (w′ : World) (s : Went) : Type 0
 abbrev pub nothingLearnt : Learnt
 nothingLearnt = record { zero = Unasked; one = Unasked }
 
--- What a run came to: how its chain ended, with the records that it left.
-abbrev pub outcomeWith : End → Units → Outcome
-outcomeWith r units =
-    record { answer = r .answer; failed = r .failed; blocks = r .blocks; sectors = r .sectors; units = units }
-
--- And the other way: how it ended, without the records.
-abbrev pub endIn : Outcome → End
-endIn o = record { answer = o .answer; failed = o .failed; blocks = o .blocks; sectors = o .sectors }
-
-abbrev pub outcomeOf : Ending → Outcome
-outcomeOf e = outcomeWith (endOf e) (unitsOf (e .world))
-
 -- A chain that has come to its end: what is returned, and the world. Along the chain the records are in the world alone.
 pub record EndedIn (e : Ending) (w : World) (r : End) : Type 0 where
   pub result : r ≡ endOf e
-  pub world : w ≡ e .world
-
-pub record CameTo (e : Ending) (w : World) (r : Outcome) : Type 0 where
-  pub result : r ≡ outcomeOf e
   pub world : w ≡ e .world
 
 -- The allowance is within what the event buffer and the counts can hold.

@@ -15,16 +15,16 @@ ghost use mathlib.Core.Path.{_≡_};
 ghost use Prim.Native.Nat.{_+_, _*_, _≤_};
 ghost use lib.ListN.{length};
 ghost use Rattle.board.specs.Chain.{counted, endedOf, executed, fetched, nothing, ran};
-ghost use Rattle.board.specs.Steps.{CameTo, EndedIn, KnowsBoth, RanOne, Spare, SteppedOn, doneWith, nothingLearnt, outcomeWith, steppedOf, toldOf};
+ghost use Rattle.board.specs.Steps.{EndedIn, KnowsBoth, RanOne, Spare, SteppedOn, doneWith, nothingLearnt, steppedOf, toldOf};
 ghost use Rattle.block.specs.Block.{effectOn};
 ghost use Rattle.block.specs.Steps.{Did, Knows, BlockRoom, driveWith, three};
-ghost use Rattle.board.specs.Lent.{worldOf};
 ghost use Rattle.board.specs.Records.{unitIn, unitsIn};
 ghost use Rattle.iopb.specs.Layout.{blockAt};
 ghost use Rattle.wire.specs.Memory.{InMemory};
 ghost use Rattle.wire.specs.Promise.{Says};
 ghost use Rattle.answers.specs.declared.RunAnswer.{RunAnswer};
 ghost use Rattle.answers.specs.Numbers.{refusalNumber};
+ghost use Rattle.board.specs.Run.{CameTo, outcomeWith, worldOf};
 
 // What a block alone came to: the records that it left, what it told, and what it said of the next.
 pub struct Stepped {

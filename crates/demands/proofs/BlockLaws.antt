@@ -20,7 +20,7 @@ use Rattle.judge.proofs.Table.{answered-by-one-line, one-of, refused-before-tra
 use Rattle.unit.specs.Holding.{heldByOther}
 use Rattle.unit.specs.declared.UnitNumber.{UnitNumber}
 use Rattle.transfer.specs.Progress.{Progress}
-use Rattle.transfer.specs.Stores.{Stored, imageByte}
+use Rattle.transfer.specs.Stores.{imageByte}
 use Rattle.transfer.proofs.Marks.{no-mark-stored}
 use Rattle.transfer.proofs.Stops.{stopped-with, stops-before-the-first, unreadable-exactly}
 use Rattle.block.specs.Block.{Effect, judged, transferOf, wordsOf}
@@ -32,6 +32,7 @@ use Rattle.demands.proofs.Keeps.{block-keeps-events, block-keeps-host, 
 use Rattle.demands.proofs.Written.{data-disk, effect-is, event-written-exactly, host-written-exactly, image-written-exactly, sectors-come}
 use Rattle.unit.specs.Standing.{geometry, holder}
 use Rattle.board.specs.World.{driveOf}
+use Rattle.transfer.specs.Targets.{Stored}
 
 module _ (v : Visit) where
   -- ---- a block refused before transfer

@@ -12,7 +12,7 @@ use Rattle.answers.specs.declared.BlockAnswer.{BlockAnswer}
 use Rattle.answers.specs.declared.BlockAnswer.the-variants.{Ended, Failed}
 use Rattle.unit.specs.declared.UnitNumber.{UnitNumber}
 use Rattle.unit.specs.declared.UnitNumber.the-variants.{Zero, One}
-use Rattle.transfer.specs.Stores.{Buffers, Cell, Stored, after, eventByte, held, hostByte, imageByte}
+use Rattle.transfer.specs.Stores.{Buffers, Cell, after, eventByte, held, hostByte, imageByte}
 use Rattle.transfer.proofs.Stays.{lengths-stay, unstored-stays}
 use Rattle.wire.specs.Memory.{inMemory?}
 use Rattle.block.specs.Block.{Drive, Effect, heldUnit, holderLeft, judged, leftBy}
@@ -34,6 +34,7 @@ use Rattle.demands.proofs.Endings.{fetched-step, here, then, visits-ste
 use Rattle.board.proofs.Runs.{ran-chain}
 use Rattle.demands.proofs.RunAnswers.{not-passed}
 use Rattle.board.specs.World.{World, buffersOf, changed, driveOf, worldAfter}
+use Rattle.transfer.specs.Targets.{Stored}
 
 -- Every block of some does.
 abbrev Every : (Visit → Type 0) → List Visit → Type 0

@@ -22,7 +22,7 @@ use Rattle.geometry.specs.Sectors.{OnDrive, SectorByte, address, addressOf, fir
 use Rattle.geometry.specs.Sectors.SectorByte.{data-byte}
 use Rattle.geometry.proofs.Laws.{address-on-drive}
 use Rattle.spares.specs.declared.Track.{Track as OfADrive}
-use Rattle.unit.specs.Landing.{Bad, Meets, NoTwoInOnePlace, Reaches, TrackByte, landed, spotOf}
+use Rattle.unit.specs.Landing.{landed, spotOf}
 use Rattle.unit.specs.Standing.{CountsAsInitialized, UnitRecord, geometry}
 use Rattle.unit.proofs.Apart.{bad-never-reached, in-one-place-exactly, no-two-in-one-place, number-lands, track-lands}
 use Rattle.wire.specs.Memory.{Among}
@@ -33,7 +33,7 @@ use Rattle.judge.specs.declared.Verdict.the-variants.{Refused, Do}
 use Rattle.judge.specs.Asks.{asksHolder, numberThere, planOf}
 use Rattle.judge.specs.Fits.{MovingFits}
 use Rattle.judge.specs.Given.{Asked, beginsAt, on}
-use Rattle.judge.specs.Verdict.{byItsOwn, verdict}
+use Rattle.judge.specs.Verdict.{verdict}
 use Rattle.judge.proofs.LetThrough.{own-plan, plan-fits}
 use Rattle.judge.proofs.Tasks.{format-16, move-14, move-on, own-unless-held, start-nowhere}
 use Rattle.request.specs.declared.Move.{Move}
@@ -52,6 +52,8 @@ use Rattle.demands.proofs.Keeps.{block-keeps-image}
 use Rattle.demands.proofs.Tables.{reached-counts}
 use Rattle.demands.proofs.Written.{image-written-exactly}
 use Rattle.board.specs.World.{driveOf}
+use Rattle.judge.specs.Steps.{byItsOwn}
+use Rattle.unit.specs.Bytes.{Bad, Meets, NoTwoInOnePlace, Reaches, TrackByte}
 
 -- A place where an address that a block names lands, on a unit that counts as initialized.
 record Lands (a : Asked) (place : ℕ) : Type 0 where

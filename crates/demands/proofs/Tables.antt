@@ -37,7 +37,6 @@ use Rattle.request.specs.declared.Shape.the-variants.{Given, Misplaced}
 use Rattle.request.specs.declared.Task.{Task}
 use Rattle.request.specs.declared.Task.the-variants.{Initialize, Map}
 use Rattle.unit.specs.declared.UnitNumber.{UnitNumber}
-use Rattle.spares.specs.Table.{BlankPast}
 use Rattle.transfer.specs.Data.{dataOn, moveAt}
 use Rattle.transfer.specs.Progress.{progress}
 use Rattle.transfer.specs.Stores.{Store, bytesFrom, upTo}
@@ -53,6 +52,7 @@ use Rattle.demands.proofs.Fits.{leaving-fits}
 use Rattle.demands.proofs.Keeps.{block-keeps-drive, left-keeps, leftThen, named-record, run-hands, run-keeps, same-unit?, some-none, unit-left}
 use Rattle.demands.proofs.Written.{effect-is}
 use Rattle.board.specs.World.{World, driveOf}
+use Rattle.spares.specs.Lands.{BlankPast}
 
 -- ---- an 85
 

@@ -20,7 +20,7 @@ use Rattle.judge.specs.declared.Verdict.{Verdict}
 use Rattle.judge.specs.declared.Verdict.the-variants.{Refused, Do}
 use Rattle.transfer.specs.Data.{Transfer, dataOn, diskByte, moveAt, progressOn}
 use Rattle.transfer.specs.Progress.{progress}
-use Rattle.transfer.specs.Stores.{Buffers, Cell, Store, Stored, after, bytesFrom, eventByte, hostByte, imageByte, upTo}
+use Rattle.transfer.specs.Stores.{Buffers, Cell, Store, after, bytesFrom, eventByte, hostByte, imageByte, upTo}
 use Rattle.transfer.proofs.Stays.{append-stored, bytes-stored, image-stays, stored-of-append, stored-of-bytes, stored-of-upTo, unstored-stays, upTo-stored}
 use Rattle.transfer.proofs.Stores.{after-append}
 use Rattle.block.specs.Block.{Drive, Effect, Performance, Words, begun, effectOn, finish, finished, holding, judged, reported, transferOf, wordsOf}
@@ -29,6 +29,7 @@ use Rattle.demands.specs.Footprint.{WritesEvents, WritesHost, WritesImag
 use Rattle.demands.specs.Footprint.HostWritten.{moved, report, status-word}
 use Rattle.demands.specs.Visits.{Visit, blockOf, effectOf}
 use Rattle.board.specs.World.{effectAt}
+use Rattle.transfer.specs.Targets.{Stored}
 
 index : Cell → ℕ
 index (hostByte x) = x

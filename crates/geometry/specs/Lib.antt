@@ -1,3 +1,4 @@
+pub mod Answers
 pub mod Drive
 pub mod Limits
 pub mod Sectors

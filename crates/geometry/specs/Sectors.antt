@@ -6,13 +6,10 @@ use mathlib.Core.Path.{_≡_}
 use native.Mathlib.Decide.{decLt, map-dec}
 use Rattle.wire.specs.Memory.{Among}
 use Rattle.geometry.specs.declared.Address.{Address}
-use Rattle.geometry.specs.declared.Found.{Found}
 use Rattle.geometry.specs.declared.Geometry.{Geometry}
 use Rattle.geometry.specs.declared.Number.{Number}
-use Rattle.geometry.specs.declared.Place.{Place}
-use Rattle.geometry.specs.declared.Sector.{Sector}
 use Rattle.geometry.specs.declared.VolumeNumber.{VolumeNumber}
-use Rattle.geometry.specs.Drive.{B, C, N, S, driveHeads, driveSectors, end, marksAt, start, volume, volumeSectors}
+use Rattle.geometry.specs.Drive.{B, C, N, S, driveHeads, end, marksAt, start, volume}
 pub mod Inside
 
 -- An address: a cylinder, a head counted over the whole drive, a sector.
@@ -78,15 +75,5 @@ inVolume? g v c h s =
     map-dec (λ d. record { cylinder = d .0; head = d .1 .0; sector = d .1 .1 }) (λ i. (i .cylinder, (i .head, i .sector)))
     (Dec·and (decLt c (C g)) (Dec·and (decLt h (N (volume g v))) (decLt s (S g))))
 
--- What the functions answer: what was asked for, or that it is outside.
-unfoldable pub found : Geometry → VolumeNumber → ℕ → Found
-found g v n = ite (decLt n (volumeSectors g v)) (Found.At (addressOf g v n)) Found.Outside
-
 unfoldable pub numbered : Geometry → VolumeNumber → ℕ → ℕ → ℕ → Number
 numbered g v c h s = ite (inVolume? g v c h s) (Number.Is (numberOf g v c h s)) Number.Outside
-
-unfoldable pub placed : Geometry → Address → Place
-placed g a = ite (onDrive? g a) (Place.At (placeOf g a)) Place.Outside
-
-unfoldable pub sectorAt : Geometry → ℕ → Sector
-sectorAt g place = ite (decLt place (driveSectors g)) (Sector.At (firstByte g place) (markByte g place)) Sector.Outside

@@ -20,7 +20,6 @@ use Rattle.iopb.proofs.Answers.{shapeAt-inside}
 use Rattle.judge.specs.declared.Leaving.{Leaving}
 use Rattle.judge.specs.declared.Verdict.{Verdict}
 use Rattle.judge.specs.Asks.{only}
-use Rattle.judge.specs.Checks.{None}
 use Rattle.judge.proofs.EachTask.{passes-first}
 use Rattle.judge.proofs.First.{no-more}
 use Rattle.judge.proofs.Locality.{placed-uib-read}
@@ -45,6 +44,7 @@ use Rattle.independence.proofs.Linked.{Leads, by-second, done-both, lie
 use Rattle.independence.proofs.OneBlock.{In, by-block, done}
 use Rattle.independence.proofs.Tiny.{copies, counts, cylinder-0, read-of-one, read-stores, unit}
 use Rattle.board.specs.World.{World, buffersOf, changed, unitAt, worldAfter}
+use Rattle.judge.specs.Passed.{None}
 
 -- What a read of the first sector leaves, as the block after i others.
 abbrev readWorld : World → (at i buffer : ℕ) → World

@@ -10,7 +10,6 @@ use Rattle.wire.specs.Memory.{Among}
 use Rattle.answers.specs.declared.BlockAnswer.{BlockAnswer}
 use Rattle.answers.specs.declared.Refusal.{Refusal}
 use Rattle.judge.specs.Asks.{firstChecks, ownChecks}
-use Rattle.judge.specs.Checks.{None, before}
 use Rattle.judge.specs.Given.{Asked}
 use Rattle.judge.specs.Reads.{InList, InUib}
 use Rattle.request.specs.declared.Task.{Task}
@@ -22,6 +21,7 @@ use Rattle.demands.proofs.BlockLaws.{answer-24-exactly, refusal-moves-nothing, 
 use Rattle.demands.proofs.Written.{sectors-come}
 use Rattle.independence.specs.Reads.{ReadsHost}
 use Rattle.independence.specs.Reads.HostRead.{block, its-list, its-uib, moved}
+use Rattle.judge.specs.Passed.{None, before}
 
 module _ (a : Asked) (held : T (heldByOther (a .controller) (holder (a .unit)))) where
   no-uib : (at bytes x : ℕ) → InUib a at bytes x → ⊥

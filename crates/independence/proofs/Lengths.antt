@@ -21,12 +21,12 @@ use Rattle.iopb.specs.Ask.{shapeAt, taskOf}
 use Rattle.iopb.proofs.Answers.{shapeAt-inside, shapeAt-outside}
 use Rattle.iopb.proofs.Locality.{asked-by-87, task-apart}
 use Rattle.judge.specs.Asks.{checks, firstChecks, uibMisplaced}
-use Rattle.judge.specs.Checks.{None, before}
 use Rattle.judge.specs.Given.{Asked, BadPlace}
 use Rattle.judge.specs.Reads.{InList, InUib}
 use Rattle.judge.proofs.First.{none-of-all, none-of-parts}
 use Rattle.unit.specs.declared.Controller.{Controller}
 use Rattle.block.specs.Block.{Drive, asking}
+use Rattle.judge.specs.Passed.{None, before}
 
 no-shape-moves : {s : Shape} {m : Move} → Initialize s ≡ Moves m → ⊥
 no-shape-moves e = never cc

@@ -7,7 +7,8 @@ use mathlib.Core.Path.{_≡_, refl, sym, _∙_, ap}
 use native.Mathlib.Omega.{arith}
 use lib.ListN.{getD, length, length-set, set}
 use Rattle.wire.proofs.Promises.{never}
-use Rattle.transfer.specs.Stores.{Buffers, Cell, Store, Stored, Value, after, copyOf, eventByte, hostByte, imageByte, number, with, worth}
+use Rattle.transfer.specs.Stores.{Buffers, Cell, Store, Value, after, copyOf, eventByte, hostByte, imageByte, number, with, worth}
+use Rattle.transfer.specs.Targets.{Stored}
 
 -- Some store of a list takes its value from this byte of host memory.
 unfoldable pub Sourced : List Store → ℕ → Type 0

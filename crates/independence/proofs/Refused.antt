@@ -17,7 +17,6 @@ use Rattle.iopb.proofs.Answers.{shapeAt-outside}
 use Rattle.judge.specs.declared.Leaving.{Leaving}
 use Rattle.judge.specs.declared.Verdict.{Verdict}
 use Rattle.judge.specs.Asks.{firstChecks, only, ownChecks}
-use Rattle.judge.specs.Checks.{None, before}
 use Rattle.judge.specs.Reads.{InList, InUib}
 use Rattle.judge.proofs.First.{no-more}
 use Rattle.judge.proofs.Locality.{misplaced-uib-unread}
@@ -37,6 +36,7 @@ use Rattle.independence.proofs.Carried.{Alone, alone, comes-done, comes
 use Rattle.independence.proofs.OneBlock.{by-block}
 use Rattle.independence.proofs.Tiny.{counts, free, long-list-refused, moveBy, unit}
 use Rattle.board.specs.World.{World, unitAt}
+use Rattle.judge.specs.Passed.{None, before}
 
 -- A chain of one block that reads its 28 bytes and writes its word 1, and what it comes to.
 pub record Bare (w : World) (at : ℕ) (t : End) : Type 0 where

@@ -23,7 +23,7 @@ use Rattle.judge.specs.declared.Moving.{Moving}
 use Rattle.judge.specs.declared.Verdict.{Verdict}
 use Rattle.judge.specs.Given.{on}
 use Rattle.judge.specs.Asks.{carrying, jobOf, planOf}
-use Rattle.judge.specs.Verdict.{fromBuffer, verdict}
+use Rattle.judge.specs.Verdict.{verdict}
 use Rattle.judge.proofs.First.{no-more}
 use Rattle.judge.proofs.Tasks.{data-done, format-on, list-18, move-on, own, piece-done, span-covers, span-on}
 use Rattle.request.specs.declared.Buffer.{Buffer}
@@ -45,6 +45,7 @@ use Rattle.unit.specs.Landing.{spotOf, trackOf}
 use Rattle.unit.specs.Landing.Behind.{spotAt-is, spotOf-is, trackOf-is}
 use Rattle.unit.specs.Standing.{CountsAsInitialized, UnitRecord, fresh, holder, movedTo, noTracks}
 use Rattle.independence.specs.TwoChains.{shaped, tiny}
+use Rattle.judge.specs.Steps.{fromBuffer}
 
 -- A drive of two sectors, on two tracks or on one.
 module _ (cylinders sectors : ℕ) (sizes : SizesWithin (shaped cylinders sectors)) where

@@ -23,7 +23,6 @@ use Rattle.judge.specs.declared.Plan.{Plan}
 use Rattle.judge.specs.declared.Report.{Report}
 use Rattle.judge.specs.declared.Verdict.{Verdict}
 use Rattle.judge.specs.Asks.{only, plan, planOf}
-use Rattle.judge.specs.Checks.{None}
 use Rattle.judge.proofs.EachTask.{passes-first}
 use Rattle.judge.proofs.First.{no-more}
 use Rattle.judge.proofs.Locality.{placed-uib-read}
@@ -61,6 +60,7 @@ use Rattle.independence.proofs.OneBlock.{In, by-block, done, failed, le
 use Rattle.independence.proofs.Refused.{Bare, unready-unread}
 use Rattle.independence.proofs.Tiny.{counts, format-passes, heads-there, moveOf, place-is, starts-at, track, unit}
 use Rattle.board.specs.World.{World, buffersOf, changed, worldAfter}
+use Rattle.judge.specs.Passed.{None}
 
 abbrev first-of : Both → Visit
 first-of s = record { at = 0; index = 0; world = firstIn s }

@@ -7,7 +7,7 @@ use mathlib.Core.Path.{_≡_, refl, sym, _∙_, ap, subst}
 use lib.ListN.{getD, length}
 use Rattle.unit.specs.declared.UnitNumber.{UnitNumber}
 use Rattle.unit.specs.declared.UnitNumber.the-variants.{Zero, One}
-use Rattle.transfer.specs.Stores.{Buffers, Stored, after, held, hostByte}
+use Rattle.transfer.specs.Stores.{Buffers, after, held, hostByte}
 use Rattle.transfer.proofs.Stays.{lengths-stay, unstored-stays}
 use Rattle.block.specs.Block.{Effect}
 use Rattle.independence.specs.Local.{AgreeOn, LeadsAlike, Local, Step}
@@ -15,6 +15,7 @@ use Rattle.independence.specs.Worlds.{WorldCell, Touches, byte, disk, ev
 use Rattle.independence.proofs.Meets.{Meet, Sourced, stores-meet}
 use Rattle.unit.specs.Standing.{UnitRecord}
 use Rattle.board.specs.World.{World, buffersOf, changed, driveOf}
+use Rattle.transfer.specs.Targets.{Stored}
 
 -- Work on a world: the unit that it names, its effect on that unit's drive, what else it comes to, and the host bytes that it reads and
 -- writes, all from the world that it finds.

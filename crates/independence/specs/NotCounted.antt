@@ -10,11 +10,12 @@ use Rattle.wire.specs.Memory.{Among, InMemory}
 use Rattle.answers.specs.declared.RunAnswer.{RunAnswer}
 use Rattle.unit.specs.declared.UnitNumber.the-variants.{Zero}
 use Rattle.unit.specs.declared.Controller.the-variants.{First as FirstController}
-use Rattle.unit.specs.Standing.{fresh, noTracks, recordOf}
+use Rattle.unit.specs.Standing.{fresh, noTracks}
 use Rattle.independence.specs.Chains.{Both, Chain, HostReads, HostWrites, Names, Second, runOf}
 use Rattle.independence.specs.Demand3.{Independent}
 use Rattle.independence.specs.TwoChains.{block, come, comeBy, driveWith, firstIn, newDrive, ofFirst, ofSecond, one, scatter, secondIn, shaped, starting, startingOn, tiny, two}
 use Rattle.block.specs.Block.{Drive}
+use Rattle.unit.specs.Made.{recordOf}
 
 -- A restore of unit 1. It writes its word 1, bytes 30 and 31, and nothing else.
 abbrev pub restore : List ℕ

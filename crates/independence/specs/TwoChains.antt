@@ -14,11 +14,12 @@ use Rattle.geometry.specs.declared.Geometry.{Geometry}
 use Rattle.geometry.specs.Drive.{geometryOf, volumeOf}
 use Rattle.unit.specs.declared.Controller.{Controller}
 use Rattle.unit.specs.declared.Controller.the-variants.{First as FirstController}
-use Rattle.unit.specs.Standing.{fresh, noTracks, recordOf}
+use Rattle.unit.specs.Standing.{fresh, noTracks}
 use Rattle.independence.specs.Chains.{Both, Chain, First, HostReads, HostWrites, Second, runOf, worldFor}
 use Rattle.independence.specs.Demand3.{EitherWay, Independent, NoUnitInCommon, NoByteReadByOther, NoByteWrittenByBoth}
 use Rattle.block.specs.Block.{Drive}
 use Rattle.board.specs.World.{World}
+use Rattle.unit.specs.Made.{recordOf}
 
 -- One head, and so many cylinders with so many sectors of 64 bytes each. The pairs have two cylinders with one sector; an image has 130 bytes, of
 -- which the last two are the marks.

@@ -19,12 +19,13 @@ use Rattle.wire.proofs.Memory.{range-same}
 use Rattle.judge.specs.declared.Plan.{Plan}
 use Rattle.judge.specs.declared.Verdict.{Verdict}
 use Rattle.judge.specs.Asks.{firstChecks, beforeBuffer, bytesOf, checks, dataMisplaced, ofBuffer, ownChecks}
-use Rattle.judge.specs.Checks.{Check, None, before, first}
+use Rattle.judge.specs.Checks.{Check, first}
 use Rattle.judge.specs.Given.{Asked, on}
 use Rattle.judge.specs.Reads.{InList}
 use Rattle.judge.proofs.First.{early, none?, pass, skip, stop}
 use Rattle.unit.specs.declared.Controller.{Controller}
 use Rattle.unit.specs.Standing.{UnitRecord}
+use Rattle.judge.specs.Passed.{None, before}
 
 -- ---- two lists of checks
 

@@ -28,7 +28,7 @@ use Rattle.wire.specs.Memory.{inMemory?}
 use Rattle.judge.specs.declared.Leaving.{Leaving}
 use Rattle.judge.specs.declared.Verdict.{Verdict}
 use Rattle.judge.specs.Asks.{asksHolder, beforeBuffer, bytesOf, driveHeld, firstChecks, numberThere, imageShort, jobOf, notInitialized, ofBuffer, ownChecks, planOf, trackOutside, unlisted}
-use Rattle.judge.specs.Checks.{None, first}
+use Rattle.judge.specs.Checks.{first}
 use Rattle.judge.specs.Decided.{covers?, hasTracks?}
 use Rattle.judge.specs.Fits.{SpanGood}
 use Rattle.judge.specs.Given.{Asked, badNumber, beginsAt, on, spareNumber}
@@ -38,6 +38,7 @@ use Rattle.judge.specs.Verdict.{verdict}
 use Rattle.judge.proofs.Known.{Accepted, covered, good-buffer, has-number, heads-only, seek-inside, so}
 use Rattle.judge.proofs.Buffers.{after-the-same, before-list, same-buffer, same-range}
 use Rattle.judge.proofs.First.{none-of-all, numbersOf, skip, stop}
+use Rattle.judge.specs.Passed.{None}
 
 -- ---- what is asked
 

@@ -13,10 +13,12 @@ use Rattle.wire.proofs.Promises.{never as impossible}
 use Rattle.judge.specs.declared.Plan.{Plan}
 use Rattle.judge.specs.declared.Verdict.{Verdict}
 use Rattle.judge.specs.Asks.{firstChecks}
-use Rattle.judge.specs.Checks.{Check, None, first}
+use Rattle.judge.specs.Checks.{Check, first}
 use Rattle.judge.specs.Given.{Asked}
 use Rattle.judge.specs.Table.{oneOf}
-use Rattle.judge.specs.Verdict.{byItsOwn, verdict}
+use Rattle.judge.specs.Verdict.{verdict}
+use Rattle.judge.specs.Steps.{byItsOwn}
+use Rattle.judge.specs.Passed.{None}
 
 pub skip : (k : Check) (ks : List Check) (p : Plan) → (k .Given → ⊥) → first (k ∷ ks) p ≡ first ks p
 unfolding first

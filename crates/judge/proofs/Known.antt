@@ -34,11 +34,12 @@ use Rattle.judge.specs.declared.Report.{Report}
 use Rattle.judge.specs.declared.Report.the-variants.{Nothing, Identity, Formatted}
 use Rattle.judge.specs.declared.Verdict.{Verdict}
 use Rattle.judge.specs.Asks.{numberThere, ofBuffer, only}
-use Rattle.judge.specs.Checks.{Check, None, first}
+use Rattle.judge.specs.Checks.{Check, first}
 use Rattle.judge.specs.Fits.{BufferGood, LeavingFits, PlanFits}
 use Rattle.judge.specs.Given.{Asked, Covers, HasTrack, on}
 use Rattle.judge.specs.Reads.{InList}
 use Rattle.judge.proofs.First.{done, skip, stop}
+use Rattle.judge.specs.Passed.{None}
 
 no-refusal : {r : Refusal} {p : Plan} → Verdict.Refused r ≡ Verdict.Do p → ⊥
 no-refusal e = impossible cc

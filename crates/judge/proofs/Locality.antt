@@ -19,7 +19,6 @@ use Rattle.request.specs.declared.Task.{Task}
 use Rattle.request.specs.declared.Task.the-variants.{Move as Moves, Initialize}
 use Rattle.wire.specs.Memory.{Among}
 use Rattle.judge.specs.Asks.{firstChecks, checks, ownChecks, uibMisplaced}
-use Rattle.judge.specs.Checks.{None, before}
 use Rattle.judge.specs.Given.{Asked, BadPlace, on}
 use Rattle.judge.specs.Reads.{InList, InUib}
 use Rattle.judge.specs.Verdict.{verdict}
@@ -27,6 +26,7 @@ use Rattle.judge.proofs.First.{early, none-of-all, none-of-parts, none?
 use Rattle.unit.specs.declared.Controller.{Controller}
 use Rattle.unit.specs.Standing.{UnitRecord}
 use Rattle.judge.proofs.EachTask.{verdict-local}
+use Rattle.judge.specs.Passed.{None, before}
 
 module _ (c : Controller) (u : UnitRecord) (image : ℕ) (h k : List ℕ) (long : length h ≡ length k) where
   -- ---- the verdict on a block

@@ -18,9 +18,9 @@ use Rattle.request.specs.declared.Move.{Move}
 use Rattle.request.specs.declared.Task.{Task}
 use Rattle.judge.specs.declared.Standing.{Standing}
 use Rattle.judge.specs.Asks.{beforeBuffer}
-use Rattle.judge.specs.Checks.{None}
 use Rattle.judge.specs.Decided.{covers?}
 use Rattle.judge.specs.Given.{Covers, asked, beginsAt}
+use Rattle.judge.specs.Passed.{None}
 
 -- A sector of a transfer: in its volume, its bytes and its mark in the image.
 pub record Reachable (u : UnitRecord) (image : ℕ) (v : VolumeNumber) (n : ℕ) : Type 0 where

@@ -31,11 +31,12 @@ use Rattle.judge.specs.declared.Moving.{Moving}
 use Rattle.judge.specs.declared.Report.{Report}
 use Rattle.judge.specs.declared.Verdict.{Verdict}
 use Rattle.judge.specs.Asks.{asksHolder, carrying, jobOf, ofUnit, only, plan, planOf, unlisted}
-use Rattle.judge.specs.Checks.{None}
 use Rattle.judge.specs.Given.{Asked, Covers, HasTrack, HasTracks, badNumber, beginsAt, on, spareNumber}
-use Rattle.judge.specs.Verdict.{byItsOwn, fromAddress, fromBuffer, fromData, fromImage, fromSectors, fromTable, verdict}
+use Rattle.judge.specs.Verdict.{verdict}
 use Rattle.judge.proofs.EachTask.{asked-is-listed, passes-first, stopped-by-holder}
 use Rattle.judge.proofs.First.{done, no-more, on-its-own, pass, skip, stop}
+use Rattle.judge.specs.Steps.{byItsOwn, fromAddress, fromBuffer, fromData, fromImage, fromSectors, fromTable}
+use Rattle.judge.specs.Passed.{None}
 
 not-held : (asks held : Bool) → T asks → asks && held ≡ false → held ≡ false
 not-held true held asks is = is

@@ -3,6 +3,8 @@ pub mod Checks
 pub mod Decided
 pub mod Fits
 pub mod Given
+pub mod Passed
 pub mod Reads
+pub mod Steps
 pub mod Table
 pub mod Verdict

@@ -31,7 +31,7 @@ ghost use Rattle.geometry.specs.Drive.{B, S, need, volume, volumeSectors};
 ghost use Rattle.geometry.specs.Limits.{Present};
 ghost use Rattle.judge.specs.Given.{HasTrack, HasTracks, asked, startNumber, on};
 ghost use Rattle.judge.specs.Asks.{asksHolder, carrying, jobOf, only, plan};
-ghost use Rattle.judge.specs.Verdict.{Begins, byItsOwn, fromAddress, fromBuffer, fromData, fromImage, fromSectors, fromTable, verdict};
+ghost use Rattle.judge.specs.Verdict.{verdict};
 ghost use Rattle.judge.specs.declared.Leaving.{Leaving};
 ghost use Rattle.judge.specs.declared.Moving.{Moving};
 ghost use Rattle.judge.specs.declared.Report.{Report};
@@ -41,7 +41,9 @@ ghost use Rattle.wire.specs.Promise.{Says};
 ghost use Rattle.unit.specs.declared.Controller.{Controller};
 ghost use Rattle.unit.specs.Holding.{heldByOther};
 ghost use Rattle.unit.specs.Landing.{trackOf};
-ghost use Rattle.unit.specs.Standing.{CountsAsInitialized, UnitRecord, bare, geometry, holder, unitOf};
+ghost use Rattle.unit.specs.Standing.{CountsAsInitialized, UnitRecord, geometry, holder, unitOf};
+ghost use Rattle.judge.specs.Steps.{Begins, byItsOwn, fromAddress, fromBuffer, fromData, fromImage, fromSectors, fromTable};
+ghost use Rattle.unit.specs.Made.{bare};
 
 // What is judged of a unit beside the task: its record, whether that counts as initialized, how long its image is, and which controller asks.
 // Whoever runs several blocks has asked the second once: a table of many pairs is long to look through.

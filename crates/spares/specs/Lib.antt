@@ -1,2 +1,3 @@
+pub mod Lands
 pub mod Table
 pub mod Tracks

@@ -5,7 +5,7 @@ use mathlib.Core.List.{List}
 use mathlib.Core.Logic.{ite, Dec·and}
 use mathlib.Core.Path.{_≡_}
 use native.Mathlib.Decide.{decLt, map-dec, ℕ-discrete}
-use lib.ListN.{getD, length, set, take}
+use lib.ListN.{getD, length, set}
 use Rattle.geometry.specs.declared.Geometry.{Geometry}
 use Rattle.spares.specs.declared.Served.{Served}
 use Rattle.spares.specs.declared.Served.the-variants.{Itself, By}
@@ -63,23 +63,6 @@ served g n ts t = servedFrom g ts 0 (min n 32) t
 -- The same of a cylinder and a head. From head 256 on no number stands for a track, and no table has it.
 abbrev pub servedAt : Geometry → ℕ → List ℕ → ℕ → ℕ → Served
 servedAt g n ts c h = ite (decLt h 256) (served g n ts (trackNumber c h)) Itself
-
--- The number of the track that a track lands on.
-abbrev pub numberServing : ℕ → Served → ℕ
-numberServing t Itself = t
-numberServing t (By k) = trackNumber (k .cylinder) (k .head)
-
-abbrev pub landsOn : Geometry → ℕ → List ℕ → ℕ → ℕ
-landsOn g n ts t = numberServing t (served g n ts t)
-
--- The tracks of the pairs that count; past them a table may hold anything.
-abbrev pub counted : ℕ → List ℕ → List ℕ
-counted n ts = take (2 * min n 32) ts
-
--- Past the pairs that count there is nothing but zeros: so is a table that was cleared and got its pairs one after the other.
-pub record BlankPast (n : ℕ) (ts : List ℕ) : Type 0 where
-  pub long : length ts ≡ 64
-  pub blank : (i : ℕ) → 2 * min n 32 ≤ i → getD ts i 0 ≡ 0
 
 -- One pair more after the n of a table, and how many there are then: where there is room, and else as it was.
 abbrev pub onePairMore : ℕ → ℕ

@@ -12,13 +12,11 @@ use lib.Seq.{getD-drop, getD-take, length-take-le, sets-eq}
 use Rattle.answers.specs.Numbers.{runNumber}
 use Rattle.board.specs.declared.chain.Outcome.{Outcome}
 use Rattle.board.specs.Chain.{Ending, ends, ran}
-use Rattle.board.specs.Steps.{CameTo}
 use Rattle.unit.specs.declared.Controller.the-variants.{First}
-use Rattle.board.specs.Lent.{worldOf}
 use Rattle.demands.proofs.RunAnswers.{blocks-within-the-allowance}
 use Rattle.board.proofs.Runs.{ran-allowance-bad}
 use Rattle.wire.specs.Copy.{copied}
-use Rattle.wire.specs.Words.{be32, written}
+use Rattle.wire.specs.Words.{be32}
 use Rattle.wire.proofs.Laws.{word-same}
 use Rattle.transcript.specs.declared.State.{State}
 use Rattle.transcript.specs.Session.{Held, bytesIn, endingOf, heard, longOf, runHeard}
@@ -26,6 +24,8 @@ use Rattle.transcript.specs.Steps.{Appended, Fits, SessionLent, SessionR
 use Rattle.transcript.specs.Text.{blockLines, runLine}
 use Rattle.transcript.proofs.Texts.{block-lines-short, put-then, run-line-short}
 use Rattle.board.specs.World.{World}
+use Rattle.board.specs.Run.{CameTo, worldOf}
+use Rattle.wire.specs.Storing.{written}
 
 -- ---- the start of a buffer
 

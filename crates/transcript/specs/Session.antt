@@ -7,11 +7,11 @@ use native.Mathlib.Decide.{decLe, map-dec, ℕ-discrete}
 use lib.ListN.{drop, getD, length, replicate, take}
 use Rattle.wire.specs.Words.{be16, be32}
 use Rattle.unit.specs.declared.Controller.the-variants.{First}
-use Rattle.unit.specs.Standing.{blank}
 use Rattle.answers.specs.Numbers.{runNumber}
 use Rattle.board.specs.Chain.{Ending, ran}
 use Rattle.transcript.specs.Text.{blockLines, refusalLine, runLine}
 use Rattle.block.specs.Block.{Drive}
+use Rattle.unit.specs.Made.{blank}
 
 -- "What a run leaves in memory, images and unit records is there for the next."
 pub record Held : Type 0 where

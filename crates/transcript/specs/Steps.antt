@@ -13,7 +13,7 @@ use Rattle.transcript.specs.declared.Said.{Said}
 use Rattle.transcript.specs.declared.State.{State}
 use Rattle.transcript.specs.Session.{Held, Heard, bytesIn, field?, heard, longOf, opening?, tagOf}
 use Rattle.transcript.specs.Text.{refusalLine}
-use Rattle.wire.specs.Words.{written}
+use Rattle.wire.specs.Storing.{written}
 
 -- The most that a length may be, the room that the lines of a run may want, and the most bytes that a field has in all.
 abbrev pub mostBytes : ℕ

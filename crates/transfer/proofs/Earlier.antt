@@ -17,13 +17,14 @@ use Rattle.unit.specs.declared.Spot.{Spot}
 use Rattle.unit.specs.Standing.{UnitRecord, geometry}
 use Rattle.transfer.specs.Data.{Transfer, dataOn, diskByte, formatting, move, moving, placeFrom, progressOn}
 use Rattle.transfer.specs.Progress.{Progress, stopsAt, whole}
-use Rattle.transfer.specs.Stores.{Buffers, Cell, Store, Stored, after, copyOf, eventByte, held, hostByte, imageByte, upTo, with}
+use Rattle.transfer.specs.Stores.{Buffers, Cell, Store, after, copyOf, eventByte, held, hostByte, imageByte, upTo, with}
 use Rattle.transfer.proofs.Marks.{moving-on-drive}
 use Rattle.transfer.proofs.Progress.{progress-most}
 use Rattle.transfer.proofs.Stays.{events-stay, host-stays, image-stays, lengths-stay, stored-of-upTo, unstored-stays}
 use Rattle.transfer.proofs.Stops.{whole-unheeding}
 use Rattle.transfer.proofs.Stores.{after-add, after-more}
 use Rattle.transfer.proofs.Wholes.{bytes-held, some-bytes}
+use Rattle.transfer.specs.Targets.{Stored}
 
 -- ---- copies in a row
 

@@ -16,10 +16,11 @@ use Rattle.unit.proofs.Laws.{spot-inside}
 use Rattle.unit.specs.Standing.{UnitRecord, geometry}
 use Rattle.transfer.specs.Data.{Transfer, dataOn, diskByte, formatting, move, moveAt, moving, progressOn}
 use Rattle.transfer.specs.Progress.{stopsAt}
-use Rattle.transfer.specs.Stores.{Buffers, Stored, after, held, imageByte}
+use Rattle.transfer.specs.Stores.{Buffers, after, held, imageByte}
 use Rattle.transfer.proofs.Progress.{Counts, progress-counts, progress-most}
 use Rattle.transfer.proofs.Stays.{stored-of-upTo, unstored-stays}
 use Rattle.transfer.proofs.Wholes.{some-bytes}
+use Rattle.transfer.specs.Targets.{Stored}
 
 -- Every sector of a transfer stands on its drive.
 abbrev pub StandsOnDrive : Transfer → Type 0

@@ -10,7 +10,8 @@ use native.Mathlib.Omega.{arith}
 use lib.ListN.{length, length-set}
 use lib.Seq.{ext-getD, getD-set-other, sets}
 use Rattle.wire.specs.Memory.{Among}
-use Rattle.transfer.specs.Stores.{Buffers, Cell, Store, Stored, after, bytesFrom, eventByte, held, hostByte, imageByte, upTo, with, worth}
+use Rattle.transfer.specs.Stores.{Buffers, Cell, Store, after, bytesFrom, eventByte, held, hostByte, imageByte, upTo, with, worth}
+use Rattle.transfer.specs.Targets.{Stored}
 
 -- ---- bytes in a row
 

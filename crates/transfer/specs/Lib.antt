@@ -4,5 +4,6 @@ pub mod Progress
 pub mod Runs
 pub mod SameSectors
 pub mod Stores
+pub mod Targets
 pub mod Unreadable
 pub mod Whole

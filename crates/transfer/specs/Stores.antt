@@ -1,8 +1,6 @@
 -- What a block does, as byte stores in order (01, One run; 02, K14: "Each step stores one byte").
 use Prim.Native.Nat.{ℕ, zero, suc, _+_}
 use mathlib.Core.List.{List, [], _∷_, _++_}
-use mathlib.Core.Logic.{_⊎_}
-use mathlib.Core.Path.{_≡_}
 use lib.ListN.{getD, set}
 
 -- What a block works on: host memory, its unit's image, the event buffer.
@@ -44,11 +42,6 @@ with m (eventByte x) n = record { host = m .host; image = m .image; events = set
 unfoldable pub after : List Store → Buffers → Buffers
 after [] m = m
 after (s ∷ ss) m = after ss (with m (s .to) (worth m (s .value)))
-
--- Some store of a list has this cell as its target.
-unfoldable pub Stored : List Store → Cell → Type 0
-Stored [] c = ⊥
-Stored (s ∷ ss) c = (s .to ≡ c) ⊎ Stored ss c
 
 -- The stores 0 to n - 1 of a sequence.
 unfoldable pub upTo : ℕ → (ℕ → Store) → List Store

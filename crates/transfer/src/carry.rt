@@ -11,7 +11,8 @@ ghost use Rattle.geometry.specs.Drive.{B};
 ghost use Rattle.transfer.specs.Runs.{Carried, CarryFits, InImage, On, PiecesFit, Ready, Spans, advanced, behind, fillStore, lent, spanBytes, spanStores};
 ghost use Rattle.transfer.specs.Stores.{after, upTo};
 ghost use Rattle.wire.specs.Copy.{copied};
-ghost use Rattle.unit.specs.Standing.{bare, geometry, unitOf};
+ghost use Rattle.unit.specs.Standing.{geometry, unitOf};
+ghost use Rattle.unit.specs.Made.{bare};
 
 // Where a transfer stands on the disk: the image's byte, how many bytes follow in a row, and the sectors done with them.
 pub(crate) struct Cursor {

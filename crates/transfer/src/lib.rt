@@ -16,7 +16,8 @@ ghost use Rattle.transfer.specs.Runs.{PiecesFit, lent};
 ghost use Rattle.transfer.specs.Stores.{after};
 ghost use Rattle.transfer.specs.Whole.{SectorsFit, TrackFits, sectorsResult, trackResult};
 ghost use Rattle.wire.specs.Promise.{Says};
-ghost use Rattle.unit.specs.Standing.{bare, geometry, unitOf};
+ghost use Rattle.unit.specs.Standing.{geometry, unitOf};
+ghost use Rattle.unit.specs.Made.{bare};
 
 mod carry;
 mod reach;

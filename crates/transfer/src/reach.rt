@@ -13,7 +13,8 @@ ghost use Prim.Native.Nat.{_+_, _≤_, _<_, min};
 ghost use lib.ListN.{length};
 ghost use Rattle.geometry.specs.Drive.{driveSectors, need, volumeSectors};
 ghost use Rattle.transfer.specs.Runs.{Advanced, Readable, RunAt, Spans, inARow, progressFrom, reached, rowOf};
-ghost use Rattle.unit.specs.Standing.{bare, geometry, unitOf};
+ghost use Rattle.unit.specs.Standing.{geometry, unitOf};
+ghost use Rattle.unit.specs.Made.{bare};
 
 // A run of sectors that follow one another in the image.
 pub(crate) struct Run {

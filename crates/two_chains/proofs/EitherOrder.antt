@@ -4,8 +4,6 @@ use mathlib.Core.Path.{_≡_, sym, ap, _∙_}
 use denote.Ref.{now}
 use Rattle.board.specs.declared.chain.Outcome.{Outcome}
 use Rattle.board.specs.Chain.{Ending, endOf, ran}
-use Rattle.board.specs.Lent.{worldOf}
-use Rattle.board.specs.Steps.{CameTo, endIn}
 use Rattle.board.specs.World.{World}
 use Rattle.board.proofs.run.Reads as run
 use Rattle.independence.specs.Chains.{Both, Chain, First, Second, Which, leaving, runOf, worldFor}
@@ -14,6 +12,7 @@ use Rattle.two_chains.specs.EitherOrder.{BothAsked, OrdersAlike, RunAske
 use Rattle.two_chains.specs.Orders.{bothOf, chainOf, ranBoth, ranBothOf}
 use Rattle.two_chains.proofs.Orders.{orders-are-one}
 use Rattle.two_chains.proofs.run_both.Reads as run-both
+use Rattle.board.specs.Run.{CameTo, endIn, worldOf}
 
 run-both-in-either-order :
     OrdersAlike run-both.Post

@@ -7,8 +7,6 @@ use Rattle.board.specs.declared.chain.End.{End}
 use Rattle.board.specs.declared.Units.{Units}
 use Rattle.board.specs.declared.chain.Outcome.{Outcome}
 use Rattle.board.specs.Chain.{endOf, ran}
-use Rattle.board.specs.Steps.{CameTo, endIn}
-use Rattle.board.specs.Lent.{worldOf}
 use Rattle.two_chains.specs.declared.Order.{Order}
 use Rattle.two_chains.specs.declared.Order.the-variants.{FirstThenSecond, SecondThenFirst}
 use Rattle.two_chains.specs.declared.Twice.{Twice}
@@ -18,6 +16,7 @@ use Rattle.independence.specs.Chains.{Both, Chain, First, Second, Which, leavin
 use Rattle.independence.specs.Demand3.{EitherWay, Independent}
 use Rattle.two_chains.specs.Orders.{IsRunOf, RanBoth, RanOne, lentTo, ranBoth, ranBothOf, ranOne, ranOneOf}
 use Rattle.independence.proofs.Demand3.{either-way, first-same, left-same, second-same}
+use Rattle.board.specs.Run.{CameTo, endIn, worldOf}
 
 -- A call is the run of its chain: the memory of its controller is the one that was lent to it, and the other stays.
 -- The cases say no more than which fields these are.

@@ -2,7 +2,6 @@
 use Prim.Native.Nat.{ℕ}
 use mathlib.Core.List.{List}
 use mathlib.Core.Path.{_≡_}
-use Rattle.board.specs.Steps.{endIn}
 use Rattle.board.specs.declared.chain.End.{End}
 use Rattle.unit.specs.Standing.{unitOf}
 use Rattle.board.specs.declared.Units.{Units}
@@ -12,6 +11,7 @@ use Rattle.two_chains.specs.declared.Order.{Order}
 use Rattle.two_chains.specs.declared.Order.the-variants.{FirstThenSecond, SecondThenFirst}
 use Rattle.two_chains.specs.declared.Twice.{Twice}
 use Rattle.independence.specs.Chains.{Both, Chain, First, Second, Which, runOf}
+use Rattle.board.specs.Run.{endIn}
 
 -- What a caller lends: the memory of each controller, the two drives that they share, and an event buffer for each chain.
 abbrev pub bothOf : (host1 host2 image0 image1 events1 events2 tracks0 tracks1 : List ℕ) → Units → Both

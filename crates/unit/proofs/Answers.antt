@@ -11,18 +11,20 @@ use Rattle.geometry.specs.declared.Geometry.{Geometry}
 use Rattle.geometry.specs.declared.Place.{Place}
 use Rattle.geometry.specs.declared.VolumeNumber.{VolumeNumber}
 use Rattle.geometry.specs.Drive.{S, volumeSectors}
-use Rattle.geometry.specs.Sectors.{OnDrive, address, found, onDrive?, placed}
+use Rattle.geometry.specs.Sectors.{OnDrive, address, onDrive?}
 use Rattle.geometry.proofs.Answers.{at-found, at-placed, no-address, no-place}
 use Rattle.geometry.proofs.Laws.{address-on-drive}
 use Rattle.unit.specs.declared.Landing.{Landing}
 use Rattle.wire.proofs.Promises.{never}
 use Rattle.unit.specs.declared.Spot.{Spot}
-use Rattle.unit.specs.Landing.{landed, landing, landingAt, onto, spotAt, spotOf, spotted, trackLanding, trackOf}
+use Rattle.unit.specs.Landing.{landed, onto, spotAt, spotOf, trackOf}
 use Rattle.unit.specs.Landing.Behind.{landed-is, spotAt-is, spotOf-is, trackOf-is}
 use Rattle.unit.specs.Standing.{UnitRecord, geometry, pairs, table}
 use Rattle.unit.proofs.Laws.{landed-on-drive}
 use Rattle.spares.specs.declared.Served.{Served}
 use Rattle.spares.specs.Table.{servedAt}
+use Rattle.unit.specs.Answers.{landing, landingAt, spotted, trackLanding}
+use Rattle.geometry.specs.Answers.{found, placed}
 
 pub spotted-inside : (g : Geometry) (a : Address) → OnDrive g a → spotted g a ≡ Landing.At (spotAt g a)
 unfolding spotted

@@ -10,9 +10,9 @@ use Rattle.geometry.proofs.Decided.{within?}
 use Rattle.geometry.proofs.Same as Geometries
 use Rattle.spares.proofs.Decided.{good?}
 use Rattle.unit.specs.declared.Record.{Record}
-use Rattle.unit.specs.Holding.{holderNumber}
 use Rattle.unit.specs.Standing.{CountsAsInitialized, UnitRecord, byValue, cylinder, geometry, heldOf, initialized, pairs, table, unitOf, withHolder}
 use Rattle.unit.proofs.Holders.{holders-differ}
+use Rattle.unit.specs.HolderNumbers.{holderNumber}
 
 pub counts? : (u : UnitRecord) → Dec (CountsAsInitialized u)
 counts? u =

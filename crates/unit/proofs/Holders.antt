@@ -2,7 +2,7 @@
 use mathlib.Core.Path.{_≡_, refl, sym, ap, _∙_}
 use Rattle.unit.specs.declared.Holder.{Holder}
 use Rattle.unit.specs.declared.Holder.the-variants.{Nobody, TheFirst, TheSecond}
-use Rattle.unit.specs.Holding.{holderNumber, holderOf}
+use Rattle.unit.specs.HolderNumbers.{holderNumber, holderOf}
 
 pub holder-back : (h : Holder) → holderOf (holderNumber h) ≡ h
 unfolding holderOf

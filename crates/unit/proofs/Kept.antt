@@ -9,11 +9,12 @@ use lib.ListN.{getD, getD-replicate, List·getD-eq-default}
 use Rattle.geometry.specs.declared.Geometry.{Geometry}
 use Rattle.geometry.specs.Drive.{C}
 use Rattle.geometry.specs.Limits.{Within}
-use Rattle.spares.specs.Table.{BlankPast, Free, Good, withPair}
+use Rattle.spares.specs.Table.{Free, Good, withPair}
 use Rattle.spares.specs.Tracks.{TrackOn}
 use Rattle.spares.proofs.Adding.{blank-past-the-pair, stays-good}
 use Rattle.spares.proofs.Laws.{empty-is-good}
 use Rattle.unit.specs.Standing.{CountsAsInitialized, UnitRecord, fresh, geometry, mapped, movedTo, noTracks, pairs, table}
+use Rattle.spares.specs.Lands.{BlankPast}
 
 pub fresh-counts : (g : Geometry) → Within g → CountsAsInitialized (fresh g)
 fresh-counts g within =

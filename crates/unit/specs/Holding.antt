@@ -1,7 +1,5 @@
 -- Who holds a drive that two controllers share (02, K10).
-use Prim.Native.Nat.{ℕ}
-use mathlib.Core.Bool.{Bool, true, false, cond}
-use lib.Dec.{eqb}
+use mathlib.Core.Bool.{Bool, true, false}
 use Rattle.unit.specs.declared.Controller.{Controller}
 use Rattle.unit.specs.declared.Controller.the-variants.{First, Second}
 use Rattle.unit.specs.declared.Holder.{Holder}
@@ -26,13 +24,3 @@ heldByOther Second TheSecond = false
 abbrev pub reservedBy : Controller → (reserve : Bool) → Holder
 reservedBy c true = asHolder c
 reservedBy c false = Nobody
-
--- "A holder field says none, first or second": each has a number.
-abbrev pub holderNumber : Holder → ℕ
-holderNumber Nobody = 0
-holderNumber TheFirst = 1
-holderNumber TheSecond = 2
-
--- The holder with a number; any other number is nobody's.
-unfoldable pub holderOf : ℕ → Holder
-holderOf n = cond (eqb n 1) TheFirst (cond (eqb n 2) TheSecond Nobody)

@@ -1,3 +1,7 @@
+pub mod Answers
+pub mod Bytes
+pub mod HolderNumbers
 pub mod Holding
 pub mod Landing
+pub mod Made
 pub mod Standing

@@ -1,11 +1,11 @@
 -- The unit record and when it counts as initialized (01, Geometry; 02, K5 and K10).
 use Prim.Native.Nat.{ℕ, _<_}
-use mathlib.Core.Bool.{Bool, false, true}
-use mathlib.Core.List.{List, []}
+use mathlib.Core.Bool.{Bool, true}
+use mathlib.Core.List.{List}
 use mathlib.Core.Path.{_≡_}
 use lib.ListN.{replicate}
 use Rattle.geometry.specs.declared.Geometry.{Geometry}
-use Rattle.geometry.specs.Drive.{C, geometryOf, volumeOf}
+use Rattle.geometry.specs.Drive.{C}
 use Rattle.geometry.specs.Limits.{Within}
 use Rattle.spares.specs.Table.{Good, onePairMore, withPair}
 use Rattle.unit.specs.declared.Holder.{Holder}
@@ -46,17 +46,10 @@ unitOf r ts = record { held = r; tracks = ts }
 abbrev pub byValue : UnitRecord → Record
 byValue u = u .held
 
--- What goes by value alone, for whoever asks it what no table tells. Without a table it never counts as initialized.
-abbrev pub bare : Record → UnitRecord
-bare r = unitOf r []
-
 -- A record from what it is to say, with nobody holding the drive; a holder is put in by withHolder.
 abbrev pub heldOf : Bool → Geometry → ℕ → ℕ → Record
 heldOf initialized geometry cylinder pairs =
     record { initialized = initialized; geometry = geometry; cylinder = cylinder; pairs = pairs; holder = Nobody }
-
-abbrev pub recordOf : Bool → Geometry → ℕ → ℕ → List ℕ → UnitRecord
-recordOf initialized geometry cylinder pairs ts = unitOf (heldOf initialized geometry cylinder pairs) ts
 
 -- A table without pairs.
 abbrev pub noTracks : List ℕ
@@ -91,13 +84,6 @@ moreHeld r = withHolder (heldOf (r .initialized) (r .geometry) (r .cylinder) (on
 
 abbrev pub mapped : UnitRecord → (bad spare : ℕ) → UnitRecord
 mapped u bad spare = unitOf (moreHeld (u .held)) (withPair (pairs u) (table u) bad spare)
-
--- A unit of which nothing is said.
-abbrev pub nothingSaid : Record
-nothingSaid = heldOf false (geometryOf 0 0 0 (volumeOf 0 0) (volumeOf 0 0)) 0 0
-
-abbrev pub blank : UnitRecord
-blank = unitOf nothingSaid noTracks
 
 -- A record that says so counts as initialized, but not "with a geometry outside the limits, or a cylinder of C or more", nor with a table that is
 -- not good (02, K5). Who holds the drive is not asked.

@@ -14,10 +14,13 @@ ghost use Prim.Native.Nat.{_<_};
 ghost use Rattle.geometry.specs.Drive.{C};
 ghost use Rattle.geometry.specs.Sectors.{OnDrive};
 ghost use Rattle.spares.specs.Table.{Good};
-ghost use Rattle.unit.specs.Holding.{asHolder, heldByOther, holderNumber, holderOf, reservedBy};
-ghost use Rattle.unit.specs.Landing.{landing, landingAt, numberOn, spotAt, spotted, trackLanding};
-ghost use Rattle.unit.specs.Standing.{CountsAsInitialized, bare, cylinder, freshly, geometry, headsOn, heldOf, holder, initialized, moreHeld, nothingSaid, pairs, unitOf, withHolder};
+ghost use Rattle.unit.specs.Holding.{asHolder, heldByOther, reservedBy};
+ghost use Rattle.unit.specs.Landing.{numberOn, spotAt};
+ghost use Rattle.unit.specs.Standing.{CountsAsInitialized, cylinder, freshly, geometry, headsOn, heldOf, holder, initialized, moreHeld, pairs, unitOf, withHolder};
 ghost use Rattle.wire.specs.Promise.{Says};
+ghost use Rattle.unit.specs.Answers.{landing, landingAt, spotted, trackLanding};
+ghost use Rattle.unit.specs.Made.{bare, nothingSaid};
+ghost use Rattle.unit.specs.HolderNumbers.{holderNumber, holderOf};
 
 // One of the board's two units.
 pub enum UnitNumber {

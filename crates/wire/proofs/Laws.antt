@@ -9,7 +9,8 @@ use native.Mathlib.Numerals.{add-one}
 use lib.ListN.{length, getD, drop, set, length-drop, length-set}
 use lib.Seq.{getD-drop, getD-set-same, getD-set-other, paste-suc}
 use Rattle.wire.specs.Copy.{copied}
-use Rattle.wire.specs.Words.{word, stored}
+use Rattle.wire.specs.Words.{word}
+use Rattle.wire.specs.Storing.{stored}
 
 -- A word of j + k bytes is the word of the first j, k bytes higher, and the word of the other k.
 pub word-joins :

@@ -1,4 +1,5 @@
 pub mod Copy
 pub mod Memory
 pub mod Promise
+pub mod Storing
 pub mod Words

@@ -7,7 +7,8 @@ ghost use lib.ListN.{length};
 ghost use Rattle.wire.specs.Copy.{copied};
 ghost use Rattle.wire.specs.Memory.{InMemory};
 ghost use Rattle.wire.specs.Promise.{Says};
-ghost use Rattle.wire.specs.Words.{be16, be32, with16, with32};
+ghost use Rattle.wire.specs.Words.{be16, be32};
+ghost use Rattle.wire.specs.Storing.{with16, with32};
 
 // A byte as a wider number.
 fn wide(byte: u8) -> u16

@@ -22,7 +22,7 @@ use Rattle.spares.specs.Table.{InTable, badOf, spareOf}
 use Rattle.spares.specs.Tracks.{TrackOn, standsFor, trackNumber}
 use Rattle.spares.proofs.Adding.{before-the-pair, its-bad, its-spare}
 use Rattle.spares.proofs.Laws.{on-drive-by-parts, stands-for-it}
-use Rattle.unit.specs.Landing.{BadAndItsSpare, Paired, landed, trackNamed}
+use Rattle.unit.specs.Landing.{landed}
 use Rattle.unit.specs.Standing.{CountsAsInitialized, UnitRecord, mapped, noTracks, pairs, table}
 use Rattle.unit.proofs.Apart.{bad-lands-on-its-spare, number-lands, spare-lands-on-itself}
 use Rattle.unit.proofs.Laws.{lands-where-it-says}
@@ -30,6 +30,7 @@ use Rattle.worked.specs.SmallDrive.{All, Holds, drive, spared, unit, wit
 use Rattle.worked.specs.SmallDrive.Line.{lands, meet}
 use Rattle.worked.proofs.Drive.{counts, heads-3, sectors-40, sectors-80}
 use Rattle.worked.proofs.Starred.{_and_}
+use Rattle.unit.specs.Bytes.{BadAndItsSpare, Paired, trackNamed}
 
 -- ---- the two pairs
 

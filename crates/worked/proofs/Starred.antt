@@ -13,7 +13,7 @@ use Rattle.geometry.specs.Drive.{volumeSectors}
 use Rattle.geometry.specs.Sectors.Inside.{firstByte-is}
 use Rattle.judge.specs.declared.Verdict.the-variants.{Refused}
 use Rattle.judge.specs.Given.{Asked, Covers}
-use Rattle.judge.specs.Verdict.{fromBuffer, fromSectors, verdict}
+use Rattle.judge.specs.Verdict.{verdict}
 use Rattle.judge.proofs.First.{no-more}
 use Rattle.judge.proofs.Tasks.{list-18, list-done, move-on, own, piece-done, span-17, span-last, span-on}
 use Rattle.request.specs.declared.Buffer.{Buffer}
@@ -24,6 +24,7 @@ use Rattle.worked.specs.SmallDrive.Line.{reads, scatters, stands}
 use Rattle.worked.specs.SmallDrive.Expected.{answer, passes}
 use Rattle.worked.proofs.Drive.{counts, need-7800, place, place-is, present, sectors-40, sectors-80}
 use Rattle.worked.proofs.Memory.{list-good, piece-good, ranges-good}
+use Rattle.judge.specs.Steps.{fromBuffer, fromSectors}
 
 -- ---- any sector
 

@@ -21,9 +21,10 @@ use Rattle.request.specs.declared.Move.{Move}
 use Rattle.request.specs.declared.Start.{Start}
 use Rattle.request.specs.declared.Task.{Task}
 use Rattle.spares.specs.Tracks.{trackNumber}
-use Rattle.unit.specs.Landing.{OnSpare, Reaches, spotOf}
+use Rattle.unit.specs.Landing.{spotOf}
 use Rattle.unit.specs.declared.Controller.the-variants.{First}
 use Rattle.unit.specs.Standing.{UnitRecord, fresh, mapped}
+use Rattle.unit.specs.Bytes.{OnSpare, Reaches}
 
 -- "C = 10, S = 4, B = 64, volume 0 heads 0 and 1, volume 1 head 2"
 abbrev pub drive : Geometry

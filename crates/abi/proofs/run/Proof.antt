@@ -3,10 +3,10 @@
 use Rattle.abi.proofs.Called.{made-is, tracks-read}
 use Rattle.abi.specs.Calls.{lentOf}
 use denote.Ref.{now}
-use Rattle.unit.specs.Standing.{bare}
 use borrow.Author.Needs.{needs}
 use Rattle.abi.proofs.run.Statement.{statement}
 use Rattle.abi.proofs.run.Tie as tie
+use Rattle.unit.specs.Made.{bare}
 
 record-requires : tie.Need-record-requires
 record-requires c κs = search needs

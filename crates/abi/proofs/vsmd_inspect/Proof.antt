@@ -2,12 +2,12 @@
 -- Past both tests the part is board's, of the records that stand in the bytes.
 use Rattle.abi.proofs.Called.{inspection-made, inspection-refused-0, inspection-refused-1, tracks-read}
 use denote.Ref.{now}
-use Rattle.unit.specs.Standing.{bare}
 use native.Mathlib.Omega.{arith}
 use mathlib.Core.Path.{sym}
 use borrow.Author.Needs.{needs}
 use Rattle.abi.proofs.vsmd_inspect.Statement.{statement}
 use Rattle.abi.proofs.vsmd_inspect.Tie as tie
+use Rattle.unit.specs.Made.{bare}
 
 returns : tie.Need-returns
 returns c =

@@ -4,7 +4,7 @@ use Prim.Native.Nat.{_+_}
 use mathlib.Core.List.{[], _∷_}
 use mathlib.Core.Path.{_≡_, subst}
 use lib.ListN.{length}
-use Rattle.unit.specs.Standing.{bare, unitOf}
+use Rattle.unit.specs.Standing.{unitOf}
 use Rattle.transfer.specs.Data.{formatting}
 use Rattle.transfer.specs.Progress.{progress}
 use Rattle.transfer.specs.Runs.{pieceByte}
@@ -17,7 +17,8 @@ use Rattle.block.proofs.Transfers.{begun-made, nothing-made}
 use borrow.Author.Needs.{needs}
 use Rattle.block.proofs.begin.Statement.{statement}
 use Rattle.block.proofs.begin.Tie as tie
-use Rattle.wire.specs.Words.{written}
+use Rattle.unit.specs.Made.{bare}
+use Rattle.wire.specs.Storing.{written}
 
 -- What is to be moved fits, once it is known which it is.
 ready :

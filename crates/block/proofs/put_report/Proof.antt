@@ -3,7 +3,7 @@
 use borrow.Author.Needs.{needs}
 use Rattle.block.proofs.put_report.Statement.{statement}
 use Rattle.block.proofs.put_report.Tie as tie
-use Rattle.wire.specs.Words.{written}
+use Rattle.wire.specs.Storing.{written}
 
 enum-told : tie.Need-enum-told
 enum-told c = search needs

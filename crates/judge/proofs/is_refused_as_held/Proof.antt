@@ -3,10 +3,11 @@
 use mathlib.Core.Path.{sym, ap, _∙_}
 use mathlib.Core.Bool.{_&&_}
 use Rattle.unit.specs.Holding.{heldByOther}
-use Rattle.unit.specs.Standing.{bare, holder}
+use Rattle.unit.specs.Standing.{holder}
 use borrow.Author.Needs.{needs}
 use Rattle.judge.proofs.is_refused_as_held.Statement.{statement}
 use Rattle.judge.proofs.is_refused_as_held.Tie as tie
+use Rattle.unit.specs.Made.{bare}
 
 asks-holder-requires : tie.Need-asks-holder-requires
 asks-holder-requires c κs = search needs

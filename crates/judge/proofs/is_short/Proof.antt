@@ -6,9 +6,10 @@ use native.Mathlib.Omega.{arith}
 use borrow.Author.Needs.{needs}
 use Rattle.wire.proofs.Promises.{says-leb}
 use Rattle.geometry.specs.Drive.{need}
-use Rattle.unit.specs.Standing.{bare, geometry}
+use Rattle.unit.specs.Standing.{geometry}
 use Rattle.judge.proofs.is_short.Statement.{statement}
 use Rattle.judge.proofs.is_short.Tie as tie
+use Rattle.unit.specs.Made.{bare}
 
 geometry-requires : tie.Need-geometry-requires
 geometry-requires c κs = search needs

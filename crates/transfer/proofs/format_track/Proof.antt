@@ -15,7 +15,8 @@ use Rattle.transfer.proofs.Filling.{track-fit, track-room, track-stores
 use borrow.Author.Needs.{needs}
 use Rattle.transfer.proofs.format_track.Statement.{statement}
 use Rattle.transfer.proofs.format_track.Tie as tie
-use Rattle.unit.specs.Standing.{bare, geometry}
+use Rattle.unit.specs.Standing.{geometry}
+use Rattle.unit.specs.Made.{bare}
 
 track-fits-requires : tie.Need-track-fits-requires
 track-fits-requires c κs = search needs

@@ -3,11 +3,12 @@ use Prim.Native.Nat.{_≤_}
 use mathlib.Core.Path.{_≡_}
 use native.Mathlib.Omega.{arith}
 use Rattle.geometry.specs.Drive.{need}
-use Rattle.unit.specs.Standing.{bare, geometry}
+use Rattle.unit.specs.Standing.{geometry}
 use Rattle.wire.proofs.Promises.{says-leb}
 use borrow.Author.Needs.{needs}
 use Rattle.transfer.proofs.holds_drive.Statement.{statement}
 use Rattle.transfer.proofs.holds_drive.Tie as tie
+use Rattle.unit.specs.Made.{bare}
 
 geometry-requires : tie.Need-geometry-requires
 geometry-requires c κs = search needs

@@ -8,7 +8,8 @@ use Rattle.wire.proofs.Promises.{says-leb}
 use borrow.Author.Needs.{needs}
 use Rattle.transfer.proofs.span_fits.Statement.{statement}
 use Rattle.transfer.proofs.span_fits.Tie as tie
-use Rattle.unit.specs.Standing.{bare, geometry}
+use Rattle.unit.specs.Standing.{geometry}
+use Rattle.unit.specs.Made.{bare}
 
 geometry-requires : tie.Need-geometry-requires
 geometry-requires c κs = search needs

@@ -4,9 +4,9 @@ use native.Mathlib.Nat.{add-zero}
 use native.Mathlib.Omega.{arith}
 use lib.ListN.{length-set}
 use borrow.Author.Needs.{needs}
-use Rattle.wire.specs.Words.{stored}
 use Rattle.wire.proofs.put16.Statement.{statement}
 use Rattle.wire.proofs.put16.Tie as tie
+use Rattle.wire.specs.Storing.{stored}
 
 cast-bytes : tie.Need-cast-bytes
 cast-bytes c = search needs

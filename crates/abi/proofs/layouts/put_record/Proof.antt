@@ -1,12 +1,13 @@
 -- Six stores, one after the other, are the bytes of a record in a row.
 -- What is stored is what the record answered, and the tracks of the pairs that count.
 use Rattle.abi.proofs.Stored.{record-stored}
-use Rattle.spares.specs.Table.{counted}
-use Rattle.unit.specs.Holding.{holderNumber}
-use Rattle.unit.specs.Standing.{bare, cylinder, geometry, holder, initialized, pairs}
+use Rattle.unit.specs.Standing.{cylinder, geometry, holder, initialized, pairs}
 use borrow.Author.Needs.{needs}
 use Rattle.abi.proofs.layouts.put_record.Statement.{statement}
 use Rattle.abi.proofs.layouts.put_record.Tie as tie
+use Rattle.spares.specs.Lands.{counted}
+use Rattle.unit.specs.Made.{bare}
+use Rattle.unit.specs.HolderNumbers.{holderNumber}
 
 initialized-requires : tie.Need-initialized-requires
 initialized-requires c κs = search needs

@@ -10,7 +10,7 @@ use Rattle.abi.specs.Layouts.{trackBytes}
 use Rattle.abi.proofs.Tracks.{one-more-stored}
 use Rattle.abi.proofs.layouts.put_tracks.Statement.{statement}
 use Rattle.abi.proofs.layouts.put_tracks.Tie as tie
-use Rattle.wire.specs.Words.{written}
+use Rattle.wire.specs.Storing.{written}
 
 abbrev Inv-loop : tie.InvT-loop
 Inv-loop bytes₀ table pairs tracks m i₀ bytes i = (i ≤ m) × ((bytes ≡ written bytes₀ 20 (trackBytes (take i table))) × (length bytes ≡ length bytes₀))

@@ -9,7 +9,7 @@ use Rattle.abi.specs.Layouts.{wordsFrom}
 use Rattle.abi.proofs.Tracks.{one-more-read}
 use Rattle.abi.proofs.layouts.read_tracks.Statement.{statement}
 use Rattle.abi.proofs.layouts.read_tracks.Tie as tie
-use Rattle.wire.specs.Words.{written}
+use Rattle.wire.specs.Storing.{written}
 
 abbrev Inv-loop : tie.InvT-loop
 Inv-loop bytes pairs table₀ count i₀ table i = (i ≤ count) × (table ≡ written table₀ 0 (wordsFrom bytes 20 i))

@@ -6,9 +6,7 @@ use native.Mathlib.Omega.{arith}
 use Rattle.answers.specs.declared.RunAnswer.{RunAnswer}
 use Rattle.answers.specs.Numbers.{refusalNumber}
 use Rattle.wire.proofs.Promises.{denied, granted}
-use Rattle.board.specs.Chain.{fetched}
-use Rattle.board.specs.Chain.{counted}
-use Rattle.board.specs.Lent.{worldOf}
+use Rattle.board.specs.Chain.{counted, fetched}
 use Rattle.board.specs.Records.{unitsIn}
 use Rattle.board.proofs.Chains.{ended-in, ended-the-same, executed-done, executed-failed, executed-on, fetched-bad, fetched-on, fetched-spent, spare-kept, spare-less}
 use Prim.Native.Nat.{ℕ, _+_, _-_, _*_, _<_}
@@ -27,6 +25,7 @@ use Rattle.board.proofs.chain.step.Reads as step-reads
 use Rattle.board.proofs.chain.holds_block.Reads as holds-block-reads
 use Rattle.board.proofs.chain.+execute+fetch.{statement}
 use Rattle.board.proofs.chain.+execute+fetch.Tie.{close}
+use Rattle.board.specs.Run.{worldOf}
 
 abbrev μ-execute : Measures 8 execute-kinds.ps ℕ
 μ-execute κs a = 2 * a .1 .1 .1 .1 .1 .1 .1 .1 .1 .1 .1 .0 + 1

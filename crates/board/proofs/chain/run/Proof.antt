@@ -3,12 +3,12 @@
 use native.Mathlib.Omega.{arith}
 use Rattle.answers.specs.declared.RunAnswer.{RunAnswer}
 use Rattle.wire.proofs.Promises.{denied, granted}
-use Rattle.board.specs.Lent.{worldOf}
 use Rattle.board.proofs.Chains.{came-refused, came-to, ended-the-same}
 use Rattle.board.proofs.Runs.{ran-allowance-bad, ran-chain, ran-events-short, ran-first-bad}
 use borrow.Author.Needs.{needs}
 use Rattle.board.proofs.chain.run.Statement.{statement}
 use Rattle.board.proofs.chain.run.Tie as tie
+use Rattle.board.specs.Run.{worldOf}
 
 holds-entries-requires : tie.Need-holds-entries-requires
 holds-entries-requires c κs = search needs

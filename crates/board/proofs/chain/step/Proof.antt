@@ -2,13 +2,13 @@
 -- What the block does there is its effect on the world, and what it tells of its unit is known from then on.
 use Rattle.unit.specs.declared.UnitNumber.{UnitNumber}
 use Rattle.block.specs.Steps.{three}
-use Rattle.board.specs.Lent.{worldOf}
 use Rattle.board.specs.Records.{unitIn, unitsIn}
 use Rattle.board.specs.Steps.{doneWith}
 use Rattle.board.proofs.Chains.{step-by, told-then}
 use borrow.Author.Needs.{needs}
 use Rattle.board.proofs.chain.step.Statement.{statement}
 use Rattle.board.proofs.chain.step.Tie as tie
+use Rattle.board.specs.Run.{worldOf}
 
 unit-at-requires : tie.Need-unit-at-requires
 unit-at-requires c κs = search needs

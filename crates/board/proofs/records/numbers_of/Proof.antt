@@ -2,10 +2,10 @@
 -- That a volume's heads are bytes is known of every record.
 use borrow.Author.Needs.{needs}
 use native.Mathlib.Omega.{arith}
-use Rattle.unit.specs.Standing.{bare}
 use Rattle.board.proofs.Numbers.{record-back}
 use Rattle.board.proofs.records.numbers_of.Statement.{statement}
 use Rattle.board.proofs.records.numbers_of.Tie as tie
+use Rattle.unit.specs.Made.{bare}
 
 geometry-requires : tie.Need-geometry-requires
 geometry-requires c κs = search needs

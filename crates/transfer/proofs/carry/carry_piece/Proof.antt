@@ -5,12 +5,13 @@ use mathlib.Core.Path.{_≡_, refl}
 use native.Mathlib.Omega.{arith}
 use borrow.Author.Needs.{needs}
 use lib.ListN.{length}
-use Rattle.unit.specs.Standing.{bare, unitOf}
+use Rattle.unit.specs.Standing.{unitOf}
 use Rattle.transfer.specs.Runs.{Carried, behind, lent}
 use Rattle.transfer.proofs.Stores.{copiedRun}
 use Rattle.transfer.proofs.Carrying.{carry-more, carry-none, on-here, run-held}
 use Rattle.transfer.proofs.carry.carry_piece.Statement.{statement}
 use Rattle.transfer.proofs.carry.carry_piece.Tie as tie
+use Rattle.unit.specs.Made.{bare}
 
 abbrev Inv-loop : tie.InvT-loop
 Inv-loop host₀ image₀ u table span to-host at n c₀ done₀ host image c done =

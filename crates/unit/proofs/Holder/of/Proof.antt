@@ -1,9 +1,9 @@
 -- Each comparison that is made is one of the definition's.
 -- What was found of it is put in its place there.
 use borrow.Author.Tests.{ne-eqb}
-use Rattle.unit.specs.Holding.{holderOf}
 use Rattle.unit.proofs.Holder.of.Statement.{statement}
 use Rattle.unit.proofs.Holder.of.Tie as tie
+use Rattle.unit.specs.HolderNumbers.{holderOf}
 
 returns : tie.Need-returns
 unfolding holderOf

@@ -6,12 +6,12 @@ use native.Mathlib.Omega.{arith}
 use Rattle.wire.specs.Promise.{Says}
 use Rattle.wire.proofs.Promises.{denied, granted, says-same}
 use Rattle.unit.specs.declared.Record.{Record}
-use Rattle.unit.specs.Holding.{holderNumber}
 use Rattle.unit.proofs.Decided.{record-is}
 use Rattle.unit.proofs.Holders.{holders-differ}
 use borrow.Author.Needs.{needs}
 use Rattle.unit.proofs.Record.same.Statement.{statement}
 use Rattle.unit.proofs.Record.same.Tie as tie
+use Rattle.unit.specs.HolderNumbers.{holderNumber}
 
 says-beq : (s t : Bool) → Says (Bool·beq s t) (s ≡ t)
 says-beq true true = refl

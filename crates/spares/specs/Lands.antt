@@ -1,0 +1,27 @@
+-- What is proved of a table: where a track lands, the tracks of the pairs that count, and a table that is blank past them.
+use Prim.Native.Nat.{ℕ, _*_, _≤_, min}
+use mathlib.Core.List.{List}
+use mathlib.Core.Path.{_≡_}
+use lib.ListN.{getD, length, take}
+use Rattle.geometry.specs.declared.Geometry.{Geometry}
+use Rattle.spares.specs.declared.Served.{Served}
+use Rattle.spares.specs.declared.Served.the-variants.{Itself, By}
+use Rattle.spares.specs.Tracks.{trackNumber}
+use Rattle.spares.specs.Table.{served}
+
+-- The number of the track that a track lands on.
+abbrev pub numberServing : ℕ → Served → ℕ
+numberServing t Itself = t
+numberServing t (By k) = trackNumber (k .cylinder) (k .head)
+
+abbrev pub landsOn : Geometry → ℕ → List ℕ → ℕ → ℕ
+landsOn g n ts t = numberServing t (served g n ts t)
+
+-- The tracks of the pairs that count; past them a table may hold anything.
+abbrev pub counted : ℕ → List ℕ → List ℕ
+counted n ts = take (2 * min n 32) ts
+
+-- Past the pairs that count there is nothing but zeros: so is a table that was cleared and got its pairs one after the other.
+pub record BlankPast (n : ℕ) (ts : List ℕ) : Type 0 where
+  pub long : length ts ≡ 64
+  pub blank : (i : ℕ) → 2 * min n 32 ≤ i → getD ts i 0 ≡ 0
