@@ -4,7 +4,7 @@ use mathlib.Core.Path.{_≡_, refl, sym, _∙_}
 use native.Mathlib.Omega.{arith}
 use lib.ListN.{length}
 use Rattle.geometry.specs.Drive.{B}
-use Rattle.geometry.specs.Sectors.{firstByte}
+use Rattle.geometry.specs.Sectors.{firstByte, sectorAt}
 use Rattle.geometry.proofs.Answers.{at-sector, no-sector}
 use Rattle.wire.proofs.Promises.{denied, granted}
 use Rattle.transfer.specs.Data.{formatting, progressOn}
@@ -18,17 +18,28 @@ use Rattle.transfer.proofs.format_track.Tie as tie
 use Rattle.unit.specs.Standing.{geometry}
 use Rattle.unit.specs.Made.{bare}
 
+-- The places: the call's beginning, from the test; and where the geometry is known, from where the first sector is.
+abbrev start : tie.After-track-fits → tie.Start
+start c = c .before .before .before
+
+abbrev drive : tie.After-first → tie.After-geometry
+drive c = c .before .before .before
+
 track-fits-requires : tie.Need-track-fits-requires
 track-fits-requires c κs = search needs
 
 -- After the test the request fits, and what is asked of the geometry is the unit's.
-fits : (c : tie.Else1) → TrackFits (geometry (bare (c .before .before .before .before .args .u))) (c .before .before .before .before .args .spot) (c .before .before .before .before .args .at) (length (c .before .before .before .before .args .host .now)) (length (c .before .before .before .before .args .image .now))
+fits : (c : tie.Else1) → let a = start (c .before) .args in TrackFits (geometry (bare (a .u))) (a .spot) (a .at) (length (a .host .now)) (length (a .image .now))
 fits c = granted (c .before .track-fits .result) _ (c .if1 .left) (c .before .track-fits .ensures)
+
+-- The sector that was asked for is the unit's at the place.
+sector-is : (c : tie.After-sector) → let fit = c .before .before in let a = start (fit .before) .args in c .sector .result ≡ sectorAt (geometry (bare (a .u))) (a .spot .place)
+sector-is c = rw (c .before .geometry .ensures) at (c .sector .ensures)
 
 returns : tie.Need-returns
 unfolding after
 returns c =
-    let a = c .before .before .before .before .args in
+    let a = start (c .before) .args in
     rw
     (track-unfit (a .image .now) (bare (a .u)) (a .spot) (a .at) (length (a .host .now))
     (denied (c .before .track-fits .result) _ (c .if1 .taken) (c .before .track-fits .ensures)))
@@ -48,18 +59,21 @@ enum-told c = search needs
 
 returns-2 : tie.Need-returns-2
 returns-2 c =
-    let a = c .before .before .before .before .before .before .before .before .args in
+    let sector = c .before .before in
+    let fit = sector .before .before in
+    let a = start (fit .before) .args in
     absurd
     (omega
-    (arith, no-sector (geometry (bare (a .u))) (a .spot .place) (sym (rw (c .before .before .before .geometry .ensures) at (c .before .before .sector .ensures)) ∙ c .enum-told .given .1), fits (c .before .before .before .before)))
+    (arith, no-sector (geometry (bare (a .u))) (a .spot .place) (sym (sector-is sector) ∙ c .enum-told .given .1), fits fit))
 
 sectors-a-track-requires : tie.Need-sectors-a-track-requires
 sectors-a-track-requires c κs = search needs
 
 reach-requires : tie.Need-reach-requires
 reach-requires c κs =
-    let f = fits (c .before .before .before .before .before .before .before) in
-    rw (c .sectors-a-track .ensures, c .before .before .before .before .before .before .geometry .ensures) (f .some, (f .inside, f .held))
+    let first = c .before .before .before in
+    let f = fits (drive first .before) in
+    rw (c .sectors-a-track .ensures, drive first .geometry .ensures) (f .some, (f .inside, f .held))
 
 bytes-a-sector-requires : tie.Need-bytes-a-sector-requires
 bytes-a-sector-requires c κs = search needs
@@ -73,35 +87,45 @@ cast-fill-2 c = search needs
 -- What is known before the track is filled: where it begins, how long a sector is, how far the track comes.
 known :
     (c : tie.After-struct-known) →
-    (c .before .before .before .before .before .before .before .first .given .0 .0 ≡ firstByte (geometry (bare (c .before .before .before .before .before .before .before .before .before .before .before .before .before .before .before .args .u))) (c .before .before .before .before .before .before .before .before .before .before .before .before .before .before .before .args .spot .place)) ×
-    ((c .before .bytes-a-sector .result ≡ B (geometry (bare (c .before .before .before .before .before .before .before .before .before .before .before .before .before .before .before .args .u)))) ×
-    (c .before .before .before .reach .result ≡ reached (progressOn (c .before .before .before .before .before .before .before .before .before .before .before .before .before .before .before .args .image .now) (formatting (bare (c .before .before .before .before .before .before .before .before .before .before .before .before .before .before .before .args .u)) (c .before .before .before .before .before .before .before .before .before .before .before .before .before .before .before .args .spot) (c .before .before .before .before .before .before .before .before .before .before .before .before .before .before .before .args .at)))))
+    let scan = c .before .before .before in
+    let first = scan .before .before .before .before in
+    let a = start (drive first .before .before) .args in
+    (first .first .given .0 .0 ≡ firstByte (geometry (bare (a .u))) (a .spot .place)) ×
+    ((c .before .bytes-a-sector .result ≡ B (geometry (bare (a .u)))) ×
+    (scan .reach .result ≡ reached (progressOn (a .image .now) (formatting (bare (a .u)) (a .spot) (a .at)))))
 known c =
-    let a = c .before .before .before .before .before .before .before .before .before .before .before .before .before .before .before .args in
-    let is = c .before .before .before .before .before .before .before .before .before .before .geometry .ensures in
-    let sector = c .before .before .before .before .before .before .before .first .given in (
-      at-sector (geometry (bare (a .u))) (a .spot .place) (sector .0 .0) (sector .0 .1 .0) (sym (rw is at (c .before .before .before .before .before .before .before .before .before .sector .ensures)) ∙ sector .1) .1 .0,
+    let scan = c .before .before .before in
+    let first = scan .before .before .before .before in
+    let a = start (drive first .before .before) .args in
+    let is = drive first .geometry .ensures in
+    let sector = first .first .given in (
+      at-sector (geometry (bare (a .u))) (a .spot .place) (sector .0 .0) (sector .0 .1 .0) (sym (sector-is (first .before .before)) ∙ sector .1) .1 .0,
       (
         rw is at (c .before .bytes-a-sector .ensures),
-        rw (c .before .before .before .before .sectors-a-track .ensures, is) at (c .before .before .before .reach .ensures),
+        rw (scan .before .sectors-a-track .ensures, is) at (scan .reach .ensures),
       ),
     )
 
 fill-requires : tie.Need-fill-requires
 fill-requires c κs =
-    let a = c .before .before .before .before .before .before .before .before .before .before .before .before .before .before .before .args in
+    let first = c .before .before .before .before .before .before .before in
+    let fit = drive first .before in
+    let a = start (fit .before) .args in
     let k = known c in
-    rw (k .0, k .1 .0, k .1 .1) (fits (c .before .before .before .before .before .before .before .before .before .before .before) .memory, track-room (a .image .now) (bare (a .u)) (a .spot) (a .at) (fits (c .before .before .before .before .before .before .before .before .before .before .before) .inside) (fits (c .before .before .before .before .before .before .before .before .before .before .before) .held))
+    rw (k .0, k .1 .0, k .1 .1) (fits fit .memory, track-room (a .image .now) (bare (a .u)) (a .spot) (a .at) (fits fit .inside) (fits fit .held))
 
 same-length : tie.Need-same-length
 same-length c = search needs
 
 returns-3 : tie.Need-returns-3
 returns-3 c =
-    let a = c .before .before .before .before .before .before .before .before .before .before .before .before .before .before .before .before .before .before .args in
-    let k = known (c .before .before .before) in
-    rw (track-fit (a .image .now) (bare (a .u)) (a .spot) (a .at) (length (a .host .now)) (fits (c .before .before .before .before .before .before .before .before .before .before .before .before .before .before)), k .1 .1)
-    (refl, rw (track-stores (a .image .now) (bare (a .u)) (a .spot) (a .at)) (rw (k .0, k .1 .0, k .1 .1) at (c .before .before .fill .ensures)))
+    let filled = c .before .before in
+    let first = filled .before .before .before .before .before .before .before .before in
+    let fit = drive first .before in
+    let a = start (fit .before) .args in
+    let k = known (filled .before) in
+    rw (track-fit (a .image .now) (bare (a .u)) (a .spot) (a .at) (length (a .host .now)) (fits fit), k .1 .1)
+    (refl, rw (track-stores (a .image .now) (bare (a .u)) (a .spot) (a .at)) (rw (k .0, k .1 .0, k .1 .1) at (filled .fill .ensures)))
 
 pub format-track-spec : {M : Type 1} → statement M
 format-track-spec =

@@ -19,6 +19,13 @@ Inv-loop lengths addresses long bytes left₀ i₀ left i =
 abbrev μ-loop : tie.MeasureT-loop
 μ-loop lengths addresses long bytes left₀ i₀ left i = length lengths - i
 
+-- The places: the call's beginning, from the loop's head; and that, from where a piece was tested.
+abbrev start : tie.At-loop Inv-loop μ-loop → tie.Start Inv-loop μ-loop
+start c = c .before .before .before
+
+abbrev at-loop : tie.After-piece-fits Inv-loop μ-loop → tie.At-loop Inv-loop μ-loop
+at-loop c = c .before .before .before .before
+
 loop-holds : tie.Need-loop-holds Inv-loop μ-loop
 unfolding sum
 loop-holds c = (omega arith, (λ k h. absurd (omega arith), omega arith))
@@ -40,11 +47,13 @@ piece-fits-requires c κs = tt
 
 returns : tie.Need-returns Inv-loop μ-loop
 returns c =
-    let now = c .before .before .before .before .before .loop in
+    let now = at-loop (c .before) .loop in
     λ f. denied (c .before .piece-fits .result) _ (c .if1 .taken) (c .before .piece-fits .ensures) (f .inside (now .i) (omega arith))
 
 cast-less : tie.Need-cast-less Inv-loop μ-loop
-cast-less c = omega (arith, c .before .before .before .shared-slice-known3 .given (c .before .before .before .before .before .loop .i))
+cast-less c =
+    let piece = c .before in
+    omega (arith, piece .before .before .shared-slice-known3 .given (at-loop piece .loop .i))
 
 less-requires : tie.Need-less-requires Inv-loop μ-loop
 less-requires c κs = tt
@@ -59,7 +68,7 @@ loop-again : tie.Need-loop-again Inv-loop μ-loop
 unfolding sum
 loop-again c =
     let piece = c .before .before .piece-fits in
-    let now = c .before .before .before .before .before .before .loop in
+    let now = at-loop (c .before .before) .loop in
     let fits = granted (piece .result) _ (c .before .if1 .left) (piece .ensures) in (
       omega arith,
       (rw add-one (all-more _ (now .i) (now .inv .1 .0) fits), rw add-one (omega arith)),
@@ -67,12 +76,13 @@ loop-again c =
 
 returns-2 : tie.Need-returns-2 Inv-loop μ-loop
 returns-2 c =
-    let a = c .before .before .before .before .args in
+    let begun = start (c .before) in
+    let a = begun .args in
     let now = c .before .loop in
     let done : now .i ≡ length (a .lengths .now) = omega arith in
     let left : now .left ≡ a .bytes - sum (λ k. getD (a .lengths .now) k 0) (length (a .lengths .now)) = rw done at (now .inv .1 .1) in
     says-eqb (now .left) 0 _
-    (λ none. record { pairs = c .before .before .before .before .pre; inside = rw done at (now .inv .1 .0); enough = omega arith })
+    (λ none. record { pairs = begun .pre; inside = rw done at (now .inv .1 .0); enough = omega arith })
     (λ some f. some (omega (arith, f .enough)))
 
 pub pieces-fit-spec : {M : Type 1} → statement M

@@ -32,10 +32,12 @@ pieces-fit-requires c κs = search needs
 
 returns-4 : tie.Need-returns-4
 returns-4 c =
-    let span = c .before .before .before .before .before .before .span-fits in
-    let fits = granted (span .result) _ (c .before .before .before .before .before .if1 .left) (span .ensures .0) in
-    let held = c .before .before .before .before .holds-drive in
-    let long = granted (held .result) _ (c .before .before .before .if2 .left) (held .ensures) in
+    let second = c .before .before .before in
+    let first = second .before .before in
+    let span = first .before .span-fits in
+    let fits = granted (span .result) _ (first .if1 .left) (span .ensures .0) in
+    let held = second .before .holds-drive in
+    let long = granted (held .result) _ (second .if2 .left) (held .ensures) in
     let bytes = c .before .span-bytes .ensures in (
       says-same (c .pieces-fit .result) _ _
           (λ f. record { some = fits .0; inside = fits .1; pieces = rw bytes at f; held = long })

@@ -42,12 +42,12 @@ add-result c = search needs
 
 returns-3 : tie.Need-returns-3
 returns-3 c =
-    let a = c .before .before .before .before .before .before .args in
-    let is = c .before .before .before .before .before .geometry .ensures in
-    let there = c .before .before .before .before .on-drive in
-    let on = rw is at (granted (there .result) _ (c .before .before .before .if1 .left) (there .ensures)) in
-    let held = c .before .before .holds-drive in
-    let long = granted (held .result) _ (c .before .if2 .left) (held .ensures) in
+    let second = c .before .before in
+    let first = second .before .before in
+    let a = first .before .before .args in
+    let is = first .before .geometry .ensures in
+    let on = rw is at (granted (first .on-drive .result) _ (second .before .if1 .left) (first .on-drive .ensures)) in
+    let long = granted (second .holds-drive .result) _ (c .before .if2 .left) (second .holds-drive .ensures) in
     let bytes : c .bytes-a-sector .result ≡ B (geometry (bare (a .u))) = rw is at (c .bytes-a-sector .ensures) in
     says-leb (a .at + c .bytes-a-sector .result) (a .long) _
     (λ fits. record { some = on .0; inside = on .1; memory = omega arith; held = long })

@@ -1,6 +1,6 @@
 -- The loop stands before the i-th piece, as the law of that name says; a turn carries that piece.
 -- It is left when all bytes are carried, and there are pieces enough for that.
-use Prim.Native.Nat.{_-_, _<_}
+use Prim.Native.Nat.{_-_, _<_, min}
 use mathlib.Core.Path.{_≡_}
 use native.Mathlib.Omega.{arith}
 use borrow.Author.Needs.{needs}
@@ -18,18 +18,42 @@ Inv-loop host₀ image₀ u table span to-host lengths addresses all c₀ done�
 abbrev μ-loop : tie.MeasureT-loop
 μ-loop host₀ image₀ u table span to-host lengths addresses all c₀ done₀ i₀ host image c done i = length lengths - i
 
+-- The places: the call's beginning, from a turn's; that, from where a piece's length is known; this, from where the piece is to
+-- be carried; and where it was, from the turn's end.
+abbrev start : tie.In-loop Inv-loop μ-loop → tie.Start Inv-loop μ-loop
+start c = c .before .before .before .before .before .before .before
+
+abbrev turn : tie.After-lesser Inv-loop μ-loop → tie.In-loop Inv-loop μ-loop
+turn c = c .before .before
+
+abbrev measured : tie.After-carry-piece-arg2 Inv-loop μ-loop → tie.After-lesser Inv-loop μ-loop
+measured c = c .before .before .before
+
+abbrev carried : tie.After-slice-known4 Inv-loop μ-loop → tie.After-carry-piece Inv-loop μ-loop
+carried c = c .before .before .before .before
+
 span-bytes-requires : tie.Need-span-bytes-requires Inv-loop μ-loop
 span-bytes-requires c κs = search needs
 
-left : (c : tie.In-loop Inv-loop μ-loop) → c .before .loop .done < spanBytes (unitOf (c .before .before .before .before .before .before .before .args .u) (c .before .before .before .before .before .before .before .args .table .now)) (c .before .before .before .before .before .before .before .args .span)
+left : (c : tie.In-loop Inv-loop μ-loop) → let a = start c .args in c .before .loop .done < spanBytes (unitOf (a .u) (a .table .now)) (a .span)
 left c = rw (c .before .before .span-bytes .ensures) at (c .loop-test .taken)
 
-piece : (c : tie.In-loop Inv-loop μ-loop) → (c .before .loop .i < length (c .before .before .before .before .before .before .before .args .lengths .now)) × (c .before .loop .done ≡ sum (λ i. getD (c .before .before .before .before .before .before .before .args .lengths .now) i 0) (c .before .loop .i))
+piece :
+    (c : tie.In-loop Inv-loop μ-loop) →
+    let lengths = start c .args .lengths .now in
+    (c .before .loop .i < length lengths) × (c .before .loop .done ≡ sum (λ i. getD lengths i 0) (c .before .loop .i))
 piece c =
-    let a = c .before .before .before .before .before .before .before .args in
+    let a = start c .args in
     let now = c .before .loop in
-    a-piece (unitOf (a .u) (a .table .now)) (a .span) (a .to-host) (a .lengths .now) (a .addresses .now) (a .host .now) (a .image .now) (c .before .before .before .before .before .before .before .pre .1 .1)
+    a-piece (unitOf (a .u) (a .table .now)) (a .span) (a .to-host) (a .lengths .now) (a .addresses .now) (a .host .now) (a .image .now) (start c .pre .1 .1)
     (now .i) (now .done) (now .host) (now .image) (now .c) (now .inv) (left c)
+
+least :
+    (c : tie.After-lesser Inv-loop μ-loop) →
+    let a = start (turn c) .args in
+    let now = turn c .before .loop in
+    c .lesser .result ≡ min (getD (a .lengths .now) (now .i) 0) (spanBytes (unitOf (a .u) (a .table .now)) (a .span) - now .done)
+least c = rw (c .before .before .before .before .span-bytes .ensures) at (c .lesser .ensures)
 
 loop-holds : tie.Need-loop-holds Inv-loop μ-loop
 loop-holds c =
@@ -38,7 +62,7 @@ loop-holds c =
     (record { stands = record { whole = omega arith; run = λ i h. absurd (omega arith) }; here = omega arith; most = omega arith })
 
 mul-lesser : tie.Need-mul-lesser Inv-loop μ-loop
-mul-lesser c = omega (arith, piece c, c .before .before .before .before .before .before .before .good .1 .1 .1 .1 .1 .1 .0)
+mul-lesser c = omega (arith, piece c, start c .good .1 .1 .1 .1 .1 .1 .0)
 
 shared-slice-read-lesser : tie.Need-shared-slice-read-lesser Inv-loop μ-loop
 shared-slice-read-lesser c = piece (c .before) .0
@@ -53,42 +77,43 @@ lesser-requires : tie.Need-lesser-requires Inv-loop μ-loop
 lesser-requires c κs = tt
 
 mul-at : tie.Need-mul-at Inv-loop μ-loop
-mul-at c = omega (arith, piece (c .before .before), c .before .before .before .before .before .before .before .before .before .good .1 .1 .1 .1 .1 .1 .0)
+mul-at c = omega (arith, piece (turn c), start (turn c) .good .1 .1 .1 .1 .1 .1 .0)
 
 shared-slice-read-at : tie.Need-shared-slice-read-at Inv-loop μ-loop
-shared-slice-read-at c = omega (arith, piece (c .before .before .before), c .before .before .before .before .before .before .before .before .before .before .pre .1 .1 .pairs)
+shared-slice-read-at c = omega (arith, piece (turn (c .before)), start (turn (c .before)) .pre .1 .1 .pairs)
 
 cast-at : tie.Need-cast-at Inv-loop μ-loop
-cast-at c = omega (arith, c .shared-slice-known4 .given (c .before .before .before .before .loop .i))
+cast-at c = omega (arith, c .shared-slice-known4 .given (turn (c .before) .before .loop .i))
 
 carry-piece-requires : tie.Need-carry-piece-requires Inv-loop μ-loop
 carry-piece-requires c κs =
-    let a = c .before .before .before .before .before .before .before .before .before .before .before .before .args in
-    let pre = c .before .before .before .before .before .before .before .before .before .before .before .before .pre in
-    let now = c .before .before .before .before .before .before .loop in
+    let known = measured c in
+    let a = start (turn known) .args in
+    let pre = start (turn known) .pre in
+    let now = turn known .before .loop in
     piece-fits (unitOf (a .u) (a .table .now)) (a .span) (a .to-host) (a .lengths .now) (a .addresses .now) (a .host .now) (a .image .now)
-    (pre .1 .1) (now .i) (now .done) (now .host) (now .image) (now .c) (now .inv) (left (c .before .before .before .before .before)) (c .before .before .before .lesser .result)
-    ((rw (c .before .before .before .before .before .before .before .span-bytes .ensures) at (c .before .before .before .lesser .ensures))) (pre .0) (pre .1 .0)
+    (pre .1 .1) (now .i) (now .done) (now .host) (now .image) (now .c) (now .inv) (left (turn known)) (known .lesser .result) (least known) (pre .0) (pre .1 .0)
 
 add-done : tie.Need-add-done Inv-loop μ-loop
 add-done c = omega arith
 
 add-i : tie.Need-add-i Inv-loop μ-loop
-add-i c = omega (arith, piece (c .before .before .before .before .before .before .before .before .before .before), c .before .before .before .before .before .before .before .before .before .before .before .before .before .before .before .before .before .good .1 .1 .1 .1 .1 .1 .0)
+add-i c =
+    let now = turn (measured (carried c .before)) in
+    omega (arith, piece now, start now .good .1 .1 .1 .1 .1 .1 .0)
 
 loop-less : tie.Need-loop-less Inv-loop μ-loop
-loop-less c = omega (arith, piece (c .before .before .before .before .before .before .before .before .before .before))
+loop-less c = omega (arith, piece (turn (measured (carried c .before))))
 
 loop-again : tie.Need-loop-again Inv-loop μ-loop
 loop-again c =
-    let a = c .before .before .before .before .before .before .before .before .before .before .before .before .before .before .before .before .before .args in
-    let pre = c .before .before .before .before .before .before .before .before .before .before .before .before .before .before .before .before .before .pre in
-    let now = c .before .before .before .before .before .before .before .before .before .before .before .loop in
-    let carried = c .before .before .before .before .carry-piece in
+    let known = measured (carried c .before) in
+    let a = start (turn known) .args in
+    let now = turn known .before .loop in
+    let all = carried c .carry-piece in
     piece-carried (unitOf (a .u) (a .table .now)) (a .span) (a .to-host) (a .lengths .now) (a .addresses .now) (a .host .now) (a .image .now)
-    (pre .1 .1) (now .i) (now .done) (now .host) (now .image) (now .c) (now .inv) (left (c .before .before .before .before .before .before .before .before .before .before)) (c .before .before .before .before .before .before .before .before .lesser .result)
-    (rw (c .before .before .before .before .before .before .before .before .before .before .before .before .span-bytes .ensures) at (c .before .before .before .before .before .before .before .before .lesser .ensures)) (carried .last .0) (carried .last .1 .0) (carried .result) (omega arith) (omega arith)
-    (carried .ensures)
+    (start (turn known) .pre .1 .1) (now .i) (now .done) (now .host) (now .image) (now .c) (now .inv) (left (turn known)) (known .lesser .result) (least known)
+    (all .last .0) (all .last .1 .0) (all .result) (omega arith) (omega arith) (all .ensures)
 
 same-length : tie.Need-same-length Inv-loop μ-loop
 same-length c = c .before .loop .inv .long-host

@@ -22,6 +22,20 @@ Inv-loop host₀ image₀ u table span to-host at n c₀ done₀ host image c do
 abbrev μ-loop : tie.MeasureT-loop
 μ-loop host₀ image₀ u table span to-host at n c₀ done₀ host image c done = n - done
 
+-- The places: the call's beginning, from the loop's head; that, from where a copy's length is known; this, from where the copy
+-- is to be made; and where it was, from where both buffers are known again.
+abbrev start : tie.At-loop Inv-loop μ-loop → tie.Start Inv-loop μ-loop
+start c = c .before .before .before
+
+abbrev at-loop : tie.After-lesser Inv-loop μ-loop → tie.At-loop Inv-loop μ-loop
+at-loop c = c .before .before .before
+
+abbrev least : tie.After-copy-run-arg2 Inv-loop μ-loop → tie.After-lesser Inv-loop μ-loop
+least c = c .before .before
+
+abbrev copied : tie.After-slice-known4 Inv-loop μ-loop → tie.After-copy-run Inv-loop μ-loop
+copied c = c .before .before .before .before
+
 loop-holds : tie.Need-loop-holds Inv-loop μ-loop
 loop-holds c =
     let a = c .before .before .args in
@@ -30,8 +44,8 @@ loop-holds c =
 
 ready-requires : tie.Need-ready-requires Inv-loop μ-loop
 ready-requires c κs =
-    let a = c .before .before .before .before .args in
-    let pre = c .before .before .before .before .pre in
+    let a = start (c .before) .args in
+    let pre = start (c .before) .pre in
     let inv = c .before .loop .inv in
     let on = inv .1 .1 .1 .on in
     (pre .spans, (on-here (unitOf (a .u) (a .table .now)) (a .span) _ (c .before .loop .c) on, omega (arith, on .here, pre .bytes)))
@@ -47,11 +61,12 @@ add-copy-run c = omega arith
 
 copy-run-requires : tie.Need-copy-run-requires Inv-loop μ-loop
 copy-run-requires c κs =
-    let a = c .before .before .before .before .before .before .before .before .args in
-    let pre = c .before .before .before .before .before .before .before .before .pre in
-    let inv = c .before .before .before .before .before .loop .inv in
-    let r = c .before .before .before .ready in
-    let n = c .before .before .lesser in (
+    let begun = start (at-loop (least c)) in
+    let a = begun .args in
+    let pre = begun .pre in
+    let inv = at-loop (least c) .loop .inv in
+    let r = least c .before .ready in
+    let n = least c .lesser in (
       omega (arith, pre .memory, inv),
       rw (← inv .1 .1 .0) at
           (run-held (unitOf (a .u) (a .table .now)) (a .span) (length (a .image .now)) _ (n .result) (r .result) (pre .held) (r .ensures) (omega arith) (omega (arith, r .ensures .some))),
@@ -59,14 +74,15 @@ copy-run-requires c κs =
 
 on-requires : tie.Need-on-requires Inv-loop μ-loop
 on-requires c κs =
-    let a = c .before .before .before .before .before .before .before .before .before .before .before .before .before .args in
-    let pre = c .before .before .before .before .before .before .before .before .before .before .before .before .before .pre in
-    let r = c .before .before .before .before .before .before .before .before .ready in
-    let n = c .before .before .before .before .before .before .before .lesser in
+    let known = least (copied c .before) in
+    let begun = start (at-loop known) in
+    let a = begun .args in
+    let r = known .before .ready in
+    let n = known .lesser in
     let held =
-    run-held (unitOf (a .u) (a .table .now)) (a .span) (length (a .image .now)) _ (n .result) (r .result) (pre .held) (r .ensures) (omega arith)
+    run-held (unitOf (a .u) (a .table .now)) (a .span) (length (a .image .now)) _ (n .result) (r .result) (begun .pre .held) (r .ensures) (omega arith)
     (omega (arith, r .ensures .some)) in
-    (omega arith, omega (arith, c .before .before .before .before .before .before .before .before .before .before .before .before .before .good .1 .0 .0))
+    (omega arith, omega (arith, begun .good .1 .0 .0))
 
 add-done : tie.Need-add-done Inv-loop μ-loop
 add-done c = omega arith
@@ -76,17 +92,20 @@ loop-less c = omega arith
 
 loop-again : tie.Need-loop-again Inv-loop μ-loop
 loop-again c =
-    let a = c .before .before .before .before .before .before .before .before .before .before .before .before .before .before .args in
-    let pre = c .before .before .before .before .before .before .before .before .before .before .before .before .before .before .pre in
-    let now = c .before .before .before .before .before .before .before .before .before .before .before .loop in
-    let r = c .before .before .before .before .before .before .before .before .before .ready in
-    let n = c .before .before .before .before .before .before .before .before .lesser in
-    let copied = c .before .before .before .before .before .copy-run in
+    let copy = copied (c .before) in
+    let known = least (copy .before) in
+    let begun = start (at-loop known) in
+    let a = begun .args in
+    let pre = begun .pre in
+    let now = at-loop known .loop in
+    let r = known .before .ready in
+    let n = known .lesser in
+    let done = copy .copy-run in
     let held =
     run-held (unitOf (a .u) (a .table .now)) (a .span) (length (a .image .now)) _ (n .result) (r .result) (pre .held) (r .ensures) (omega arith)
     (omega (arith, r .ensures .some)) in
-    let both : lent (copied .last .0) (copied .last .1 .1 .0) ≡ copiedRun (a .to-host) (lent (now .host) (now .image)) (r .result .at) (a .at + now .done) (n .result) =
-    λ i. lent (copied .ensures .0 i) (copied .ensures .1 i) in (
+    let both : lent (done .last .0) (done .last .1 .1 .0) ≡ copiedRun (a .to-host) (lent (now .host) (now .image)) (r .result .at) (a .at + now .done) (n .result) =
+    λ i. lent (done .ensures .0 i) (done .ensures .1 i) in (
       omega arith,
       (
         omega arith,
@@ -109,7 +128,7 @@ same-length-2 c = omega arith
 
 returns : tie.Need-returns Inv-loop μ-loop
 returns c =
-    let done : c .before .loop .done ≡ c .before .before .before .before .args .n = omega arith in
+    let done : c .before .loop .done ≡ start (c .before) .args .n = omega arith in
     rw done at (c .before .loop .inv .1 .1 .1)
 
 pub carry-piece-spec : {M : Type 1} → statement M

@@ -7,6 +7,10 @@ use borrow.Author.Needs.{needs}
 use Rattle.transfer.proofs.reach.advance.Statement.{statement}
 use Rattle.transfer.proofs.reach.advance.Tie as tie
 
+-- The call's beginning, from where the run is known.
+abbrev start : tie.After-run-at → tie.Start
+start c = c .before .before
+
 run-at-requires : tie.Need-run-at-requires
 run-at-requires c κs = search needs
 
@@ -15,13 +19,13 @@ geometry-requires c κs = search needs
 
 reach-requires : tie.Need-reach-requires
 reach-requires c κs =
-    let a = c .before .before .before .args in
+    let a = start (c .before) .args in
     let run = c .before .run-at in
-    (run .ensures .some, rw (c .geometry .ensures) (run-inside (unitOf (a .u) (a .table .now)) (a .v) (a .number) (a .most) (run .result) (omega arith) (run .ensures), c .before .before .before .pre .1 .1))
+    (run .ensures .some, rw (c .geometry .ensures) (run-inside (unitOf (a .u) (a .table .now)) (a .v) (a .number) (a .most) (run .result) (omega arith) (run .ensures), start (c .before) .pre .1 .1))
 
 returns : tie.Need-returns
 returns c =
-    let a = c .before .before .before .before .args in
+    let a = start (c .before .before) .args in
     let run = c .before .before .run-at in
     record {
       run = run .result .sectors;

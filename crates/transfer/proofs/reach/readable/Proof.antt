@@ -17,6 +17,13 @@ Inv-loop image at n heeds i₀ i = (i ≤ n) × ((k : ℕ) → k < i → getD im
 abbrev μ-loop : tie.MeasureT-loop
 μ-loop image at n heeds i₀ i = n - i
 
+-- The places: the call's beginning, from the loop's head; and that, from where a mark was read.
+abbrev start : tie.At-loop Inv-loop μ-loop → tie.Start Inv-loop μ-loop
+start c = c .before .before
+
+abbrev at-loop : tie.After-shared-slice-known Inv-loop μ-loop → tie.At-loop Inv-loop μ-loop
+at-loop c = c .before .before
+
 returns : tie.Need-returns Inv-loop μ-loop
 returns c =
     let heeds = c .before .args .heeds in
@@ -37,12 +44,12 @@ shared-slice-read-if2 c = omega arith
 
 returns-2 : tie.Need-returns-2 Inv-loop μ-loop
 returns-2 c =
-    let at-loop = c .before .before .before .loop in
-    let heeds = c .before .before .before .before .before .args .heeds in
+    let now = at-loop (c .before) .loop in
+    let heeds = start (at-loop (c .before)) .args .heeds in
     record {
       most = omega arith;
-      good = λ i h e. at-loop .inv .1 i h;
-      ends = λ h. (granted heeds (heeds ≡ true) (c .before .before .before .before .if1 .left) (says-set heeds), λ e. omega arith);
+      good = λ i h e. now .inv .1 i h;
+      ends = λ h. (granted heeds (heeds ≡ true) (at-loop (c .before) .before .if1 .left) (says-set heeds), λ e. omega arith);
     }
 
 add-i : tie.Need-add-i Inv-loop μ-loop
@@ -53,14 +60,14 @@ loop-less c = omega arith
 
 loop-again : tie.Need-loop-again Inv-loop μ-loop
 loop-again c =
-    let at-loop = c .before .before .before .loop in (
+    let now = at-loop (c .before) .loop in (
       omega arith,
-      rw add-one (all-more _ (at-loop .i) (at-loop .inv .1) (omega arith)),
+      rw add-one (all-more _ (now .i) (now .inv .1) (omega arith)),
     )
 
 returns-3 : tie.Need-returns-3 Inv-loop μ-loop
 returns-3 c =
-    let done : c .before .loop .i ≡ c .before .before .before .args .n = omega arith in
+    let done : c .before .loop .i ≡ start (c .before) .args .n = omega arith in
     record { most = omega arith; good = λ i h e. (rw done at (c .before .loop .inv .1)) i h; ends = λ h. absurd (omega arith) }
 
 pub readable-spec : {M : Type 1} → statement M

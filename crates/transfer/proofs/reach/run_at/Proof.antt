@@ -10,6 +10,10 @@ use Rattle.unit.proofs.Laws.{spot-inside}
 use Rattle.transfer.proofs.reach.run_at.Statement.{statement}
 use Rattle.transfer.proofs.reach.run_at.Tie as tie
 
+-- Where the number was to land, from where the lesser count is known.
+abbrev asked : tie.After-lesser → tie.After-land
+asked c = c .before .before .before .before
+
 land-requires : tie.Need-land-requires
 land-requires c κs = search needs
 
@@ -21,17 +25,18 @@ enum-told c = search needs
 
 returns : tie.Need-returns
 returns c =
-    let a = c .before .before .before .args in
-    absurd (omega (arith, no-landing (unitOf (a .u) (a .table .now)) (a .v) (a .number) (sym (c .before .before .land .ensures) ∙ c .enum-told .given .1)))
+    let land = c .before .before in
+    let a = land .before .args in
+    absurd (omega (arith, no-landing (unitOf (a .u) (a .table .now)) (a .v) (a .number) (sym (land .land .ensures) ∙ c .enum-told .given .1)))
 
 lesser-requires : tie.Need-lesser-requires
 lesser-requires c κs = search needs
 
 returns-2 : tie.Need-returns-2
 returns-2 c =
-    let a = c .before .before .before .before .before .args in
+    let a = asked c .before .args in
     let spot = c .before .before .spot .given .0 .0 in
-    let landed = at-landing (unitOf (a .u) (a .table .now)) (a .v) (a .number) spot (sym (c .before .before .before .before .land .ensures) ∙ c .before .before .spot .given .1) in
+    let landed = at-landing (unitOf (a .u) (a .table .now)) (a .v) (a .number) spot (sym (asked c .land .ensures) ∙ c .before .before .spot .given .1) in
     let inside = spot-inside (unitOf (a .u) (a .table .now)) (a .v) (a .number) (omega arith) in
     let is = landed .1 in
     record {

@@ -14,6 +14,20 @@ Inv-loop image u table span heeds volume done₀ done = Surveying image (unitOf 
 abbrev μ-loop : tie.MeasureT-loop
 μ-loop image u table span heeds volume done₀ done = span .count - done
 
+-- The places: the call's beginning, from the loop's head; that, from where a run was made; and this, from where it came to
+-- its end and from where it did not.
+abbrev start : tie.At-loop Inv-loop μ-loop → tie.Start Inv-loop μ-loop
+start c = c .before .before
+
+abbrev at-loop : tie.After-advance Inv-loop μ-loop → tie.At-loop Inv-loop μ-loop
+at-loop c = c .before .before .before .before .before
+
+abbrev came : tie.After-enum-told Inv-loop μ-loop → tie.After-advance Inv-loop μ-loop
+came c = c .before .before .before
+
+abbrev stopped : tie.After-known-told Inv-loop μ-loop → tie.After-advance Inv-loop μ-loop
+stopped c = c .before .before .before .before
+
 loop-holds : tie.Need-loop-holds Inv-loop μ-loop
 loop-holds c =
     let a = c .before .args in
@@ -29,12 +43,14 @@ sub-advance : tie.Need-sub-advance Inv-loop μ-loop
 sub-advance c = omega arith
 
 advance-requires : tie.Need-advance-requires Inv-loop μ-loop
-advance-requires c κs = (omega arith, (omega arith, c .before .before .before .before .before .before .pre .1))
+advance-requires c κs =
+    let turn = c .before .before in
+    (omega arith, (omega arith, start (turn .before .before) .pre .1))
 
 add-done : tie.Need-add-done Inv-loop μ-loop
 add-done c =
-    let a = c .before .before .before .before .before .before .before .before .args in
-    let now = c .before .before .before .before .before .before .loop in
+    let a = start (at-loop (c .before)) .args in
+    let now = at-loop (c .before) .loop in
     let m = c .before .advance in
     omega (arith, advanced-most (a .image .now) (unitOf (a .u) (a .table .now)) (a .span .volume) (a .span .first) (a .span .count) (a .heeds) (now .done) (now .inv) (m .result) (m .ensures))
 
@@ -43,9 +59,9 @@ enum-known-answer c = search needs
 
 returns : tie.Need-returns Inv-loop μ-loop
 returns c =
-    let a = c .before .before .before .before .before .before .before .before .before .before .before .args in
-    let now = c .before .before .before .before .before .before .before .before .before .loop in
-    let m = c .before .before .before .before .advance in
+    let a = start (at-loop (stopped c)) .args in
+    let now = at-loop (stopped c) .loop in
+    let m = stopped c .advance in
     survey-stopped (a .image .now) (unitOf (a .u) (a .table .now)) (a .span .volume) (a .span .first) (a .span .count) (a .heeds) (now .done) (now .inv) (m .result) (m .ensures)
     (c .before .answer .given .0 .0) (c .before .answer .given .1)
 
@@ -54,21 +70,21 @@ enum-told c = search needs
 
 loop-less : tie.Need-loop-less Inv-loop μ-loop
 loop-less c =
-    let a = c .before .before .before .before .before .before .before .before .before .before .args in
-    let now = c .before .before .before .before .before .before .before .before .loop in
-    let m = c .before .before .before .advance in
+    let a = start (at-loop (came c)) .args in
+    let now = at-loop (came c) .loop in
+    let m = came c .advance in
     omega (arith, survey-grows (a .image .now) (unitOf (a .u) (a .table .now)) (a .span .volume) (a .span .first) (a .span .count) (a .heeds) (now .done) (now .inv) (m .result) (m .ensures) (c .enum-told .given .1))
 
 loop-again : tie.Need-loop-again Inv-loop μ-loop
 loop-again c =
-    let a = c .before .before .before .before .before .before .before .before .before .before .args in
-    let now = c .before .before .before .before .before .before .before .before .loop in
-    let m = c .before .before .before .advance in
+    let a = start (at-loop (came c)) .args in
+    let now = at-loop (came c) .loop in
+    let m = came c .advance in
     survey-on (a .image .now) (unitOf (a .u) (a .table .now)) (a .span .volume) (a .span .first) (a .span .count) (a .heeds) (now .done) (now .inv) (m .result) (m .ensures) (c .enum-told .given .1)
 
 returns-2 : tie.Need-returns-2 Inv-loop μ-loop
 returns-2 c =
-    let a = c .before .before .before .before .args in
+    let a = start (c .before .before) .args in
     let now = c .before .before .loop in
     survey-ends (a .image .now) (unitOf (a .u) (a .table .now)) (a .span .volume) (a .span .first) (a .span .count) (a .heeds) (now .done) (now .inv) (omega arith)
 
