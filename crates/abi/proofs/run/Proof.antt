@@ -8,6 +8,27 @@ use Rattle.abi.proofs.run.Statement.{statement}
 use Rattle.abi.proofs.run.Tie as tie
 use Rattle.unit.specs.Made.{bare}
 
+-- The places: the call's beginning, from where unit 0's tracks are read; that, from where unit 1's are to be; where these are,
+-- from the run; the run, from where record 0 is to be left; where it was, from where record 1 is to be; and where this was, from
+-- where the outcome's number is known.
+abbrev start : tie.After-read-tracks → tie.Start
+start c = c .before .before .before .before .before .before .before .before .before .before .before .before .before .before .before
+
+abbrev first : tie.After-map1 → tie.After-read-tracks
+first c = c .before .before .before
+
+abbrev second : tie.After-run → tie.After-read-tracks2
+second c = c .before .before .before .before .before .before .before
+
+abbrev ran : tie.After-map03 → tie.After-run
+ran c = c .before .before .before .before .before .before .before .before .before .before .before
+
+abbrev zero : tie.After-map13 → tie.After-leave-record
+zero c = c .before .before .before .before
+
+abbrev one : tie.After-number → tie.After-leave-record2
+one c = c .before .before .before
+
 record-requires : tie.Need-record-requires
 record-requires c κs = search needs
 
@@ -24,22 +45,22 @@ pairs-requires-2 : tie.Need-pairs-requires-2
 pairs-requires-2 c κs = search needs
 
 read-tracks-requires-2 : tie.Need-read-tracks-requires-2
-read-tracks-requires-2 c κs = c .before .before .before .before .before .before .before .before .before .before .before .before .before .before .before .before .before .before .pre .1 .0
+read-tracks-requires-2 c κs = start (first c) .pre .1 .0
 
 run-requires : tie.Need-run-requires
 run-requires c κs = search needs
 
 leave-record-requires : tie.Need-leave-record-requires
-leave-record-requires c κs = c .before .before .before .before .before .before .before .before .before .before .before .before .before .before .before .before .before .before .before .before .before .before .before .before .before .before .before .before .before .before .before .before .before .before .before .before .before .pre .0
+leave-record-requires c κs = start (first (second (ran c) .before)) .pre .0
 
 leave-record-requires-2 : tie.Need-leave-record-requires-2
-leave-record-requires-2 c κs = c .before .before .before .before .before .before .before .before .before .before .before .before .before .before .before .before .before .before .before .before .before .before .before .before .before .before .before .before .before .before .before .before .before .before .before .before .before .before .before .before .before .before .pre .1 .0
+leave-record-requires-2 c κs = start (first (second (ran (zero c .before)) .before)) .pre .1 .0
 
 number-requires : tie.Need-number-requires
 number-requires c κs = search needs
 
 put-outcome-requires : tie.Need-put-outcome-requires
-put-outcome-requires c κs = c .before .before .before .before .before .before .before .before .before .before .before .before .before .before .before .before .before .before .before .before .before .before .before .before .before .before .before .before .before .before .before .before .before .before .before .before .before .before .before .before .before .before .before .before .before .before .before .pre .1 .1
+put-outcome-requires c κs = start (first (second (ran (zero (one (c .before) .before) .before)) .before)) .pre .1 .1
 
 cast-result : tie.Need-cast-result
 cast-result c = search needs
@@ -67,17 +88,21 @@ same-length-7 c = search needs
 
 returns : tie.Need-returns
 returns c =
-    let ran = c .before .before .before .before .before .before .before .before .before .before .before .before .before .before .before .before .before .before .before .before .before .before .before .before in
-    let second = ran .before .before .before .before .before .before .before in
-    let first = second .before .before .before .before in
-    let a = first .before .before .before .before .before .before .before .before .before .before .before .before .before .before .before .args in
+    let stored = c .before .before in
+    let said = stored .before .before in
+    let left = zero (one said .before) in
+    let run = ran (left .before) in
+    let tracks1 = second run in
+    let tracks0 = first (tracks1 .before) in
+    let record1 = tracks0 .before .before .before .before in
+    let record0 = record1 .before .before in
+    let a = start tracks0 .args in
     made-is (a .c) (a .first) (a .allowance)
     (lentOf (now (a .host)) (now (a .image0)) (now (a .image1)) (now (a .events)) (now (a .record0)) (now (a .record1)) (now (a .outcome)))
     _
-    (tracks-read (now (a .record0)) (bare (first .before .before .before .before .before .before .«record» .result)) (first .before .before .before .before .before .before .«record» .ensures) (first .before .before .pairs .ensures) (first .read-tracks .ensures))
-    (tracks-read (now (a .record1)) (bare (first .before .before .before .before .record2 .result)) (first .before .before .before .before .record2 .ensures) (second .before .before .pairs2 .ensures) (second .read-tracks2 .ensures))
-    (ran .run .ensures)
-    (c .before .before .before .before .before .before .before .before .before .before .before .before .leave-record .ensures) (c .before .before .before .before .before .before .before .leave-record2 .ensures) (c .before .before .before .before .number .ensures) (c .before .before .put-outcome .ensures)
+    (tracks-read (now (a .record0)) (bare (record0 .«record» .result)) (record0 .«record» .ensures) (tracks0 .before .before .pairs .ensures) (tracks0 .read-tracks .ensures))
+    (tracks-read (now (a .record1)) (bare (record1 .record2 .result)) (record1 .record2 .ensures) (tracks1 .before .before .pairs2 .ensures) (tracks1 .read-tracks2 .ensures))
+    (run .run .ensures) (left .leave-record .ensures) (one said .leave-record2 .ensures) (said .number .ensures) (stored .put-outcome .ensures)
 
 pub run-spec : {M : Type 1} → statement M
 run-spec =

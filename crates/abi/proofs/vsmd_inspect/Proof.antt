@@ -9,14 +9,18 @@ use Rattle.abi.proofs.vsmd_inspect.Statement.{statement}
 use Rattle.abi.proofs.vsmd_inspect.Tie as tie
 use Rattle.unit.specs.Made.{bare}
 
+-- The call's beginning, from the first test.
+abbrev start : tie.After-shared-slice-known2 → tie.Start
+start c = c .before .before
+
 returns : tie.Need-returns
 returns c =
-    let a = c .before .before .before .args in
+    let a = start (c .before) .args in
     sym (inspection-refused-0 (now (a .record0)) (now (a .record1)) (a .long0) (a .long1) (a .unit) (a .place) _ _ _ (omega arith))
 
 returns-2 : tie.Need-returns-2
 returns-2 c =
-    let a = c .before .before .before .before .args in
+    let a = start (c .before .before) .args in
     sym (inspection-refused-1 (now (a .record0)) (now (a .record1)) (a .long0) (a .long1) (a .unit) (a .place) _ _ _ (omega arith) (omega arith))
 
 record-requires : tie.Need-record-requires
@@ -47,9 +51,13 @@ returns-3 : tie.Need-returns-3
 returns-3 c =
     let second = c .before .before .before .before in
     let first = second .before .before .before in
-    let a = first .before .before .before .before .before .before .before .before .before .args in
-    let zero = tracks-read (now (a .record0)) (bare (first .before .before .before .before .«record» .result)) (first .before .before .before .before .«record» .ensures) (first .before .before .pairs .ensures) (first .read-tracks .ensures) in
-    let one = tracks-read (now (a .record1)) (bare (first .before .before .before .record2 .result)) (first .before .before .before .record2 .ensures) (second .before .before .pairs2 .ensures) (second .read-tracks2 .ensures) in
+    let pairs = first .before .before in
+    let record1 = pairs .before in
+    let record0 = record1 .before in
+    let past = record0 .before in
+    let a = start (past .before .before) .args in
+    let zero = tracks-read (now (a .record0)) (bare (record0 .«record» .result)) (record0 .«record» .ensures) (pairs .pairs .ensures) (first .read-tracks .ensures) in
+    let one = tracks-read (now (a .record1)) (bare (record1 .record2 .result)) (record1 .record2 .ensures) (second .before .before .pairs2 .ensures) (second .read-tracks2 .ensures) in
     rw (
       inspection-made (now (a .record0)) (now (a .record1)) (a .long0) (a .long1) (a .unit) (a .place) (now (a .image)) (now (a .at)) (now (a .bytes)) (omega arith) (omega arith),
       c .image-number .ensures,

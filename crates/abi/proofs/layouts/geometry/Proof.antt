@@ -24,11 +24,12 @@ new-requires c κs = search needs
 
 returns : tie.Need-returns
 returns c =
+    let numbers = c .before .before .before in
     rw (
       c .new .ensures,
-      c .before .before .before .before .before .be16 .ensures,
-      c .before .before .before .before .be162 .ensures,
-      c .before .before .before .be163 .ensures,
+      numbers .before .before .be16 .ensures,
+      numbers .before .be162 .ensures,
+      numbers .be163 .ensures,
       c .before .before .volume .ensures,
       c .before .volume2 .ensures,
     )

@@ -9,6 +9,10 @@ use borrow.Author.Needs.{needs}
 use Rattle.abi.proofs.layouts.holder.Statement.{statement}
 use Rattle.abi.proofs.layouts.holder.Tie as tie
 
+-- The call's beginning, from the second test.
+abbrev start : tie.After-be16 → tie.Start
+start c = c .before .before .before .before
+
 shared-slice-read-if1 : tie.Need-shared-slice-read-if1
 shared-slice-read-if1 c = search needs
 
@@ -22,7 +26,7 @@ be16-requires c κs = search needs
 
 returns-2 : tie.Need-returns-2
 returns-2 c =
-    let bytes = c .before .before .before .before .before .args .bytes .now in
+    let bytes = start (c .before) .args .bytes .now in
     rw (eq-eqb (getD bytes 0 0) 2 (omega arith), ne-eqb (be16 bytes 2) 0x0114 (λ same. c .if2 .taken (c .before .be16 .ensures ∙ same)))
 
 shared-slice-read-of : tie.Need-shared-slice-read-of
@@ -36,7 +40,8 @@ of-requires c κs = search needs
 
 returns-3 : tie.Need-returns-3
 returns-3 c =
-    let bytes = c .before .before .before .before .before .before .before .args .bytes .now in
+    let past = c .before .before in
+    let bytes = start (past .before) .args .bytes .now in
     rw (c .of .ensures, eq-eqb (getD bytes 0 0) 2 (omega arith), eq-eqb (be16 bytes 2) 0x0114 (omega arith))
 
 pub holder-spec : {M : Type 1} → statement M

@@ -18,6 +18,13 @@ Inv-loop bytes pairs table tracks m k₀ k = (k ≤ m) × ((i : ℕ) → i < k �
 abbrev μ-loop : tie.MeasureT-loop
 μ-loop bytes pairs table tracks m k₀ k = m - k
 
+-- The places: the call's beginning, from the loop's head; and that, from where a track was read.
+abbrev start : tie.At-loop Inv-loop μ-loop → tie.Start Inv-loop μ-loop
+start c = c .before .before .before .before
+
+abbrev at-loop : tie.After-be32 Inv-loop μ-loop → tie.At-loop Inv-loop μ-loop
+at-loop c = c .before .before
+
 in-room-requires : tie.Need-in-room-requires Inv-loop μ-loop
 in-room-requires c κs = search needs
 
@@ -44,11 +51,11 @@ shared-slice-read-if1 c = omega arith
 
 returns : tie.Need-returns Inv-loop μ-loop
 returns c =
-    let a = c .before .before .before .before .before .before .before .before .args in
-    let k = c .before .before .before .before .loop .k in
+    let read = c .before .before in
+    let a = start (at-loop read) .args in
     λ there.
     c .if1 .taken
-    (c .before .before .be32 .ensures ∙ there-is-each (a .bytes .now) (a .table .now) (2 * min (a .pairs) 32) there k (omega arith))
+    (read .be32 .ensures ∙ there-is-each (a .bytes .now) (a .table .now) (2 * min (a .pairs) 32) there (at-loop read .loop .k) (omega arith))
 
 add-k : tie.Need-add-k Inv-loop μ-loop
 add-k c = omega arith
@@ -58,15 +65,16 @@ loop-less c = omega arith
 
 loop-again : tie.Need-loop-again Inv-loop μ-loop
 loop-again c =
-    let at-loop = c .before .before .before .before .loop in
-    let same = sym (c .before .before .be32 .ensures) ∙ c .if1 .left in (
+    let read = c .before .before in
+    let now = at-loop read .loop in
+    let same = sym (read .be32 .ensures) ∙ c .if1 .left in (
       omega arith,
-      rw add-one (all-more _ (at-loop .k) (at-loop .inv .1) same),
+      rw add-one (all-more _ (now .k) (now .inv .1) same),
     )
 
 returns-2 : tie.Need-returns-2 Inv-loop μ-loop
 returns-2 c =
-    let a = c .before .before .before .before .before .args in
+    let a = start (c .before) .args in
     each-is-there (a .bytes .now) (a .table .now) (2 * min (a .pairs) 32) (omega arith) (λ k less. c .before .loop .inv .1 k (omega arith))
 
 pub holds-tracks-spec : {M : Type 1} → statement M

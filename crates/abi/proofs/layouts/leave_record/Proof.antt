@@ -8,6 +8,10 @@ use borrow.Author.Needs.{needs}
 use Rattle.abi.proofs.layouts.leave_record.Statement.{statement}
 use Rattle.abi.proofs.layouts.leave_record.Tie as tie
 
+-- The call's beginning, from the test.
+abbrev start : tie.After-stands-in → tie.Start
+start c = c .before .before .before
+
 stands-in-requires : tie.Need-stands-in-requires
 stands-in-requires c κs = search needs
 
@@ -19,17 +23,19 @@ same-length c = search needs
 
 returns : tie.Need-returns
 returns c =
-    let a = c .before .before .before .before .before .before .before .before .args in
-    let asked = c .before .before .before .before .before .stands-in in
-    c .before .before .put-record .ensures ∙
-    sym (left-anew (a .bytes .now) (unitOf (a .u) (a .table .now)) (denied (asked .result) _ (c .before .before .before .before .if1 .taken) (asked .ensures)))
+    let put = c .before .before in
+    let test = put .before .before in
+    let a = start (test .before) .args in
+    let asked = test .before .stands-in in
+    put .put-record .ensures ∙
+    sym (left-anew (a .bytes .now) (unitOf (a .u) (a .table .now)) (denied (asked .result) _ (test .if1 .taken) (asked .ensures)))
 
 same-length-2 : tie.Need-same-length-2
 same-length-2 c = search needs
 
 returns-2 : tie.Need-returns-2
 returns-2 c =
-    let a = c .before .before .before .before .args in
+    let a = start (c .before) .args in
     let asked = c .before .stands-in in
     sym (left-as-it-came (a .bytes .now) (unitOf (a .u) (a .table .now)) (granted (asked .result) _ (c .if1 .left) (asked .ensures)))
 

@@ -18,6 +18,13 @@ Inv-loop bytes₀ table pairs tracks m i₀ bytes i = (i ≤ m) × ((bytes ≡ w
 abbrev μ-loop : tie.MeasureT-loop
 μ-loop bytes₀ table pairs tracks m i₀ bytes i = m - i
 
+-- The places: the call's beginning, from the loop's head; and that, from a turn's store.
+abbrev start : tie.At-loop Inv-loop μ-loop → tie.Start Inv-loop μ-loop
+start c = c .before .before .before .before
+
+abbrev at-loop : tie.After-put32 Inv-loop μ-loop → tie.At-loop Inv-loop μ-loop
+at-loop c = c .before .before .before .before
+
 in-room-requires : tie.Need-in-room-requires Inv-loop μ-loop
 in-room-requires c κs = search needs
 
@@ -51,13 +58,14 @@ loop-less c = omega arith
 
 loop-again : tie.Need-loop-again Inv-loop μ-loop
 loop-again c =
-    let a = c .before .before .before .before .before .before .before .before .before .before .args in
-    let at-loop = c .before .before .before .before .before .before .loop in
-    let put = c .before .before .put32 in (
+    let stored = c .before .before in
+    let a = start (at-loop stored) .args in
+    let now = at-loop stored .loop in
+    let put = stored .put32 in (
       omega arith,
       (
-        put .ensures ∙ rw (at-loop .inv .1 .0, add-one (at-loop .i)) (one-more-stored (a .bytes .now) (a .table .now) (at-loop .i) (omega arith)),
-        put .kept .0 ∙ at-loop .inv .1 .1,
+        put .ensures ∙ rw (now .inv .1 .0, add-one (now .i)) (one-more-stored (a .bytes .now) (a .table .now) (now .i) (omega arith)),
+        put .kept .0 ∙ now .inv .1 .1,
       ),
     )
 
@@ -66,7 +74,7 @@ same-length c = omega arith
 
 returns : tie.Need-returns Inv-loop μ-loop
 returns c =
-    let a = c .before .before .before .before .before .args in
+    let a = start (c .before) .args in
     let done : c .before .loop .i ≡ 2 * min (a .pairs) 32 = omega arith in
     rw done at (c .before .loop .inv .1 .0)
 

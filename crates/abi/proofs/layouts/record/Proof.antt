@@ -27,14 +27,16 @@ held-by-requires c κs = search needs
 
 returns : tie.Need-returns
 returns c =
+    let made = c .before .before in
+    let cylinder = made .before .before in
     rw (
       c .held-by .ensures,
       c .before .holder .ensures,
-      c .before .before .new .ensures,
-      c .before .before .before .before .before .before .says-initialized .ensures,
-      c .before .before .before .before .before .geometry .ensures,
-      c .before .before .before .before .be16 .ensures,
-      c .before .before .before .be162 .ensures,
+      made .new .ensures,
+      cylinder .before .before .says-initialized .ensures,
+      cylinder .before .geometry .ensures,
+      cylinder .be16 .ensures,
+      made .before .be162 .ensures,
     )
 
 pub record-spec : {M : Type 1} → statement M

@@ -9,6 +9,10 @@ use borrow.Author.Needs.{needs}
 use Rattle.abi.proofs.layouts.says_initialized.Statement.{statement}
 use Rattle.abi.proofs.layouts.says_initialized.Tie as tie
 
+-- The call's beginning, from the second test.
+abbrev start : tie.After-shared-slice-known2 → tie.Start
+start c = c .before .before .before .before
+
 be32-requires : tie.Need-be32-requires
 be32-requires c κs = search needs
 
@@ -22,7 +26,7 @@ shared-slice-read-if2 c = search needs
 
 returns-2 : tie.Need-returns-2
 returns-2 c =
-    let bytes = c .before .before .before .before .before .args .bytes .now in
+    let bytes = start (c .before) .args .bytes .now in
     rw (eq-eqb (be32 bytes 0) 0x02010114 (omega arith), ne-eqb (getD bytes 16 0) 0 (omega arith))
 
 shared-slice-read-result : tie.Need-shared-slice-read-result
@@ -30,7 +34,7 @@ shared-slice-read-result c = search needs
 
 returns-3 : tie.Need-returns-3
 returns-3 c =
-    let bytes = c .before .before .before .before .before .before .args .bytes .now in
+    let bytes = start (c .before .before) .args .bytes .now in
     rw (eq-eqb (be32 bytes 0) 0x02010114 (omega arith), eq-eqb (getD bytes 16 0) 0 (omega arith))
 
 pub says-initialized-spec : {M : Type 1} → statement M

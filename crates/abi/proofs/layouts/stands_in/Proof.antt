@@ -27,9 +27,11 @@ holds-tracks-requires c κs = search needs
 
 returns-2 : tie.Need-returns-2
 returns-2 c =
-    let a = c .before .before .before .before .before .before .args in
-    let asked = c .before .before .before .same in
-    let same = sym (c .before .before .before .before .«record» .ensures) ∙ granted (asked .result) _ (c .before .before .if1 .left) (asked .ensures) in
+    let past = c .before .before in
+    let asked = past .before .same in
+    let read = past .before .before in
+    let a = read .before .before .args in
+    let same = sym (read .«record» .ensures) ∙ granted (asked .result) _ (past .if1 .left) (asked .ensures) in
     let tracks = same-tracks (a .bytes .now) (unitOf (a .u) (a .table .now)) same in
     says-same (c .holds-tracks .result) _ _ (λ words. (same, tracks ∙ words)) (λ stands. sym tracks ∙ stands .1)
     (rw (c .before .pairs .ensures) at (c .holds-tracks .ensures))
