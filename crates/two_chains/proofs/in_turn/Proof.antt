@@ -9,6 +9,13 @@ use borrow.Author.Needs.{needs}
 use Rattle.two_chains.proofs.in_turn.Statement.{statement}
 use Rattle.two_chains.proofs.in_turn.Tie as tie
 
+-- The places: the second chain's run, from the end; and the first's, from the second's.
+abbrev ran-second : tie.After-end-of2 → tie.After-run-on-its-own2
+ran-second c = c .before .before .before .before .before .before .before .before .before .before .before .before .before
+
+abbrev ran-first : tie.After-run-on-its-own2 → tie.After-run-on-its-own
+ran-first c = c .before .before .before .before .before .before .before .before .before .before .before .before .before .before .before .before .before .before .before
+
 run-on-its-own-requires : tie.Need-run-on-its-own-requires
 run-on-its-own-requires c κs = search needs
 
@@ -22,37 +29,27 @@ end-of-requires-2 : tie.Need-end-of-requires-2
 end-of-requires-2 c κs = search needs
 
 same-length : tie.Need-same-length
-same-length c =
-    let second = c .before .before .before .before .before .before .before .before .before .before .before .before .before in
-    second .run-on-its-own2 .kept .0 ∙ second .before .before .before .before .before .before .before .before .before .before .before .before .before .before .before .before .before .before .before .run-on-its-own .kept .0
+same-length c = let second = ran-second c in second .run-on-its-own2 .kept .0 ∙ ran-first second .run-on-its-own .kept .0
 
 same-length-2 : tie.Need-same-length-2
-same-length-2 c =
-    let second = c .before .before .before .before .before .before .before .before .before .before .before .before .before in
-    second .run-on-its-own2 .kept .1 .0 ∙ second .before .before .before .before .before .before .before .before .before .before .before .before .before .before .before .before .before .before .before .run-on-its-own .kept .1 .0
+same-length-2 c = let second = ran-second c in second .run-on-its-own2 .kept .1 .0 ∙ ran-first second .run-on-its-own .kept .1 .0
 
 same-length-3 : tie.Need-same-length-3
-same-length-3 c =
-    let second = c .before .before .before .before .before .before .before .before .before .before .before .before .before in
-    second .run-on-its-own2 .kept .1 .1 .0 ∙ second .before .before .before .before .before .before .before .before .before .before .before .before .before .before .before .before .before .before .before .run-on-its-own .kept .1 .1 .0
+same-length-3 c = let second = ran-second c in second .run-on-its-own2 .kept .1 .1 .0 ∙ ran-first second .run-on-its-own .kept .1 .1 .0
 
 same-length-4 : tie.Need-same-length-4
-same-length-4 c =
-    let second = c .before .before .before .before .before .before .before .before .before .before .before .before .before in
-    second .run-on-its-own2 .kept .1 .1 .1 .0 ∙ second .before .before .before .before .before .before .before .before .before .before .before .before .before .before .before .before .before .before .before .run-on-its-own .kept .1 .1 .1 .0
+same-length-4 c = let second = ran-second c in second .run-on-its-own2 .kept .1 .1 .1 .0 ∙ ran-first second .run-on-its-own .kept .1 .1 .1 .0
 
 same-length-5 : tie.Need-same-length-5
-same-length-5 c =
-    let second = c .before .before .before .before .before .before .before .before .before .before .before .before .before in
-    second .before .before .before .before .before .before .before .before .before .before .before .before .before .before .before .before .before .before .before .run-on-its-own .kept .1 .1 .1 .1 .0
+same-length-5 c = ran-first (ran-second c) .run-on-its-own .kept .1 .1 .1 .1 .0
 
 same-length-6 : tie.Need-same-length-6
 same-length-6 c = search needs
 
 returns : tie.Need-returns
 returns c =
-    let second = c .before .before .before .before .before .before .before .before .before .before .before .before .before in
-    let first = second .before .before .before .before .before .before .before .before .before .before .before .before .before .before .before .before .before .before .before in
+    let second = ran-second c in
+    let first = ran-first second in
     let a = first .before .before .before .before .before .before .before .before .before .before .before .before .before .before .args in
     let l = first .run-on-its-own .last in
     let m = second .run-on-its-own2 .last in

@@ -63,10 +63,11 @@ same-length-12 c = search needs
 returns-2 : tie.Need-returns-2
 returns-2 c =
     let ran = c .before .before .before .before .before .before .before .before .before .before .before .before .before .before .before in
-    let a = ran .before .before .before .before .before .before .before .before .before .before .before .before .before .before .before .before .before .args in
+    let told = ran .before .before .before .before .before .before .before .before .before in
+    let a = told .before .before .before .before .before .before .before .before .args in
     let y = ran .in-turn2 in
     let l = y .last in
-    rw (ran .before .before .before .before .before .before .before .before .before .enum-told2 .given .1)
+    rw (told .enum-told2 .given .1)
     (exchanged (chainOf (a .one)) (chainOf (a .two))
     (bothOf (now (a .host1)) (now (a .host2)) (now (a .image0)) (now (a .image1)) (now (a .events1)) (now (a .events2)) (now (a .map0)) (now (a .map1)) (a .units))
     (y .result)

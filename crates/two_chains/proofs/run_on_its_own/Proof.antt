@@ -6,6 +6,10 @@ use borrow.Author.Needs.{needs}
 use Rattle.two_chains.proofs.run_on_its_own.Statement.{statement}
 use Rattle.two_chains.proofs.run_on_its_own.Tie as tie
 
+-- The call's beginning, from where the chain's controller is asked for.
+abbrev start : tie.After-slice-known5 → tie.Start
+start c = c .before .before .before .before .before
+
 enum-told : tie.Need-enum-told
 enum-told c = search needs
 
@@ -33,9 +37,10 @@ same-length-4 c = search needs
 returns : tie.Need-returns
 returns c =
     let ran = c .before .before .before .before .before .before .before .before in
-    let a = ran .before .before .before .before .before .before .before .before .before .before .before .before .before .before .args in
+    let told = ran .before .before .before .before .before .before .before in
+    let a = start (told .before .before) .args in
     let l = ran .run .last in
-    rw (ran .before .before .before .before .before .before .before .enum-told .given .1)
+    rw (told .enum-told .given .1)
     (by-the-first (a .k .first) (a .k .allowance) (ran .run .result)
     (now (a .host1)) (now (a .host2)) (now (a .image0)) (now (a .image1)) (now (a .events)) (now (a .map0)) (now (a .map1)) (a .units)
     (l .0) (l .1 .0) (l .1 .1 .0) (l .1 .1 .1 .0) (l .1 .1 .1 .1 .0) (l .1 .1 .1 .1 .1 .0) (ran .run .ensures))
@@ -55,9 +60,10 @@ same-length-8 c = search needs
 returns-2 : tie.Need-returns-2
 returns-2 c =
     let ran = c .before .before .before .before .before .before .before .before in
-    let a = ran .before .before .before .before .before .before .before .before .before .before .before .before .before .before .args in
+    let told = ran .before .before .before .before .before .before .before in
+    let a = start (told .before .before) .args in
     let l = ran .run2 .last in
-    rw (ran .before .before .before .before .before .before .before .enum-told2 .given .1)
+    rw (told .enum-told2 .given .1)
     (by-the-second (a .k .first) (a .k .allowance) (ran .run2 .result)
     (now (a .host1)) (now (a .host2)) (now (a .image0)) (now (a .image1)) (now (a .events)) (now (a .map0)) (now (a .map1)) (a .units)
     (l .0) (l .1 .0) (l .1 .1 .0) (l .1 .1 .1 .0) (l .1 .1 .1 .1 .0) (l .1 .1 .1 .1 .1 .0) (ran .run2 .ensures))
