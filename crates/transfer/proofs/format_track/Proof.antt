@@ -4,7 +4,7 @@ use mathlib.Core.Path.{_≡_, refl, sym, _∙_}
 use native.Mathlib.Omega.{arith}
 use lib.ListN.{length}
 use Rattle.geometry.specs.Drive.{B}
-use Rattle.geometry.specs.Sectors.{firstByte, sectorAt}
+use Rattle.geometry.specs.Sectors.{firstByte}
 use Rattle.geometry.proofs.Answers.{at-sector, no-sector}
 use Rattle.wire.proofs.Promises.{denied, granted}
 use Rattle.transfer.specs.Data.{formatting, progressOn}
@@ -17,6 +17,7 @@ use Rattle.transfer.proofs.format_track.Statement.{statement}
 use Rattle.transfer.proofs.format_track.Tie as tie
 use Rattle.unit.specs.Standing.{geometry}
 use Rattle.unit.specs.Made.{bare}
+use Rattle.geometry.specs.Answers.{sectorAt}
 
 -- The places: the call's beginning, from the test; and where the geometry is known, from where the first sector is.
 abbrev start : tie.After-track-fits → tie.Start

@@ -4,7 +4,6 @@ use Prim.Native.Nat.{_^_, _-_}
 use mathlib.Core.Path.{_≡_, sym, _∙_}
 use native.Mathlib.Omega.{arith}
 use Rattle.wire.proofs.Numbers.{product-below}
-use Rattle.geometry.specs.Sectors.{sectorAt}
 use Rattle.geometry.proofs.Answers.{at-sector, no-sector}
 use Rattle.transfer.proofs.Cursors.{cursor-begins}
 use Rattle.transfer.proofs.Tracks.{run-inside}
@@ -12,6 +11,7 @@ use borrow.Author.Needs.{needs}
 use Rattle.transfer.proofs.carry.next_run.Statement.{statement}
 use Rattle.transfer.proofs.carry.next_run.Tie as tie
 use Rattle.unit.specs.Standing.{geometry, unitOf}
+use Rattle.geometry.specs.Answers.{sectorAt}
 
 -- The places: the call's beginning, from where the run is known; that, from where its first byte is; and this, from where a
 -- sector's bytes are known.
