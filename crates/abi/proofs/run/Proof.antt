@@ -23,11 +23,11 @@ second c = c .before .before .before .before .before .before .before
 abbrev ran : tie.After-map03 → tie.After-run
 ran c = c .before .before .before .before .before .before .before .before .before .before .before
 
-abbrev zero : tie.After-map13 → tie.After-leave-record
-zero c = c .before .before .before .before
+abbrev left-zero : tie.After-map13 → tie.After-leave-record
+left-zero c = c .before .before .before .before
 
-abbrev one : tie.After-number → tie.After-leave-record2
-one c = c .before .before .before
+abbrev left-one : tie.After-number → tie.After-leave-record2
+left-one c = c .before .before .before
 
 record-requires : tie.Need-record-requires
 record-requires c κs = search needs
@@ -54,13 +54,13 @@ leave-record-requires : tie.Need-leave-record-requires
 leave-record-requires c κs = start (first (second (ran c) .before)) .pre .0
 
 leave-record-requires-2 : tie.Need-leave-record-requires-2
-leave-record-requires-2 c κs = start (first (second (ran (zero c .before)) .before)) .pre .1 .0
+leave-record-requires-2 c κs = start (first (second (ran (left-zero c .before)) .before)) .pre .1 .0
 
 number-requires : tie.Need-number-requires
 number-requires c κs = search needs
 
 put-outcome-requires : tie.Need-put-outcome-requires
-put-outcome-requires c κs = start (first (second (ran (zero (one (c .before) .before) .before)) .before)) .pre .1 .1
+put-outcome-requires c κs = start (first (second (ran (left-zero (left-one (c .before) .before) .before)) .before)) .pre .1 .1
 
 cast-result : tie.Need-cast-result
 cast-result c = search needs
@@ -90,7 +90,7 @@ returns : tie.Need-returns
 returns c =
     let stored = c .before .before in
     let said = stored .before .before in
-    let left = zero (one said .before) in
+    let left = left-zero (left-one said .before) in
     let run = ran (left .before) in
     let tracks1 = second run in
     let tracks0 = first (tracks1 .before) in
@@ -102,7 +102,7 @@ returns c =
     _
     (tracks-read (now (a .record0)) (bare (record0 .«record» .result)) (record0 .«record» .ensures) (tracks0 .before .before .pairs .ensures) (tracks0 .read-tracks .ensures))
     (tracks-read (now (a .record1)) (bare (record1 .record2 .result)) (record1 .record2 .ensures) (tracks1 .before .before .pairs2 .ensures) (tracks1 .read-tracks2 .ensures))
-    (run .run .ensures) (left .leave-record .ensures) (one said .leave-record2 .ensures) (said .number .ensures) (stored .put-outcome .ensures)
+    (run .run .ensures) (left .leave-record .ensures) (left-one said .leave-record2 .ensures) (said .number .ensures) (stored .put-outcome .ensures)
 
 pub run-spec : {M : Type 1} → statement M
 run-spec =
