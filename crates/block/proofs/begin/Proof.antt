@@ -20,6 +20,10 @@ use Rattle.block.proofs.begin.Tie as tie
 use Rattle.unit.specs.Made.{bare}
 use Rattle.wire.specs.Storing.{written}
 
+-- The call's beginning, from where the status is to be put.
+abbrev start : tie.After-put-status-arg → tie.Start
+start c = c .before .before .before .before .before
+
 -- What is to be moved fits, once it is known which it is.
 ready :
     (c : tie.Start) (m : Moving) → c .args .moving ≡ m →
@@ -62,7 +66,7 @@ returns : tie.Need-returns
 unfolding progress
 returns c =
     let word = c .before .before .before .before .before in
-    let a = c .before .before .before .before .before .before .before .before .before .before .before .args in
+    let a = start (word .before) .args in
     rw (c .before .enum-told .given .1)
     (record {
       result = c .nothing-moved .ensures;
@@ -77,10 +81,12 @@ same-length-3 c = search needs
 
 returns-2 : tie.Need-returns-2
 returns-2 c =
-    let made = c .before .before .before .before .before .move-sectors in
-    let job = c .before .before .before .before .before .before .before .before .before .before .moving .given in
-    let word = c .before .before .before .before .before .before .before .before .before .before .before .before .before .before in
-    let begun = c .before .before .before .before .before .before .before .before .before .before .before .before .before .before .before .before .before .before .before .before in
+    let moved = c .before .before .before .before .before in
+    let made = moved .move-sectors in
+    let asked = moved .before .before .before .before .before in
+    let job = asked .moving .given in
+    let word = asked .before .before .before .before in
+    let begun = start (word .before) in
     let a = begun .args in
     let j = job .0 .0 in
     let t = spanTransfer (unitOf (a .u) (a .table .now)) (j .span) (j .«to_host») (j .«past_marks») (a .lengths .now) (a .addresses .now) in
@@ -101,10 +107,12 @@ same-length-5 c = search needs
 
 returns-3 : tie.Need-returns-3
 returns-3 c =
-    let made = c .before .before .before .format-track in
-    let track = c .before .before .before .before .before .before .before .moving2 .given in
-    let word = c .before .before .before .before .before .before .before .before .before .before .before in
-    let begun = c .before .before .before .before .before .before .before .before .before .before .before .before .before .before .before .before .before in
+    let moved = c .before .before .before in
+    let made = moved .format-track in
+    let asked = moved .before .before .before .before in
+    let track = asked .moving2 .given in
+    let word = asked .before .before .before .before in
+    let begun = start (word .before) in
     let a = begun .args in
     let spot = track .0 .0 in
     let buffer = track .0 .1 .0 in

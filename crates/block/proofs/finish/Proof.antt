@@ -27,12 +27,16 @@ same-length-2 c = search needs
 
 returns : tie.Need-returns
 returns c =
-    let a = c .before .before .before .before .before .before .before .before .before .before .before .before .before .before .before .args in (
+    let event = c .before .before in
+    let told = event .before in
+    let put = told .before .before .before .before in
+    let status = put .before .before in
+    let a = status .before .before .before .before .before .before .args in (
       refl,
       λ image.
-          finish-made (a .b) (a .at) (a .i) (a .p .answer) (a .p .travel) (a .host .now) image (a .events .now) (c .before .before .before .before .before .before .before .put-status .last .0) (c .before .before .put-event .last .0)
-          (rw (c .before .before .before .before .before .before .before .before .before .status .ensures, c .before .before .before .before .before .before .before .before .error-byte .ensures) at (c .before .before .before .before .before .before .before .put-status .ensures))
-          (rw (toZ-ofZ w32 (a .p .travel) (record { sfits = c .before .before .before .struct-told .given .1 .1 .1 .0 .1 })) at (c .before .before .put-event .ensures)),
+          finish-made (a .b) (a .at) (a .i) (a .p .answer) (a .p .travel) (a .host .now) image (a .events .now) (put .put-status .last .0) (event .put-event .last .0)
+          (rw (status .status .ensures, put .before .error-byte .ensures) at (put .put-status .ensures))
+          (rw (toZ-ofZ w32 (a .p .travel) (record { sfits = told .struct-told .given .1 .1 .1 .0 .1 })) at (event .put-event .ensures)),
     )
 
 pub finish-spec : {M : Type 1} → statement M

@@ -16,6 +16,20 @@ use borrow.Author.Needs.{needs}
 use Rattle.block.proofs.run_block.Statement.{statement}
 use Rattle.block.proofs.run_block.Tie as tie
 
+-- The places: where the block was read and where its unit was settled, from the verdict; the verdict, from where its plan is to be
+-- performed; and where it was, from where the unit is to be held.
+abbrev reads : tie.After-judge → tie.After-read
+reads c = c .before .before .before .before .before .before .before .before
+
+abbrev settles : tie.After-judge → tie.After-settled
+settles c = c .before .before .before .before .before
+
+abbrev planned : tie.After-perform-arg3 → tie.After-judge
+planned c = c .before .before .before .before .before .before .before
+
+abbrev performed : tie.After-slice-known7 → tie.After-perform
+performed c = c .before .before .before .before
+
 read-requires : tie.Need-read-requires
 read-requires c κs = search needs
 
@@ -44,7 +58,7 @@ drive c =
     driveWith (unitOf (a .u) (a .table .now)) (a .image .now)
 
 block : tie.After-judge → Block
-block c = c .before .before .before .before .before .before .before .before .read .result
+block c = reads c .read .result
 
 -- The verdict is that on the block's task.
 judgement :
@@ -66,7 +80,7 @@ counts-then-requires c κs = search needs
 perform-requires : tie.Need-perform-requires
 unfolding begins drive block
 perform-requires c κs =
-    let j = c .before .before .before .before .before .before .before in
+    let j = planned c in
     let host = begins j .args .host .now in
     (begins j .pre .0 .block, plan-fits (asking (begins j .args .c) (taskOf host (block j)) (drive j) host) _ (sym (judgement j) ∙ c .before .before .before .before .before .plan .given .1))
 
@@ -76,8 +90,10 @@ hold-requires c κs = search needs
 finish-requires-2 : tie.Need-finish-requires-2
 unfolding begins
 finish-requires-2 c κs =
-    let room = begins (c .before .before .before .before .before .before .before .before .before .before .before .before .before .before .before) .pre .0 in
-    record { block = omega (arith, room .block, c .before .before .before .before .before .before .before .perform .kept .0); entry = room .entry }
+    let held = c .before .before in
+    let done = performed (held .before) in
+    let room = begins (planned (done .before)) .pre .0 in
+    record { block = omega (arith, room .block, done .perform .kept .0); entry = room .entry }
 
 same-length : tie.Need-same-length
 same-length c = search needs
@@ -88,18 +104,20 @@ same-length-2 c = search needs
 returns : tie.Need-returns
 unfolding begins drive block
 returns c =
-    let j = c .before .before .before .before .before .before .before .before .before .before .before in
+    let refused = c .before .before .before .before .before in
+    let told = refused .before .before .before .before in
+    let j = told .before .before in
     let a = begins j .args in
-    let read = j .before .before .before .before .before .before .before .before .read .ensures in
-    let met = c .before .before .before .before .before .before .before .before .before .r .given in
+    let read = reads j .read .ensures in
+    let met = told .r .given in
     let p = holding (a .c) (block j .options .reserve) (Verdict.Refused (met .0 .0)) (judged (a .host .now) (drive j) (a .at) (Verdict.Refused (met .0 .0))) in
     let e = finished (block j) (a .at) (a .i) p in
     let f = c .before .before .before .before .finish in
-    let is = c .before .before .before .before .before .refuse .ensures in
+    let is = refused .refuse .ensures in
     rw (effect-judged (a .c) (a .host .now) (drive j) (a .at) (a .i) (block j) (Verdict.Refused (met .0 .0)) read (sym (judgement j) ∙ met .1))
     (record {
       result =
-          told-of-it (block j) e _ _ (rw is at (f .ensures .0)) (j .before .before .before .before .before .settled .ensures)
+          told-of-it (block j) e _ _ (rw is at (f .ensures .0)) (settles j .settled .ensures)
           ∙ ap (λ (x : Block). doneOf x e) read;
       table = refl;
       stored = rw is at (f .ensures .1 (a .image .now));
@@ -117,10 +135,14 @@ same-length-5 c = search needs
 returns-2 : tie.Need-returns-2
 unfolding begins drive block
 returns-2 c =
-    let j = c .before .before .before .before .before .before .before .before .before .before .before .before .before .before .before .before .before .before .before .before in
+    let held = c .before .before .before .before .before .before .before in
+    let done = performed (held .before) in
+    let ready = done .before in
+    let then = ready .before .before .before .counts-then in
+    let j = planned ready in
     let a = begins j .args in
-    let read = j .before .before .before .before .before .before .before .before .read .ensures in
-    let met = c .before .before .before .before .before .before .before .before .before .before .before .before .before .before .before .before .before .before .plan .given in
+    let read = reads j .read .ensures in
+    let met = ready .before .before .before .before .before .plan .given in
     let d = drive j in
     let reserve = block j .options .reserve in
     let made = judged (a .host .now) d (a .at) (Verdict.Do (met .0 .0)) in
@@ -128,16 +150,15 @@ returns-2 c =
     let e = finished (block j) (a .at) (a .i) q in
     let is-plan = sym (judgement j) ∙ met .1 in
     let f = c .before .before .before .before .finish2 in
-    let p = c .before .before .before .before .before .before .before .before .before .before .before .before .perform in
-    let h = c .before .before .before .before .before .before .before .hold in
-    let then = c .before .before .before .before .before .before .before .before .before .before .before .before .before .before .before .before .counts-then in
+    let p = done .perform in
+    let h = held .hold in
     let is = h .ensures ∙ performed-held (a .c) reserve (met .0 .0 .leaving) (p .result) made (p .ensures .result) in
     rw (effect-judged (a .c) (a .host .now) d (a .at) (a .i) (block j) (Verdict.Do (met .0 .0)) read is-plan)
     (record {
       result =
           told-of-it (block j) e _ _ (rw is at (f .ensures .0))
           (holder-keeps (a .c) reserve (λ (u : UnitRecord). Says (then .result) (CountsAsInitialized u)) (held-told (then .result)) (met .0 .0 .leaving) (made .answer) (made .unit)
-          (then .ensures (d .unit) (made .sectors) (j .before .before .before .before .before .settled .ensures)
+          (then .ensures (d .unit) (made .sectors) (settles j .settled .ensures)
           (plan-fits (asking (a .c) (taskOf (a .host .now) (block j)) d (a .host .now)) (met .0 .0) is-plan .leaving)))
           ∙ ap (λ (x : Block). doneOf x e) read;
       table = p .ensures .table ∙ held-table (a .c) reserve (met .0 .0 .leaving) (made .answer) (made .unit);

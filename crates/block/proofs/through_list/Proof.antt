@@ -13,33 +13,50 @@ use Rattle.block.proofs.through_list.Statement.{statement}
 use Rattle.block.proofs.through_list.Tie as tie
 use Rattle.unit.specs.Standing.{geometry, unitOf}
 
+-- The places: the call's beginning, from where the list is to be copied out; and where it was, from where its lengths are lent.
+abbrev start : tie.After-copy-out-arg → tie.Start
+start c = c .before .before .before
+
+abbrev copied : tie.After-begin-arg2 → tie.After-copy-out
+copied c = c .before .before .before .before
+
 copy-out-requires : tie.Need-copy-out-requires
 copy-out-requires c κs = search needs
 
 -- What was copied out are the elements, and there are slots enough for them.
-out : (c : tie.After-copy-out) → c .copy-out .result ≡ filled (c .before .before .before .before .args .host .now) (c .before .before .before .before .args .address) (c .before .before .before .before .args .elements)
-out c = c .copy-out .ensures ∙ copied-out (c .before .before .before .before .args .host .now) (c .before .before .before .before .args .image .now) (unitOf (c .before .before .before .before .args .u) (c .before .before .before .before .args .table .now)) (c .before .before .before .before .args .job) (c .before .before .before .before .pre .1 .1) (c .before .before .before .before .args .address) (c .before .before .before .before .args .elements) (c .before .before .before .before .pre .1 .0)
+out : (c : tie.After-copy-out) → let a = start (c .before) .args in c .copy-out .result ≡ filled (a .host .now) (a .address) (a .elements)
+out c =
+    let begun = start (c .before) in
+    let a = begun .args in
+    c .copy-out .ensures ∙ copied-out (a .host .now) (a .image .now) (unitOf (a .u) (a .table .now)) (a .job) (begun .pre .1 .1) (a .address) (a .elements) (begun .pre .1 .0)
 
 room :
     (c : tie.After-copy-out) →
-    (c .before .before .before .before .args .elements ≤ length (lengthsOf (c .before .before .before .before .args .host .now) (c .before .before .before .before .args .address) (c .before .before .before .before .args .elements))) ×
-    (c .before .before .before .before .args .elements ≤ length (addressesOf (c .before .before .before .before .args .host .now) (c .before .before .before .before .args .address) (c .before .before .before .before .args .elements)))
-room c = slots-enough (c .before .before .before .before .args .host .now) (c .before .before .before .before .args .image .now) (unitOf (c .before .before .before .before .args .u) (c .before .before .before .before .args .table .now)) (c .before .before .before .before .args .job) (c .before .before .before .before .pre .1 .1) (c .before .before .before .before .args .address) (c .before .before .before .before .args .elements) (c .before .before .before .before .pre .1 .0)
+    let a = start (c .before) .args in
+    (a .elements ≤ length (lengthsOf (a .host .now) (a .address) (a .elements))) × (a .elements ≤ length (addressesOf (a .host .now) (a .address) (a .elements)))
+room c =
+    let begun = start (c .before) in
+    let a = begun .args in
+    slots-enough (a .host .now) (a .image .now) (unitOf (a .u) (a .table .now)) (a .job) (begun .pre .1 .1) (a .address) (a .elements) (begun .pre .1 .0)
 
 array-share-prefix-lengths : tie.Need-array-share-prefix-lengths
-array-share-prefix-lengths c = rw (out (c .before .before .before .before)) (room (c .before .before .before .before) .0)
+array-share-prefix-lengths c = rw (out (copied c)) (room (copied c) .0)
 
 slice-aggregate-begin : tie.Need-slice-aggregate-begin
-slice-aggregate-begin c = rw (out (c .before .before .before .before .before)) (sym (length-take-le _ _ (room (c .before .before .before .before .before) .0)))
+slice-aggregate-begin c = rw (out (copied (c .before))) (sym (length-take-le _ _ (room (copied (c .before)) .0)))
 
 array-share-prefix-addresses : tie.Need-array-share-prefix-addresses
-array-share-prefix-addresses c = rw (out (c .before .before .before .before .before)) (room (c .before .before .before .before .before) .1)
+array-share-prefix-addresses c = rw (out (copied (c .before))) (room (copied (c .before)) .1)
 
 slice-aggregate-begin-2 : tie.Need-slice-aggregate-begin-2
-slice-aggregate-begin-2 c = rw (out (c .before .before .before .before .before .before)) (sym (length-take-le _ _ (room (c .before .before .before .before .before .before) .1)))
+slice-aggregate-begin-2 c = rw (out (copied (c .before .before))) (sym (length-take-le _ _ (room (copied (c .before .before)) .1)))
 
 begin-requires : tie.Need-begin-requires
-begin-requires c κs = (c .before .before .before .before .before .before .before .before .before .before .pre .0, rw (out (c .before .before .before .before .before .before)) (elements-fit (c .before .before .before .before .before .before .before .before .before .before .args .host .now) (c .before .before .before .before .before .before .before .before .before .before .args .image .now) (unitOf (c .before .before .before .before .before .before .before .before .before .before .args .u) (c .before .before .before .before .before .before .before .before .before .before .args .table .now)) (c .before .before .before .before .before .before .before .before .before .before .args .job) (c .before .before .before .before .before .before .before .before .before .before .pre .1 .1) (c .before .before .before .before .before .before .before .before .before .before .args .address) (c .before .before .before .before .before .before .before .before .before .before .args .elements) (c .before .before .before .before .before .before .before .before .before .before .pre .1 .0)))
+begin-requires c κs =
+    let list = copied (c .before .before) in
+    let begun = start (list .before) in
+    let a = begun .args in
+    (begun .pre .0, rw (out list) (elements-fit (a .host .now) (a .image .now) (unitOf (a .u) (a .table .now)) (a .job) (begun .pre .1 .1) (a .address) (a .elements) (begun .pre .1 .0)))
 
 same-length : tie.Need-same-length
 same-length c = search needs
@@ -49,8 +66,10 @@ same-length-2 c = search needs
 
 returns : tie.Need-returns
 returns c =
-    let a = c .before .before .before .before .before .before .before .before .before .before .before .before .before .before .before .args in
-    let pre = c .before .before .before .before .before .before .before .before .before .before .before .before .before .before .before .pre in
+    let made = c .before .before .before .before in
+    let list = copied (made .before .before .before) in
+    let a = start (list .before) .args in
+    let pre = start (list .before) .pre in
     let n = a .elements in
     let host = a .host .now in
     made-same (a .image .now) (unitOf (a .u) (a .table .now)) (a .job)
@@ -59,7 +78,7 @@ returns c =
     list-byte host (a .address) n (a .job .span .count * B (geometry (unitOf (a .u) (a .table .now))))
     (list-good host (a .image .now) (unitOf (a .u) (a .table .now)) (a .job) (pre .1 .1) (a .address) n (pre .1 .0)) k
     ∙ ap (λ x. dataByte host x k) (sym (pre .1 .0)))
-    (a .at) host _ _ _ (rw (out (c .before .before .before .before .before .before .before .before .before .before .before)) at (c .before .before .before .before .begin .ensures))
+    (a .at) host _ _ _ (rw (out list) at (made .begin .ensures))
 
 pub through-list-spec : {M : Type 1} → statement M
 through-list-spec =

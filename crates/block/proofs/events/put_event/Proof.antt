@@ -63,15 +63,15 @@ same-length c = c .before .before .put32 .kept .0 ∙ simp length-set
 
 returns : tie.Need-returns
 returns c =
-    let start = c .before .before .before .before .before .before .before .before .before .before in
+    let put = c .before .before in
+    let vector = put .before .before .before in
+    let status = vector .before .before .before in
+    let start = status .before .before in
     let a = start .args in
     entry-stored (now (a .events)) (8 * a .i) (a .b) (a .answer) (a .travel)
-    (c .before .before .before .before .before .before .before .before .status .ensures)
-    (c .before .before .before .before .before .before .before .error-byte .ensures)
-    (c .before .before .before .before .before .before .level .ensures)
-    (c .before .before .before .before .before .vector .ensures)
-    (c .before .before .before .twos-complement .ensures ∙ ap twosComplement (toZ-ofZ w32 (a .travel) (start .fits .travel)))
-    (c .before .before .put32 .ensures)
+    (status .status .ensures) (vector .before .before .error-byte .ensures) (vector .before .level .ensures) (vector .vector .ensures)
+    (put .before .twos-complement .ensures ∙ ap twosComplement (toZ-ofZ w32 (a .travel) (start .fits .travel)))
+    (put .put32 .ensures)
 
 pub put-event-spec : {M : Type 1} → statement M
 put-event-spec =
