@@ -10,6 +10,13 @@ use Rattle.board.proofs.chain.run.Statement.{statement}
 use Rattle.board.proofs.chain.run.Tie as tie
 use Rattle.board.specs.Run.{worldOf}
 
+-- The places: the call's beginning, from the first test; and where the units' numbers are known, from where both records are.
+abbrev start : tie.After-holds-entries → tie.Start
+start c = c .before .before .before .before .before .before
+
+abbrev numbers : tie.After-record1 → tie.After-numbers-of2
+numbers c = c .before .before .before .before .before .before .before .before
+
 holds-entries-requires : tie.Need-holds-entries-requires
 holds-entries-requires c κs = search needs
 
@@ -21,9 +28,10 @@ same-length c = search needs
 
 returns : tie.Need-returns
 returns c =
-    let a = c .before .before .before .before .before .before .before .before .args in
+    let test = c .before .before in
+    let a = start test .args in
     let w = (worldOf (a .c) (a .host .now) (a .image0 .now) (a .image1 .now) (a .events .now) (a .map0 .now) (a .map1 .now) (a .units)) in
-    let room = c .before .before .holds-entries in
+    let room = test .holds-entries in
     let none = denied (room .result) _ (c .before .if1 .taken) (room .ensures) in
     rw (c .refused .ensures)
     (came-refused RunAnswer.EventsShort w _ (ran-events-short (a .first) (a .allowance) w (omega arith)))
@@ -39,13 +47,15 @@ same-length-2 c = search needs
 
 returns-2 : tie.Need-returns-2
 returns-2 c =
-    let a = c .before .before .before .before .before .before .before .before .before .before .args in
+    let second = c .before .before in
+    let first = second .before in
+    let a = start (first .before) .args in
     let w = (worldOf (a .c) (a .host .now) (a .image0 .now) (a .image1 .now) (a .events .now) (a .map0 .now) (a .map1 .now) (a .units)) in
-    let room = c .before .before .before .before .holds-entries in
-    let allowed = c .before .before .is-allowance in
+    let room = first .before .holds-entries in
+    let allowed = second .is-allowance in
     rw (c .refused2 .ensures)
     (came-refused RunAnswer.AllowanceBad w _
-    (ran-allowance-bad (a .first) (a .allowance) w (granted (room .result) _ (c .before .before .before .if1 .left) (room .ensures)) (denied (allowed .result) _ (c .before .if2 .taken) (allowed .ensures))))
+    (ran-allowance-bad (a .first) (a .allowance) w (granted (room .result) _ (first .if1 .left) (room .ensures)) (denied (allowed .result) _ (c .before .if2 .taken) (allowed .ensures))))
 
 holds-block-requires : tie.Need-holds-block-requires
 holds-block-requires c κs = search needs
@@ -61,16 +71,19 @@ same-length-4 c = search needs
 
 returns-3 : tie.Need-returns-3
 returns-3 c =
-    let a = c .before .before .before .before .before .before .before .before .before .before .before .before .before .args in
+    let third = c .before .before in
+    let second = third .before .before in
+    let first = second .before .before in
+    let a = start (first .before) .args in
     let w = (worldOf (a .c) (a .host .now) (a .image0 .now) (a .image1 .now) (a .events .now) (a .map0 .now) (a .map1 .now) (a .units)) in
-    let room = c .before .before .before .before .before .before .before .holds-entries in
-    let allowed = c .before .before .before .before .before .is-allowance in
-    let held = c .before .before .holds-block in
+    let room = first .before .holds-entries in
+    let allowed = second .before .is-allowance in
+    let held = third .holds-block in
     rw (c .refused3 .ensures)
     (came-refused RunAnswer.FirstBad w _
     (ran-first-bad (a .first) (a .allowance) w
-    (granted (room .result) _ (c .before .before .before .before .before .before .if1 .left) (room .ensures))
-    (granted (allowed .result) _ (c .before .before .before .before .if2 .left) (allowed .ensures))
+    (granted (room .result) _ (first .if1 .left) (room .ensures))
+    (granted (allowed .result) _ (second .if2 .left) (allowed .ensures))
     (denied (held .result) _ (c .before .if3 .taken) (held .ensures))))
 
 numbers-of-requires : tie.Need-numbers-of-requires
@@ -87,10 +100,14 @@ nothing-requires c κs = search needs
 
 fetch-requires : tie.Need-fetch-requires
 fetch-requires c κs =
-    let room = c .before .before .before .before .before .before .before .before .before .before .before .before .before .before .before .before .before .before .holds-entries in
-    let allowed = c .before .before .before .before .before .before .before .before .before .before .before .before .before .before .before .before .is-allowance in
-    let long = granted (room .result) _ (c .before .before .before .before .before .before .before .before .before .before .before .before .before .before .before .before .before .if1 .left) (room .ensures) in
-    let few = granted (allowed .result) _ (c .before .before .before .before .before .before .before .before .before .before .before .before .before .before .before .if2 .left) (allowed .ensures) in
+    let told = numbers (c .before .before) .before in
+    let third = told .before .before in
+    let second = third .before .before in
+    let first = second .before .before in
+    let room = first .before .holds-entries in
+    let allowed = second .before .is-allowance in
+    let long = granted (room .result) _ (first .if1 .left) (room .ensures) in
+    let few = granted (allowed .result) _ (second .if2 .left) (allowed .ensures) in
     rw (c .before .unasked .ensures, c .nothing .ensures) (record { entries = omega arith; blocks = omega arith; sectors = omega arith }, (tt, tt))
 
 units-of-requires : tie.Need-units-of-requires
@@ -113,20 +130,27 @@ same-length-8 c = search needs
 
 returns-4 : tie.Need-returns-4
 returns-4 c =
-    let a = c .before .before .before .before .before .before .before .before .before .before .before .before .before .before .before .before .before .before .before .before .before .before .before .before .before .before .before .before .before .before .before .before .before .before .before .before .before .args in
+    let fetched = c .before .before .before .before .before .before .before .before .before .before .before .before in
+    let begun = fetched .before in
+    let two = numbers (begun .before .before) in
+    let third = two .before .before in
+    let asked = third .before in
+    let second = asked .before .before in
+    let first = second .before .before in
+    let a = start (first .before) .args in
     let w = (worldOf (a .c) (a .host .now) (a .image0 .now) (a .image1 .now) (a .events .now) (a .map0 .now) (a .map1 .now) (a .units)) in
-    let room = c .before .before .before .before .before .before .before .before .before .before .before .before .before .before .before .before .before .before .before .before .before .before .before .before .before .before .before .before .before .before .before .holds-entries in
-    let allowed = c .before .before .before .before .before .before .before .before .before .before .before .before .before .before .before .before .before .before .before .before .before .before .before .before .before .before .before .before .before .is-allowance in
-    let held = c .before .before .before .before .before .before .before .before .before .before .before .before .before .before .before .before .before .before .before .before .before .before .before .before .before .before .holds-block in
-    let f = c .before .before .before .before .before .before .before .before .before .before .before .before .fetch in
+    let room = first .before .holds-entries in
+    let allowed = second .before .is-allowance in
+    let held = asked .holds-block in
+    let f = fetched .fetch in
     rw (c .outcome-with .ensures, c .before .units-of .ensures)
     (came-to _ _ (f .result)
     (ended-the-same _ _ _ (f .result)
     (ran-chain (a .first) (a .allowance) w
-    (granted (room .result) _ (c .before .before .before .before .before .before .before .before .before .before .before .before .before .before .before .before .before .before .before .before .before .before .before .before .before .before .before .before .before .before .if1 .left) (room .ensures))
-    (granted (allowed .result) _ (c .before .before .before .before .before .before .before .before .before .before .before .before .before .before .before .before .before .before .before .before .before .before .before .before .before .before .before .before .if2 .left) (allowed .ensures))
-    (granted (held .result) _ (c .before .before .before .before .before .before .before .before .before .before .before .before .before .before .before .before .before .before .before .before .before .before .before .before .before .if3 .left) (held .ensures)))
-    (rw (c .before .before .before .before .before .before .before .before .before .before .before .before .before .nothing .ensures, c .before .before .before .before .before .before .before .before .before .before .before .before .before .before .before .before .before .before .before .before .before .before .before .before .numbers-of .ensures, c .before .before .before .before .before .before .before .before .before .before .before .before .before .before .before .before .before .before .before .before .before .before .before .numbers-of2 .ensures) at (f .ensures))))
+    (granted (room .result) _ (first .if1 .left) (room .ensures))
+    (granted (allowed .result) _ (second .if2 .left) (allowed .ensures))
+    (granted (held .result) _ (third .if3 .left) (held .ensures)))
+    (rw (begun .nothing .ensures, two .before .numbers-of .ensures, two .numbers-of2 .ensures) at (f .ensures))))
 
 pub run-spec : {M : Type 1} → statement M
 run-spec =

@@ -7,6 +7,13 @@ use borrow.Author.Needs.{needs}
 use Rattle.board.proofs.chain.run_one.Statement.{statement}
 use Rattle.board.proofs.chain.run_one.Tie as tie
 
+-- The places: the step, from the end; and where the units' numbers are known, from where both records are.
+abbrev stepped : tie.After-stepped-with → tie.After-step
+stepped c = c .before .before .before .before .before .before .before .before .before .before .before .before .before
+
+abbrev numbers : tie.After-record1 → tie.After-numbers-of2
+numbers c = c .before .before .before .before .before .before .before .before
+
 holds-block-requires : tie.Need-holds-block-requires
 holds-block-requires c κs = search needs
 
@@ -41,8 +48,10 @@ unasked-requires c κs = search needs
 
 step-requires : tie.Need-step-requires
 step-requires c κs =
-    let held = c .before .before .before .before .before .before .before .before .before .before .before .before .before .holds-block in
-    let place = granted (held .result) _ (c .before .before .before .before .before .before .before .before .before .before .before .before .if1 .left) (held .ensures) in
+    let told = numbers (c .before) .before in
+    let first = told .before .before in
+    let held = first .before .holds-block in
+    let place = granted (held .result) _ (first .if1 .left) (held .ensures) in
     (record { block = place .inside; entry = omega arith }, rw (c .unasked .ensures) (tt, tt))
 
 units-of-requires : tie.Need-units-of-requires
@@ -52,23 +61,27 @@ stepped-with-requires : tie.Need-stepped-with-requires
 stepped-with-requires c κs = search needs
 
 same-length-3 : tie.Need-same-length-3
-same-length-3 c = c .before .before .before .before .before .before .before .before .before .before .before .before .before .step .kept .0
+same-length-3 c = stepped c .step .kept .0
 
 same-length-4 : tie.Need-same-length-4
-same-length-4 c = c .before .before .before .before .before .before .before .before .before .before .before .before .before .step .kept .1 .0
+same-length-4 c = stepped c .step .kept .1 .0
 
 same-length-5 : tie.Need-same-length-5
-same-length-5 c = c .before .before .before .before .before .before .before .before .before .before .before .before .before .step .kept .1 .1 .0
+same-length-5 c = stepped c .step .kept .1 .1 .0
 
 same-length-6 : tie.Need-same-length-6
-same-length-6 c = c .before .before .before .before .before .before .before .before .before .before .before .before .before .step .kept .1 .1 .1 .0
+same-length-6 c = stepped c .step .kept .1 .1 .1 .0
 
 returns-3 : tie.Need-returns-3
 returns-3 c =
-    let held = c .before .before .before .before .before .before .before .before .before .before .before .before .before .before .before .before .before .before .before .before .before .before .before .before .before .before .before .holds-block in
+    let step = c .before .before .before .before .before .before .before .before .before .before .before .before .before in
+    let two = numbers (step .before .before) in
+    let second = two .before .before in
+    let first = second .before in
+    let held = first .before .holds-block in
     rw (c .stepped-with .ensures, c .before .units-of .ensures) (
-      record { place = granted (held .result) _ (c .before .before .before .before .before .before .before .before .before .before .before .before .before .before .before .before .before .before .before .before .before .before .before .before .before .before .if1 .left) (held .ensures); entry = omega (arith, c .before .before .before .before .before .before .before .before .before .before .before .before .before .before .before .before .before .before .before .before .before .before .before .before .before .if2 .left) },
-      rw (c .before .before .before .before .before .before .before .before .before .before .before .before .before .before .before .before .before .before .before .before .before .before .before .before .numbers-of .ensures, c .before .before .before .before .before .before .before .before .before .before .before .before .before .before .before .before .before .before .before .before .before .before .before .numbers-of2 .ensures) at (c .before .before .before .before .before .before .before .before .before .before .before .before .before .step .ensures .to),
+      record { place = granted (held .result) _ (first .if1 .left) (held .ensures); entry = omega (arith, second .if2 .left) },
+      rw (two .before .numbers-of .ensures, two .numbers-of2 .ensures) at (step .step .ensures .to),
     )
 
 pub run-one-spec : {M : Type 1} → statement M

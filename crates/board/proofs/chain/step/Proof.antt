@@ -10,6 +10,10 @@ use Rattle.board.proofs.chain.step.Statement.{statement}
 use Rattle.board.proofs.chain.step.Tie as tie
 use Rattle.board.specs.Run.{worldOf}
 
+-- The call's beginning, from where the unit is known.
+abbrev start : tie.After-unit-at → tie.Start
+start c = c .before .before .before .before .before .before
+
 unit-at-requires : tie.Need-unit-at-requires
 unit-at-requires c κs = search needs
 
@@ -36,17 +40,19 @@ same-length-3 c = search needs
 
 returns : tie.Need-returns
 returns c =
-    let start = c .before .before .before .before .before .before .before .before .before .before .before .before .before .before .before .before .before .before .before .before in
-    let a = start .args in
+    let work = c .before .before .before .before .before .before in
+    let told-of = work .before .before .before .before .before .before in
+    let begun = start (told-of .before .before) in
+    let a = begun .args in
     let w = (worldOf (a .c) (a .host .now) (a .image0 .now) (a .image1 .now) (a .events .now) (a .map0 .now) (a .map1 .now) (unitsIn (a .record0 .now) (a .record1 .now))) in
-    let block = c .before .before .before .before .before .before .work-on in
+    let block = work .work-on in
     let done = doneWith (block .result) (unitIn (block .last .1 .1 .1 .1 .0) (block .last .1 .1 .1 .1 .1 .1 .0)) in
     let told = told-then _ _ _ _ _ done (block .ensures) in
     record {
       to =
-          step-by w (a .at) (a .i) _ UnitNumber.Zero (c .before .before .before .before .before .before .before .before .before .before .before .before .before .before .unit-at .ensures) (c .before .before .before .before .before .before .before .before .before .before .before .before .enum-told .given .1)
+          step-by w (a .at) (a .i) _ UnitNumber.Zero (told-of .before .before .unit-at .ensures) (told-of .enum-told .given .1)
           (three (block .last .0) (block .last .1 .0) (block .last .1 .1 .0)) (block .last .1 .1 .1 .1 .1 .1 .0) done _ (block .ensures);
-      knows = (told, start .pre .1 .1);
+      knows = (told, begun .pre .1 .1);
     }
 
 same-length-4 : tie.Need-same-length-4
@@ -60,17 +66,19 @@ same-length-6 c = search needs
 
 returns-2 : tie.Need-returns-2
 returns-2 c =
-    let start = c .before .before .before .before .before .before .before .before .before .before .before .before .before .before .before .before .before .before .before .before in
-    let a = start .args in
+    let work = c .before .before .before .before .before .before in
+    let told-of = work .before .before .before .before .before .before in
+    let begun = start (told-of .before .before) in
+    let a = begun .args in
     let w = (worldOf (a .c) (a .host .now) (a .image0 .now) (a .image1 .now) (a .events .now) (a .map0 .now) (a .map1 .now) (unitsIn (a .record0 .now) (a .record1 .now))) in
-    let block = c .before .before .before .before .before .before .work-on2 in
+    let block = work .work-on2 in
     let done = doneWith (block .result) (unitIn (block .last .1 .1 .1 .1 .0) (block .last .1 .1 .1 .1 .1 .1 .0)) in
     let told = told-then _ _ _ _ _ done (block .ensures) in
     record {
       to =
-          step-by w (a .at) (a .i) _ UnitNumber.One (c .before .before .before .before .before .before .before .before .before .before .before .before .before .before .unit-at .ensures) (c .before .before .before .before .before .before .before .before .before .before .before .before .enum-told2 .given .1)
+          step-by w (a .at) (a .i) _ UnitNumber.One (told-of .before .before .unit-at .ensures) (told-of .enum-told2 .given .1)
           (three (block .last .0) (block .last .1 .0) (block .last .1 .1 .0)) (block .last .1 .1 .1 .1 .1 .1 .0) done _ (block .ensures);
-      knows = (start .pre .1 .0, told);
+      knows = (begun .pre .1 .0, told);
     }
 
 pub step-spec : {M : Type 1} → statement M

@@ -10,11 +10,15 @@ use Rattle.unit.specs.Standing.{unitOf}
 use Rattle.board.proofs.inspection.inspect.Statement.{statement}
 use Rattle.board.proofs.inspection.inspect.Tie as tie
 
+-- The call's beginning, from where the part is to be asked for.
+abbrev start : tie.After-shared-slice-known2 → tie.Start
+start c = c .before .before
+
 lies :
     (c : tie.After-part-of) →
-    let a = c .before .before .before .args in InItsImage (now (a .image0)) (now (a .image1)) (c .part-of .result)
+    let a = start (c .before) .args in InItsImage (now (a .image0)) (now (a .image1)) (c .part-of .result)
 lies c =
-    let a = c .before .before .before .args in
+    let a = start (c .before) .args in
     rw (c .part-of .ensures)
     (part-lies (now (a .image0)) (now (a .image1)) (unitOf (a .units .zero) (now (a .map0))) (unitOf (a .units .one) (now (a .map1))) (a .unit) (a .place))
 
@@ -24,7 +28,7 @@ part-of-requires c κs = search needs
 add-end : tie.Need-add-end
 add-end c =
     let p = c .before .part-of .result in
-    let a = c .before .before .before .before .args in
+    let a = start (c .before .before) .args in
     let fits = image-below (now (a .image0)) (now (a .image1)) (p .unit) (2 ^ 64) (omega arith) (omega arith) in
     omega (arith, lies (c .before))
 
@@ -42,8 +46,9 @@ part-result-end c = rw (c .enum-told .given .1) at (lies (c .before .before .bef
 
 returns : tie.Need-returns
 returns c =
-    let a = c .before .before .before .before .before .before .before .args in
-    let p = c .before .before .before .before .part-of in
+    let part = c .before .before .before .before in
+    let a = start (part .before) .args in
+    let p = part .part-of in
     let is = c .before .enum-told .given .1 in
     rw (← p .ensures)
     (part-cut (now (a .image0)) (now (a .image1)) (p .result) Zero is, part-place (ptr (a .image0)) (ptr (a .image1)) (p .result) Zero is)
@@ -62,8 +67,9 @@ part-result-end-2 c = rw (c .enum-told2 .given .1) at (lies (c .before .before .
 
 returns-2 : tie.Need-returns-2
 returns-2 c =
-    let a = c .before .before .before .before .before .before .before .args in
-    let p = c .before .before .before .before .part-of in
+    let part = c .before .before .before .before in
+    let a = start (part .before) .args in
+    let p = part .part-of in
     let is = c .before .enum-told2 .given .1 in
     rw (← p .ensures)
     (part-cut (now (a .image0)) (now (a .image1)) (p .result) One is, part-place (ptr (a .image0)) (ptr (a .image1)) (p .result) One is)

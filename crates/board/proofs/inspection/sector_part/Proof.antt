@@ -6,12 +6,28 @@ use borrow.Author.Needs.{needs}
 use denote.Ref.{now}
 use Rattle.wire.proofs.Promises.{denied, granted}
 use Rattle.geometry.specs.Drive.{need}
+use Rattle.geometry.specs.Sectors.{sectorAt}
 use Rattle.geometry.proofs.Answers.{at-sector, no-sector}
 use Rattle.board.specs.Inspection.{Inspectable}
 use Rattle.board.proofs.Parts.{sector-not-there, sector-there}
 use Rattle.board.proofs.inspection.sector_part.Statement.{statement}
 use Rattle.board.proofs.inspection.sector_part.Tie as tie
 use Rattle.unit.specs.Standing.{geometry, unitOf}
+
+-- The call's beginning, from where the unit is known to be initialized.
+abbrev start : tie.Else1 → tie.Start
+start c = c .before .before
+
+-- What the drive needs, and the sector that was asked for, are the unit's.
+needed : (c : tie.After-need) → let a = start (c .before .before) .args in c .need .result ≡ need (geometry (unitOf (a .u) (now (a .table))))
+needed c = rw (c .before .geometry .ensures) at (c .need .ensures)
+
+sector-is :
+    (c : tie.After-sector) →
+    let drive = c .before .before in
+    let a = start (drive .before .before) .args in
+    c .sector .result ≡ sectorAt (geometry (unitOf (a .u) (now (a .table)))) (a .place)
+sector-is c = rw (c .before .before .before .geometry .ensures) at (c .sector .ensures)
 
 counts-as-initialized-requires : tie.Need-counts-as-initialized-requires
 counts-as-initialized-requires c κs = search needs
@@ -36,9 +52,7 @@ no-part-requires-2 c κs = search needs
 
 returns-2 : tie.Need-returns-2
 returns-2 c =
-    let a = c .before .before .before .before .before .before .args in
-    let all = c .before .before .need in
-    let needed : all .result ≡ need (geometry (unitOf (a .u) (now (a .table)))) = rw (c .before .before .before .geometry .ensures) at (all .ensures) in
+    let all = needed (c .before .before) in
     c .no-part2 .ensures ∙ sym (sector-not-there _ _ _ _ (λ there. omega (arith, there .image)))
 
 sector-requires : tie.Need-sector-requires
@@ -61,18 +75,21 @@ no-part-requires-3 c κs = search needs
 
 returns-3 : tie.Need-returns-3
 returns-3 c =
-    let a = c .before .before .before .before .before .before .before .before .before .before .args in
-    let u = c .before .before .before .before .before .before .before .before .before .counts-as-initialized in
-    let g = c .before .before .before .before .before .before .before .geometry in
-    let all = c .before .before .before .before .before .before .need in
-    let needed : all .result ≡ need (geometry (unitOf (a .u) (now (a .table)))) = rw (g .ensures) at (all .ensures) in
-    let sector = c .before .before .first .given in
+    let told = c .before .before in
+    let asked = told .before .before in
+    let drive = asked .before .before in
+    let first = drive .before .before in
+    let a = start first .args in
+    let u = first .before .counts-as-initialized in
+    let g = drive .before .geometry in
+    let all = needed drive in
+    let sector = told .first .given in
     let found =
     at-sector (geometry (unitOf (a .u) (now (a .table)))) (a .place) (sector .0 .0) (sector .0 .1 .0)
-    (sym (rw (g .ensures) at (c .before .before .before .before .sector .ensures)) ∙ sector .1) in
+    (sym (sector-is asked) ∙ sector .1) in
     let there : Inspectable (unitOf (a .u) (now (a .table))) (a .long) (a .place) =
     record {
-      initialized = granted (u .result) _ (c .before .before .before .before .before .before .before .before .if1 .left) (u .ensures);
+      initialized = granted (u .result) _ (first .if1 .left) (u .ensures);
       inside = found .0;
       image = omega arith;
     } in
@@ -80,11 +97,12 @@ returns-3 c =
 
 returns-4 : tie.Need-returns-4
 returns-4 c =
-    let a = c .before .before .before .before .before .before .before .before .before .args in
-    let g = c .before .before .before .before .before .before .geometry in
+    let asked = c .before .before .before in
+    let drive = asked .before .before in
+    let a = start (drive .before .before) .args in
     let out =
     no-sector (geometry (unitOf (a .u) (now (a .table)))) (a .place)
-    (sym (rw (g .ensures) at (c .before .before .before .sector .ensures)) ∙ c .before .enum-told .given .1) in
+    (sym (sector-is asked) ∙ c .before .enum-told .given .1) in
     c .no-part3 .ensures ∙ sym (sector-not-there _ _ _ _ (λ there. omega (arith, there .inside)))
 
 pub sector-part-spec : {M : Type 1} → statement M
