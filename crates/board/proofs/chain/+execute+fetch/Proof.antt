@@ -46,17 +46,37 @@ abbrev fetch-below : ℕ → In 8 fetch-kinds.ps
 fetch-below t = and 8 fetch-kinds.ps (falls 8 fetch-kinds.ps _<_ μ-fetch t) fetch.Pre
 
 module _ (t : ℕ) where
+  -- The places of execute: its beginning, from where the step is to be made; the step, from where what it told is known; that, from
+  -- where the chain failed, from where it ended, and from the next fetch; and this, from the end.
+  abbrev start : execute-lts.After-struct-known (step-reads.Asked, step-reads.Learnt, counted-reads.Asked, counted-reads.Learnt, failed-reads.Asked, failed-reads.Learnt, fetch-below t, fetch.Post, ended-reads.Asked, ended-reads.Learnt) (execute-at t) execute.Post → execute-lts.Start (step-reads.Asked, step-reads.Learnt, counted-reads.Asked, counted-reads.Learnt, failed-reads.Asked, failed-reads.Learnt, fetch-below t, fetch.Post, ended-reads.Asked, ended-reads.Learnt) (execute-at t) execute.Post
+  start c = c .before .before .before .before .before .before .before .before .before .before .before .before .before
+
+  abbrev stepped : execute-lts.After-s (step-reads.Asked, step-reads.Learnt, counted-reads.Asked, counted-reads.Learnt, failed-reads.Asked, failed-reads.Learnt, fetch-below t, fetch.Post, ended-reads.Asked, ended-reads.Learnt) (execute-at t) execute.Post → execute-lts.After-step (step-reads.Asked, step-reads.Learnt, counted-reads.Asked, counted-reads.Learnt, failed-reads.Asked, failed-reads.Learnt, fetch-below t, fetch.Post, ended-reads.Asked, ended-reads.Learnt) (execute-at t) execute.Post
+  stepped c = c .before .before .before .before .before .before .before .before .before
+
+  abbrev failed : execute-lts.After-failed (step-reads.Asked, step-reads.Learnt, counted-reads.Asked, counted-reads.Learnt, failed-reads.Asked, failed-reads.Learnt, fetch-below t, fetch.Post, ended-reads.Asked, ended-reads.Learnt) (execute-at t) execute.Post → execute-lts.After-s (step-reads.Asked, step-reads.Learnt, counted-reads.Asked, counted-reads.Learnt, failed-reads.Asked, failed-reads.Learnt, fetch-below t, fetch.Post, ended-reads.Asked, ended-reads.Learnt) (execute-at t) execute.Post
+  failed c = c .before .before .before .before .before
+
+  abbrev ended : execute-lts.After-ended (step-reads.Asked, step-reads.Learnt, counted-reads.Asked, counted-reads.Learnt, failed-reads.Asked, failed-reads.Learnt, fetch-below t, fetch.Post, ended-reads.Asked, ended-reads.Learnt) (execute-at t) execute.Post → execute-lts.After-s (step-reads.Asked, step-reads.Learnt, counted-reads.Asked, counted-reads.Learnt, failed-reads.Asked, failed-reads.Learnt, fetch-below t, fetch.Post, ended-reads.Asked, ended-reads.Learnt) (execute-at t) execute.Post
+  ended c = c .before .before .before .before .before
+
+  abbrev went-on : execute-lts.After-fetch (step-reads.Asked, step-reads.Learnt, counted-reads.Asked, counted-reads.Learnt, failed-reads.Asked, failed-reads.Learnt, fetch-below t, fetch.Post, ended-reads.Asked, ended-reads.Learnt) (execute-at t) execute.Post → execute-lts.After-s (step-reads.Asked, step-reads.Learnt, counted-reads.Asked, counted-reads.Learnt, failed-reads.Asked, failed-reads.Learnt, fetch-below t, fetch.Post, ended-reads.Asked, ended-reads.Learnt) (execute-at t) execute.Post
+  went-on c = c .before .before .before .before .before .before .before .before .before .before .before .before .before
+
+  abbrev gone : execute-lts.After-slice-known12 (step-reads.Asked, step-reads.Learnt, counted-reads.Asked, counted-reads.Learnt, failed-reads.Asked, failed-reads.Learnt, fetch-below t, fetch.Post, ended-reads.Asked, ended-reads.Learnt) (execute-at t) execute.Post → execute-lts.After-fetch (step-reads.Asked, step-reads.Learnt, counted-reads.Asked, counted-reads.Learnt, failed-reads.Asked, failed-reads.Learnt, fetch-below t, fetch.Post, ended-reads.Asked, ended-reads.Learnt) (execute-at t) execute.Post
+  gone c = c .before .before .before .before .before .before .before .before
+
   execute-cast-step : execute-lts.Need-cast-step (step-reads.Asked, step-reads.Learnt, counted-reads.Asked, counted-reads.Learnt, failed-reads.Asked, failed-reads.Learnt, fetch-below t, fetch.Post, ended-reads.Asked, ended-reads.Learnt) (execute-at t) execute.Post
   execute-cast-step c = search needs
 
   execute-step-requires : execute-lts.Need-step-requires (step-reads.Asked, step-reads.Learnt, counted-reads.Asked, counted-reads.Learnt, failed-reads.Asked, failed-reads.Learnt, fetch-below t, fetch.Post, ended-reads.Asked, ended-reads.Learnt) (execute-at t) execute.Post
   execute-step-requires c κs =
-      let pre = c .before .before .before .before .before .before .before .before .before .before .before .before .before .pre .1 in
+      let pre = start c .pre .1 in
       (record { block = pre .0 .inside; entry = omega (arith, pre .1 .entries) }, pre .2)
 
   execute-counted-requires : execute-lts.Need-counted-requires (step-reads.Asked, step-reads.Learnt, counted-reads.Asked, counted-reads.Learnt, failed-reads.Asked, failed-reads.Learnt, fetch-below t, fetch.Post, ended-reads.Asked, ended-reads.Learnt) (execute-at t) execute.Post
   execute-counted-requires c κs =
-      let spare = c .before .before .before .before .before .before .before .before .before .before .before .before .before .before .before .before .before .before .before .before .before .before .before .pre .1 .1 in
+      let spare = start (stepped c .before) .pre .1 .1 in
       (omega (arith, spare .blocks), spare .sectors)
 
   execute-enum-known-answer : execute-lts.Need-enum-known-answer (step-reads.Asked, step-reads.Learnt, counted-reads.Asked, counted-reads.Learnt, failed-reads.Asked, failed-reads.Learnt, fetch-below t, fetch.Post, ended-reads.Asked, ended-reads.Learnt) (execute-at t) execute.Post
@@ -70,13 +90,15 @@ module _ (t : ℕ) where
 
   execute-fetch-requires : execute-lts.Need-fetch-requires (step-reads.Asked, step-reads.Learnt, counted-reads.Asked, counted-reads.Learnt, failed-reads.Asked, failed-reads.Learnt, fetch-below t, fetch.Post, ended-reads.Asked, ended-reads.Learnt) (execute-at t) execute.Post
   execute-fetch-requires c κs =
-      let a = c .before .before .before .before .before .before .before .before .before .before .before .before .before .before .before .before .before .before .before .before .before .before .before .before .before .before .before .before .before .before .before .before .before .before .before .args in
-      let pre = c .before .before .before .before .before .before .before .before .before .before .before .before .before .before .before .before .before .before .before .before .before .before .before .before .before .before .before .before .before .before .before .before .before .before .before .pre in
-      let s = c .before .before .before .before .before .before .before .before .before .before .before .before .before .before .before .before .before .before .before .before .before .step in (
+      let met = c .before .before .before .before .before .before .before .before .before .before .before in
+      let done = stepped (met .before) in
+      let a = start (done .before) .args in
+      let pre = start (done .before) .pre in
+      let s = done .step in (
         omega (arith, pre .0),
         (
-          rw (c .before .before .before .before .before .before .before .before .before .before .before .counted .ensures)
-              (spare-less (s .last .1 .1 .1 .0) (a .left) (a .count) (s .result .told .sectors) (omega arith)
+          rw (met .counted .ensures)
+              (spare-less (s .last .1 .1 .1 .0) (a .left) (a .count) (s .result .told .sectors) (omega (arith, s .ok))
               (spare-kept (a .events .now) (s .last .1 .1 .1 .0) (a .left + 1) (a .count) (s .kept .1 .1 .1 .0) (pre .1 .1))),
           s .ensures .knows,
         ),
@@ -86,72 +108,85 @@ module _ (t : ℕ) where
   execute-ended-requires c κs = search needs
 
   execute-same-length : execute-lts.Need-same-length (step-reads.Asked, step-reads.Learnt, counted-reads.Asked, counted-reads.Learnt, failed-reads.Asked, failed-reads.Learnt, fetch-below t, fetch.Post, ended-reads.Asked, ended-reads.Learnt) (execute-at t) execute.Post
-  execute-same-length c = c .before .before .before .before .before .before .before .before .before .before .before .before .before .before .step .kept .0
+  execute-same-length c = stepped (failed c) .step .kept .0
 
   execute-same-length-2 : execute-lts.Need-same-length-2 (step-reads.Asked, step-reads.Learnt, counted-reads.Asked, counted-reads.Learnt, failed-reads.Asked, failed-reads.Learnt, fetch-below t, fetch.Post, ended-reads.Asked, ended-reads.Learnt) (execute-at t) execute.Post
-  execute-same-length-2 c = c .before .before .before .before .before .before .before .before .before .before .before .before .before .before .step .kept .1 .0
+  execute-same-length-2 c = stepped (failed c) .step .kept .1 .0
 
   execute-same-length-3 : execute-lts.Need-same-length-3 (step-reads.Asked, step-reads.Learnt, counted-reads.Asked, counted-reads.Learnt, failed-reads.Asked, failed-reads.Learnt, fetch-below t, fetch.Post, ended-reads.Asked, ended-reads.Learnt) (execute-at t) execute.Post
-  execute-same-length-3 c = c .before .before .before .before .before .before .before .before .before .before .before .before .before .before .step .kept .1 .1 .0
+  execute-same-length-3 c = stepped (failed c) .step .kept .1 .1 .0
 
   execute-same-length-4 : execute-lts.Need-same-length-4 (step-reads.Asked, step-reads.Learnt, counted-reads.Asked, counted-reads.Learnt, failed-reads.Asked, failed-reads.Learnt, fetch-below t, fetch.Post, ended-reads.Asked, ended-reads.Learnt) (execute-at t) execute.Post
-  execute-same-length-4 c = c .before .before .before .before .before .before .before .before .before .before .before .before .before .before .step .kept .1 .1 .1 .0
+  execute-same-length-4 c = stepped (failed c) .step .kept .1 .1 .1 .0
 
   execute-returns : execute-lts.Need-returns (step-reads.Asked, step-reads.Learnt, counted-reads.Asked, counted-reads.Learnt, failed-reads.Asked, failed-reads.Learnt, fetch-below t, fetch.Post, ended-reads.Asked, ended-reads.Learnt) (execute-at t) execute.Post
   execute-returns c =
-      let a = c .before .before .before .before .before .before .before .before .before .before .before .before .before .before .before .before .before .before .before .before .before .before .before .before .before .before .before .before .args in
-      let s = c .before .before .before .before .before .before .before .before .before .before .before .before .before .before .step in
+      let met = c .before .before .before .before in
+      let done = stepped (met .before) in
+      let a = start (done .before) .args in
+      let s = done .step in
       let w = (worldOf (a .c) (a .host .now) (a .image0 .now) (a .image1 .now) (a .events .now) (a .map0 .now) (a .map1 .now) (unitsIn (a .record0 .now) (a .record1 .now))) in
       let w′ = (worldOf (a .c) (s .last .0) (s .last .1 .0) (s .last .1 .1 .0) (s .last .1 .1 .1 .0) (s .last .1 .1 .1 .1 .0) (s .last .1 .1 .1 .1 .1 .0) (unitsIn (s .last .1 .1 .1 .1 .1 .1 .0) (s .last .1 .1 .1 .1 .1 .1 .1 .0))) in
       let r = c .before .before .answer .given .0 .0 in
-      rw (c .failed .ensures, c .before .before .before .before .counted .ensures)
+      rw (c .failed .ensures, met .counted .ensures)
       (ended-in RunAnswer.BlockFailed (refusalNumber r) (counted (a .count) (s .result .told .sectors)) w′ _
       (executed-failed (fetched (a .left)) (a .count) (a .at) w w′ _ (s .ensures .to) r (c .before .before .answer .given .1)))
 
   execute-same-length-5 : execute-lts.Need-same-length-5 (step-reads.Asked, step-reads.Learnt, counted-reads.Asked, counted-reads.Learnt, failed-reads.Asked, failed-reads.Learnt, fetch-below t, fetch.Post, ended-reads.Asked, ended-reads.Learnt) (execute-at t) execute.Post
-  execute-same-length-5 c = c .before .before .before .before .before .before .before .before .fetch .kept .0 ∙ c .before .before .before .before .before .before .before .before .before .before .before .before .before .before .before .before .before .before .before .before .before .before .before .before .before .before .before .before .before .before .step .kept .0
+  execute-same-length-5 c = gone c .fetch .kept .0 ∙ stepped (went-on (gone c)) .step .kept .0
 
   execute-same-length-6 : execute-lts.Need-same-length-6 (step-reads.Asked, step-reads.Learnt, counted-reads.Asked, counted-reads.Learnt, failed-reads.Asked, failed-reads.Learnt, fetch-below t, fetch.Post, ended-reads.Asked, ended-reads.Learnt) (execute-at t) execute.Post
-  execute-same-length-6 c = c .before .before .before .before .before .before .before .before .fetch .kept .1 .0 ∙ c .before .before .before .before .before .before .before .before .before .before .before .before .before .before .before .before .before .before .before .before .before .before .before .before .before .before .before .before .before .before .step .kept .1 .0
+  execute-same-length-6 c = gone c .fetch .kept .1 .0 ∙ stepped (went-on (gone c)) .step .kept .1 .0
 
   execute-same-length-7 : execute-lts.Need-same-length-7 (step-reads.Asked, step-reads.Learnt, counted-reads.Asked, counted-reads.Learnt, failed-reads.Asked, failed-reads.Learnt, fetch-below t, fetch.Post, ended-reads.Asked, ended-reads.Learnt) (execute-at t) execute.Post
-  execute-same-length-7 c = c .before .before .before .before .before .before .before .before .fetch .kept .1 .1 .0 ∙ c .before .before .before .before .before .before .before .before .before .before .before .before .before .before .before .before .before .before .before .before .before .before .before .before .before .before .before .before .before .before .step .kept .1 .1 .0
+  execute-same-length-7 c = gone c .fetch .kept .1 .1 .0 ∙ stepped (went-on (gone c)) .step .kept .1 .1 .0
 
   execute-same-length-8 : execute-lts.Need-same-length-8 (step-reads.Asked, step-reads.Learnt, counted-reads.Asked, counted-reads.Learnt, failed-reads.Asked, failed-reads.Learnt, fetch-below t, fetch.Post, ended-reads.Asked, ended-reads.Learnt) (execute-at t) execute.Post
-  execute-same-length-8 c = c .before .before .before .before .before .before .before .before .fetch .kept .1 .1 .1 .0 ∙ c .before .before .before .before .before .before .before .before .before .before .before .before .before .before .before .before .before .before .before .before .before .before .before .before .before .before .before .before .before .before .step .kept .1 .1 .1 .0
+  execute-same-length-8 c = gone c .fetch .kept .1 .1 .1 .0 ∙ stepped (went-on (gone c)) .step .kept .1 .1 .1 .0
 
   execute-returns-2 : execute-lts.Need-returns-2 (step-reads.Asked, step-reads.Learnt, counted-reads.Asked, counted-reads.Learnt, failed-reads.Asked, failed-reads.Learnt, fetch-below t, fetch.Post, ended-reads.Asked, ended-reads.Learnt) (execute-at t) execute.Post
   execute-returns-2 c =
-      let a = c .before .before .before .before .before .before .before .before .before .before .before .before .before .before .before .before .before .before .before .before .before .before .before .before .before .before .before .before .before .before .before .before .before .before .before .before .before .before .before .before .before .before .before .before .args in
-      let s = c .before .before .before .before .before .before .before .before .before .before .before .before .before .before .before .before .before .before .before .before .before .before .before .before .before .before .before .before .before .before .step in
+      let next = c .before .before .before .before .before .before .before .before in
+      let way = next .before .before .before .before .before .before .before .before .before in
+      let told = way .before in
+      let met = told .before .before in
+      let done = stepped (met .before) in
+      let a = start (done .before) .args in
+      let s = done .step in
       let w = (worldOf (a .c) (a .host .now) (a .image0 .now) (a .image1 .now) (a .events .now) (a .map0 .now) (a .map1 .now) (unitsIn (a .record0 .now) (a .record1 .now))) in
       let w′ = (worldOf (a .c) (s .last .0) (s .last .1 .0) (s .last .1 .1 .0) (s .last .1 .1 .1 .0) (s .last .1 .1 .1 .1 .0) (s .last .1 .1 .1 .1 .1 .0) (unitsIn (s .last .1 .1 .1 .1 .1 .1 .0) (s .last .1 .1 .1 .1 .1 .1 .1 .0))) in
-      let f = c .before .before .before .before .before .before .before .before .fetch in
+      let f = next .fetch in
       ended-the-same _ _ _ (f .result)
-      (executed-on (fetched (a .left)) (a .count) (a .at) w w′ _ (s .ensures .to) (c .before .before .before .before .before .before .before .before .before .before .before .before .before .before .before .before .before .before .enum-told .given .1) (c .before .before .before .before .before .before .before .before .before .before .before .before .before .before .before .before .before .if1 .taken))
-      (rw (c .before .before .before .before .before .before .before .before .before .before .before .before .before .before .before .before .before .before .before .before .counted .ensures) at (f .ensures))
+      (executed-on (fetched (a .left)) (a .count) (a .at) w w′ _ (s .ensures .to) (told .enum-told .given .1) (way .if1 .taken))
+      (rw (met .counted .ensures) at (f .ensures))
 
   execute-same-length-9 : execute-lts.Need-same-length-9 (step-reads.Asked, step-reads.Learnt, counted-reads.Asked, counted-reads.Learnt, failed-reads.Asked, failed-reads.Learnt, fetch-below t, fetch.Post, ended-reads.Asked, ended-reads.Learnt) (execute-at t) execute.Post
-  execute-same-length-9 c = c .before .before .before .before .before .before .before .before .before .before .before .before .before .before .step .kept .0
+  execute-same-length-9 c = stepped (ended c) .step .kept .0
 
   execute-same-length-10 : execute-lts.Need-same-length-10 (step-reads.Asked, step-reads.Learnt, counted-reads.Asked, counted-reads.Learnt, failed-reads.Asked, failed-reads.Learnt, fetch-below t, fetch.Post, ended-reads.Asked, ended-reads.Learnt) (execute-at t) execute.Post
-  execute-same-length-10 c = c .before .before .before .before .before .before .before .before .before .before .before .before .before .before .step .kept .1 .0
+  execute-same-length-10 c = stepped (ended c) .step .kept .1 .0
 
   execute-same-length-11 : execute-lts.Need-same-length-11 (step-reads.Asked, step-reads.Learnt, counted-reads.Asked, counted-reads.Learnt, failed-reads.Asked, failed-reads.Learnt, fetch-below t, fetch.Post, ended-reads.Asked, ended-reads.Learnt) (execute-at t) execute.Post
-  execute-same-length-11 c = c .before .before .before .before .before .before .before .before .before .before .before .before .before .before .step .kept .1 .1 .0
+  execute-same-length-11 c = stepped (ended c) .step .kept .1 .1 .0
 
   execute-same-length-12 : execute-lts.Need-same-length-12 (step-reads.Asked, step-reads.Learnt, counted-reads.Asked, counted-reads.Learnt, failed-reads.Asked, failed-reads.Learnt, fetch-below t, fetch.Post, ended-reads.Asked, ended-reads.Learnt) (execute-at t) execute.Post
-  execute-same-length-12 c = c .before .before .before .before .before .before .before .before .before .before .before .before .before .before .step .kept .1 .1 .1 .0
+  execute-same-length-12 c = stepped (ended c) .step .kept .1 .1 .1 .0
 
   execute-returns-3 : execute-lts.Need-returns-3 (step-reads.Asked, step-reads.Learnt, counted-reads.Asked, counted-reads.Learnt, failed-reads.Asked, failed-reads.Learnt, fetch-below t, fetch.Post, ended-reads.Asked, ended-reads.Learnt) (execute-at t) execute.Post
   execute-returns-3 c =
-      let a = c .before .before .before .before .before .before .before .before .before .before .before .before .before .before .before .before .before .before .before .before .before .before .before .before .before .before .before .before .args in
-      let s = c .before .before .before .before .before .before .before .before .before .before .before .before .before .before .step in
+      let met = c .before .before .before .before in
+      let done = stepped (met .before) in
+      let a = start (done .before) .args in
+      let s = done .step in
       let w = (worldOf (a .c) (a .host .now) (a .image0 .now) (a .image1 .now) (a .events .now) (a .map0 .now) (a .map1 .now) (unitsIn (a .record0 .now) (a .record1 .now))) in
       let w′ = (worldOf (a .c) (s .last .0) (s .last .1 .0) (s .last .1 .1 .0) (s .last .1 .1 .1 .0) (s .last .1 .1 .1 .1 .0) (s .last .1 .1 .1 .1 .1 .0) (unitsIn (s .last .1 .1 .1 .1 .1 .1 .0) (s .last .1 .1 .1 .1 .1 .1 .1 .0))) in
-      rw (c .ended .ensures, c .before .before .before .before .counted .ensures)
+      rw (c .ended .ensures, met .counted .ensures)
       (ended-in RunAnswer.Done 0 (counted (a .count) (s .result .told .sectors)) w′ _
       (executed-done (fetched (a .left)) (a .count) (a .at) w w′ _ (s .ensures .to) (c .before .before .enum-told .given .1) (c .before .if1 .left)))
+
+  -- The beginning of fetch, from the first test.
+  abbrev begun : fetch-lts.Else1 (ended-reads.Asked, ended-reads.Learnt, holds-block-reads.Asked, holds-block-reads.Learnt, execute-below t, execute.Post) (fetch-at t) fetch.Post → fetch-lts.Start (ended-reads.Asked, ended-reads.Learnt, holds-block-reads.Asked, holds-block-reads.Learnt, execute-below t, execute.Post) (fetch-at t) fetch.Post
+  begun c = c .before .before .before .before .before
 
   fetch-ended-requires : fetch-lts.Need-ended-requires (ended-reads.Asked, ended-reads.Learnt, holds-block-reads.Asked, holds-block-reads.Learnt, execute-below t, execute.Post) (fetch-at t) fetch.Post
   fetch-ended-requires c κs = search needs
@@ -175,9 +210,10 @@ module _ (t : ℕ) where
 
   fetch-returns-2 : fetch-lts.Need-returns-2 (ended-reads.Asked, ended-reads.Learnt, holds-block-reads.Asked, holds-block-reads.Learnt, execute-below t, execute.Post) (fetch-at t) fetch.Post
   fetch-returns-2 c =
-      let a = c .before .before .before .before .before .before .before .before .before .args in
+      let asked = c .before .before in
+      let a = begun (asked .before .before) .args in
       let w = (worldOf (a .c) (a .host .now) (a .image0 .now) (a .image1 .now) (a .events .now) (a .map0 .now) (a .map1 .now) (unitsIn (a .record0 .now) (a .record1 .now))) in
-      let held = c .before .before .holds-block in
+      let held = asked .holds-block in
       rw (c .ended2 .ensures)
       (ended-in RunAnswer.LinkBad 0 (a .count) w _
       (fetched-bad (a .left) (a .count) (a .at) w (omega arith) (denied (held .result) _ (c .before .if2 .taken) (held .ensures))))
@@ -187,11 +223,13 @@ module _ (t : ℕ) where
 
   fetch-execute-requires : fetch-lts.Need-execute-requires (ended-reads.Asked, ended-reads.Learnt, holds-block-reads.Asked, holds-block-reads.Learnt, execute-below t, execute.Post) (fetch-at t) fetch.Post
   fetch-execute-requires c κs =
-      let a = c .before .before .before .before .before .before .before .before .before .before .before .before .before .before .before .before .args in
-      let pre = c .before .before .before .before .before .before .before .before .before .before .before .before .before .before .before .before .pre in
-      let held = c .before .before .before .before .before .before .before .before .before .holds-block in
+      let past = c .before .before .before .before .before .before .before .before in
+      let asked = past .before in
+      let a = begun (asked .before .before) .args in
+      let pre = begun (asked .before .before) .pre in
+      let held = asked .holds-block in
       let one : a .left - 1 + 1 ≡ a .left = omega arith in
-      (omega (arith, pre .0), (granted (held .result) _ (c .before .before .before .before .before .before .before .before .if2 .left) (held .ensures), rw one (pre .1 .0), pre .1 .1))
+      (omega (arith, pre .0), (granted (held .result) _ (past .if2 .left) (held .ensures), rw one (pre .1 .0), pre .1 .1))
 
   fetch-same-length-2 : fetch-lts.Need-same-length-2 (ended-reads.Asked, ended-reads.Learnt, holds-block-reads.Asked, holds-block-reads.Learnt, execute-below t, execute.Post) (fetch-at t) fetch.Post
   fetch-same-length-2 c = search needs
@@ -207,12 +245,16 @@ module _ (t : ℕ) where
 
   fetch-returns-3 : fetch-lts.Need-returns-3 (ended-reads.Asked, ended-reads.Learnt, holds-block-reads.Asked, holds-block-reads.Learnt, execute-below t, execute.Post) (fetch-at t) fetch.Post
   fetch-returns-3 c =
-      let a = c .before .before .before .before .before .before .before .before .before .before .before .before .before .before .before .before .before .before .before .before .before .before .before .before .before .args in
+      let next = c .before .before .before .before .before .before .before .before in
+      let past = next .before .before .before .before .before .before .before .before .before in
+      let asked = past .before in
+      let first = asked .before .before in
+      let a = begun first .args in
       let w = (worldOf (a .c) (a .host .now) (a .image0 .now) (a .image1 .now) (a .events .now) (a .map0 .now) (a .map1 .now) (unitsIn (a .record0 .now) (a .record1 .now))) in
-      let held = c .before .before .before .before .before .before .before .before .before .before .before .before .before .before .before .before .before .before .holds-block in
-      let e = c .before .before .before .before .before .before .before .before .execute in
+      let held = asked .holds-block in
+      let e = next .execute in
       ended-the-same _ _ _ (e .result)
-      (fetched-on (a .left) (a .count) (a .at) w (omega (arith, c .before .before .before .before .before .before .before .before .before .before .before .before .before .before .before .before .before .before .before .before .if1 .left)) (granted (held .result) _ (c .before .before .before .before .before .before .before .before .before .before .before .before .before .before .before .before .before .if2 .left) (held .ensures)))
+      (fetched-on (a .left) (a .count) (a .at) w (omega (arith, first .if1 .left)) (granted (held .result) _ (past .if2 .left) (held .ensures)))
       (e .ensures)
 
 pub +execute+fetch-spec : {M : Type 1} → statement M
