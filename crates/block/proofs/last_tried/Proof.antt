@@ -2,7 +2,6 @@
 use Prim.Native.Nat.{_+_}
 use mathlib.Core.Path.{_≡_, sym, ap, _∙_}
 use native.Mathlib.Omega.{arith}
-use Rattle.unit.specs.Landing.{landing}
 use Rattle.unit.specs.Standing.{unitOf}
 use Rattle.transfer.specs.Progress.{lastTried}
 use Rattle.unit.proofs.Answers.{at-landing, no-landing}
@@ -10,6 +9,7 @@ use Rattle.unit.specs.declared.Spot.{Spot}
 use borrow.Author.Needs.{needs}
 use Rattle.block.proofs.last_tried.Statement.{statement}
 use Rattle.block.proofs.last_tried.Tie as tie
+use Rattle.unit.specs.Answers.{landing}
 
 -- The call's beginning, from where the number of sectors is known.
 abbrev start : tie.After-lesser → tie.Start

@@ -6,13 +6,13 @@ use borrow.Author.Needs.{needs}
 use denote.Ref.{now}
 use Rattle.wire.proofs.Promises.{denied, granted}
 use Rattle.geometry.specs.Drive.{need}
-use Rattle.geometry.specs.Sectors.{sectorAt}
 use Rattle.geometry.proofs.Answers.{at-sector, no-sector}
 use Rattle.board.specs.Inspection.{Inspectable}
 use Rattle.board.proofs.Parts.{sector-not-there, sector-there}
 use Rattle.board.proofs.inspection.sector_part.Statement.{statement}
 use Rattle.board.proofs.inspection.sector_part.Tie as tie
 use Rattle.unit.specs.Standing.{geometry, unitOf}
+use Rattle.geometry.specs.Answers.{sectorAt}
 
 -- The call's beginning, from where the unit is known to be initialized.
 abbrev start : tie.Else1 → tie.Start
