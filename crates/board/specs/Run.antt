@@ -1,15 +1,16 @@
 -- What `run` promises (01, What the board answers for): what a caller lends and says, as a world, and that the call came to what the chain comes to.
 use Prim.Native.Nat.{ℕ}
 use mathlib.Core.List.{List}
+use mathlib.Core.Path.{_≡_}
 use Rattle.unit.specs.declared.Controller.{Controller}
 use Rattle.unit.specs.Standing.{byValue, unitOf}
 use Rattle.board.specs.declared.Units.{Units}
 use Rattle.board.specs.World.{World}
-use mathlib.Core.Path.{_≡_}
 use Rattle.board.specs.declared.chain.End.{End}
 use Rattle.board.specs.declared.chain.Outcome.{Outcome}
 use Rattle.board.specs.Chain.{Ending, endOf}
 
+-- What a caller lends and says, as a world.
 abbrev pub worldOf : Controller → (host image0 image1 events tracks0 tracks1 : List ℕ) → Units → World
 worldOf c host image0 image1 events tracks0 tracks1 units =
     record {
@@ -29,13 +30,10 @@ abbrev pub outcomeWith : End → Units → Outcome
 outcomeWith r units =
     record { answer = r .answer; failed = r .failed; blocks = r .blocks; sectors = r .sectors; units = units }
 
--- And the other way: how it ended, without the records.
-abbrev pub endIn : Outcome → End
-endIn o = record { answer = o .answer; failed = o .failed; blocks = o .blocks; sectors = o .sectors }
-
 abbrev pub outcomeOf : Ending → Outcome
 outcomeOf e = outcomeWith (endOf e) (unitsOf (e .world))
 
+-- A call that left the world w and returned r came to what the chain comes to.
 pub record CameTo (e : Ending) (w : World) (r : Outcome) : Type 0 where
   pub result : r ≡ outcomeOf e
   pub world : w ≡ e .world

@@ -75,5 +75,6 @@ inVolume? g v c h s =
     map-dec (λ d. record { cylinder = d .0; head = d .1 .0; sector = d .1 .1 }) (λ i. (i .cylinder, (i .head, i .sector)))
     (Dec·and (decLt c (C g)) (Dec·and (decLt h (N (volume g v))) (decLt s (S g))))
 
+-- The number of a physical address, or that the volume has no such sector.
 unfoldable pub numbered : Geometry → VolumeNumber → ℕ → ℕ → ℕ → Number
 numbered g v c h s = ite (inVolume? g v c h s) (Number.Is (numberOf g v c h s)) Number.Outside

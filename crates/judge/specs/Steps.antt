@@ -15,7 +15,7 @@ use Rattle.judge.specs.Asks.{ownChecks, bytesOf, dataMisplaced, imageSho
 use Rattle.judge.specs.Checks.{first}
 use Rattle.judge.specs.Given.{Asked, beginsAt}
 
--- The same by some of the checks alone, for the functions that are asked after others have passed: a task's own checks, those of a
+-- The verdict by some of the checks alone, for the functions that are asked after others have passed: a task's own checks, those of a
 -- transfer from its sectors on, and those of its buffer.
 unfoldable pub byItsOwn : Asked → Verdict
 byItsOwn a = first (ownChecks a (a .task)) (planOf (a .unit) (a .task))

@@ -9,10 +9,10 @@ use Rattle.board.proofs.run.Reads as run
 use Rattle.independence.specs.Chains.{Both, Chain, First, Second, Which, leaving, runOf, worldFor}
 use Rattle.independence.proofs.Demand3.{either-way, first-same, left-same, second-same}
 use Rattle.two_chains.specs.EitherOrder.{BothAsked, OrdersAlike, RunAsked, TwoCallsAlike, asksOn}
-use Rattle.two_chains.specs.Orders.{bothOf, chainOf, ranBoth, ranBothOf}
+use Rattle.two_chains.specs.Orders.{bothOf, chainOf, endIn, ranBoth, ranBothOf}
 use Rattle.two_chains.proofs.Orders.{orders-are-one}
 use Rattle.two_chains.proofs.run_both.Reads as run-both
-use Rattle.board.specs.Run.{CameTo, endIn, worldOf}
+use Rattle.board.specs.Run.{CameTo, worldOf}
 
 run-both-in-either-order :
     OrdersAlike run-both.Post

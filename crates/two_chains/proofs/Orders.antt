@@ -14,9 +14,9 @@ use Rattle.unit.specs.declared.Controller.{Controller}
 use Rattle.unit.specs.declared.Controller.the-variants.{First as FirstController, Second as SecondController}
 use Rattle.independence.specs.Chains.{Both, Chain, First, Second, Which, leaving, runOf}
 use Rattle.independence.specs.Demand3.{EitherWay, Independent}
-use Rattle.two_chains.specs.Orders.{IsRunOf, RanBoth, RanOne, lentTo, ranBoth, ranBothOf, ranOne, ranOneOf}
+use Rattle.two_chains.specs.Orders.{IsRunOf, RanBoth, RanOne, endIn, lentTo, ranBoth, ranBothOf, ranOne, ranOneOf}
 use Rattle.independence.proofs.Demand3.{either-way, first-same, left-same, second-same}
-use Rattle.board.specs.Run.{CameTo, endIn, worldOf}
+use Rattle.board.specs.Run.{CameTo, worldOf}
 
 -- A call is the run of its chain: the memory of its controller is the one that was lent to it, and the other stays.
 -- The cases say no more than which fields these are.

@@ -11,7 +11,6 @@ use Rattle.two_chains.specs.declared.Order.{Order}
 use Rattle.two_chains.specs.declared.Order.the-variants.{FirstThenSecond, SecondThenFirst}
 use Rattle.two_chains.specs.declared.Twice.{Twice}
 use Rattle.independence.specs.Chains.{Both, Chain, First, Second, Which, runOf}
-use Rattle.board.specs.Run.{endIn}
 
 -- What a caller lends: the memory of each controller, the two drives that they share, and an event buffer for each chain.
 abbrev pub bothOf : (host1 host2 image0 image1 events1 events2 tracks0 tracks1 : List ℕ) → Units → Both
@@ -55,6 +54,10 @@ lentTo host1 host2 image0 image1 events tracks0 tracks1 units First other =
     bothOf host1 host2 image0 image1 events other tracks0 tracks1 units
 lentTo host1 host2 image0 image1 events tracks0 tracks1 units Second other =
     bothOf host1 host2 image0 image1 other events tracks0 tracks1 units
+
+-- How a run ended, without the records that it left.
+abbrev pub endIn : Outcome → End
+endIn o = record { answer = o .answer; failed = o .failed; blocks = o .blocks; sectors = o .sectors }
 
 pub record RanOne : Type 0 where
   pub came : End

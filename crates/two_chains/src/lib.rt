@@ -7,8 +7,7 @@ use board::Units;
 use unit::Controller;
 ghost use mathlib.Core.Path.{_≡_};
 ghost use Rattle.two_chains.specs.declared.Order.{Order};
-ghost use Rattle.two_chains.specs.Orders.{IsRunOf, bothOf, chainOf, lentTo, ranBoth, ranBothOf};
-ghost use Rattle.board.specs.Run.{endIn};
+ghost use Rattle.two_chains.specs.Orders.{IsRunOf, bothOf, chainOf, endIn, lentTo, ranBoth, ranBothOf};
 
 // A chain as it is asked for: which controller runs it, from which block on, and how many blocks it may fetch.
 pub struct Chain {

@@ -11,11 +11,11 @@ use Rattle.unit.specs.declared.Landing.{Landing}
 use Rattle.unit.specs.Standing.{UnitRecord, geometry}
 use Rattle.unit.specs.Landing.{spotAt, landed, spotOf, trackOf}
 
--- What the functions answer: a spot, or that the drive has none. First of an address itself, whatever serves its track.
+-- Of an address itself, whatever serves its track.
 unfoldable pub spotted : Geometry → Address → Landing
 spotted g a = ite (onDrive? g a) (Landing.At (spotAt g a)) Landing.Outside
 
--- Then of where it lands. Whether the drive has it goes by the address named, and not by where that lands.
+-- Of where it lands. Whether the drive has it goes by the address named, and not by where that lands.
 unfoldable pub landingAt : UnitRecord → Address → Landing
 landingAt u a = ite (onDrive? (geometry u) a) (Landing.At (spotAt (geometry u) (landed u a))) Landing.Outside
 

@@ -1,6 +1,5 @@
--- Where one sector, or one track, lands on a unit: its cylinder, its place, and how far its track goes on from there; and which bytes of the
--- image an address reaches. None of it asks whether the unit counts as initialized. Everything above goes by these and by the laws of
--- proofs/; what is behind is shut.
+-- Where one sector, or one track, lands on a unit: its cylinder, its place, and how far its track goes on from there. None of it asks
+-- whether the unit counts as initialized. Everything above goes by these and by the laws of proofs/; what is behind is shut.
 use Prim.Native.Nat.{ℕ, _-_}
 use Rattle.geometry.specs.declared.Address.{Address}
 use Rattle.geometry.specs.declared.Geometry.{Geometry}
@@ -38,5 +37,3 @@ trackOf u c h = spotAt (geometry u) (landed u (address c h 0))
 -- The number in a volume of a physical address, which goes by the shape of the drive alone.
 unfoldable pub numberOn : Geometry → VolumeNumber → ℕ → ℕ → ℕ → Number
 numberOn g v c h s = numbered g v c h s
-
--- ---- which bytes are whose

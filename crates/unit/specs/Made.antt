@@ -11,6 +11,7 @@ use Rattle.unit.specs.Standing.{UnitRecord, initialized, geometry, cylin
 abbrev pub bare : Record → UnitRecord
 bare r = unitOf r []
 
+-- A unit of which each thing is said: its four by value, and its table.
 abbrev pub recordOf : Bool → Geometry → ℕ → ℕ → List ℕ → UnitRecord
 recordOf initialized geometry cylinder pairs ts = unitOf (heldOf initialized geometry cylinder pairs) ts
 

@@ -19,6 +19,6 @@ with32 bytes at v = stored 4 bytes at v
 unfoldable pub written : List ℕ → ℕ → List ℕ → List ℕ
 written bytes at ns = sets bytes at ns
 
--- The two, and the four, bytes of a number, the first of them the most significant.
+-- The two bytes of a number, the first of them the most significant.
 abbrev pub twoBytes : ℕ → List ℕ
 twoBytes n = n / 256 % 256 ∷ n % 256 ∷ []

@@ -14,5 +14,6 @@ be16 bytes at = word 2 bytes at
 abbrev pub be32 : List ℕ → ℕ → ℕ
 be32 bytes at = word 4 bytes at
 
+-- The four bytes of a number, the first of them the most significant.
 abbrev pub fourBytes : ℕ → List ℕ
 fourBytes n = n / 256 / 256 / 256 % 256 ∷ n / 256 / 256 % 256 ∷ n / 256 % 256 ∷ n % 256 ∷ []
