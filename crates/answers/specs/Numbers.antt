@@ -1,28 +1,9 @@
--- The number of each answer (01, Answer numbers; 02, K5 and K10), and the status of a block.
-use Prim.Native.Nat.{ℕ, _≤_}
-use mathlib.Core.Path.{_≡_}
+-- The number of each answer of a block (01, Answer numbers; 02, K5 and K10), and its status.
+use Prim.Native.Nat.{ℕ}
 use Rattle.answers.specs.declared.BlockAnswer.{BlockAnswer}
 use Rattle.answers.specs.declared.BlockAnswer.the-variants.{Ended, Failed}
 use Rattle.answers.specs.declared.Refusal.{Refusal}
 use Rattle.answers.specs.declared.Refusal.the-variants.{CommandUnknown, NotInitialized, UibMisplaced, UibOutsideLimits, VolumeAbsent, CountZero, SectorOutside, ImageShort, ListBad, DataMisplaced, Unreadable, TracksTaken, TableFull, DriveHeld}
-use Rattle.answers.specs.declared.RunAnswer.{RunAnswer}
-use Rattle.answers.specs.declared.RunAnswer.the-variants.{Done, EventsShort, AllowanceBad, FirstBad, BlockFailed, LinkBad, AllowanceSpent}
-
-abbrev pub runNumber : RunAnswer → ℕ
--- "last block had no link and ended 80"
-runNumber Done = 0
--- "event buffer under 512 bytes"
-runNumber EventsShort = 1
--- "allowance 0 or over 64"
-runNumber AllowanceBad = 2
--- "first block odd, or not wholly in host memory"
-runNumber FirstBad = 3
--- "a block ended 82"
-runNumber BlockFailed = 4
--- "linked address bad as in 3"
-runNumber LinkBad = 5
--- "allowance spent, last block 80 with LK set"
-runNumber AllowanceSpent = 6
 
 abbrev pub refusalNumber : Refusal → ℕ
 -- "command not listed"
@@ -53,15 +34,6 @@ refusalNumber TracksTaken = 22
 refusalNumber TableFull = 23
 -- "drive held" (02, K10)
 refusalNumber DriveHeld = 24
-
--- The numbers that a failed block can have. 21 was one of them, and is not used again (02, K13).
-abbrev pub OfABlock : ℕ → Type 0
-OfABlock n = (10 ≤ n) × (n ≤ 24) × (n ≡ 21 → ⊥)
-
--- "the failed block's answer number, 10 and up (otherwise 0)" (01, What the board answers for)
-abbrev pub blockNumber : BlockAnswer → ℕ
-blockNumber Ended = 0
-blockNumber (Failed r) = refusalNumber r
 
 -- "status 80", and "Block answers, in order, status 82", in hex.
 abbrev pub statusOf : BlockAnswer → ℕ

@@ -11,7 +11,8 @@ use Rattle.answers.specs.declared.BlockAnswer.{BlockAnswer}
 use Rattle.answers.specs.declared.Refusal.{Refusal}
 use Rattle.answers.specs.declared.RunAnswer.{RunAnswer}
 use Rattle.answers.specs.Numbers.{refusalNumber}
-use Rattle.wire.specs.Memory.{InMemory, inMemory?}
+use Rattle.wire.proofs.Decided.{inMemory?}
+use Rattle.wire.specs.Memory.{InMemory}
 use Rattle.iopb.specs.declared.Block.{Block}
 use Rattle.iopb.specs.Ask as ask
 use Rattle.iopb.specs.Layout.{blockAt}
@@ -24,14 +25,15 @@ use Rattle.board.specs.declared.chain.End.{End}
 use Rattle.board.specs.declared.chain.Stepped.{Stepped}
 use Rattle.block.specs.declared.Known.the-variants.{Counts}
 use Rattle.block.specs.Block.{Effect, effectOn}
-use Rattle.board.specs.Chain.{Ending, counted, endedOf, ends, executed, fetched, nothing}
-use Rattle.board.specs.Steps.{EndedIn, Spare, SteppedTo, steppedOf, toldOf}
+use Rattle.board.specs.Ends.{endedOf}
+use Rattle.board.specs.Chain.{Ending, counted, ends, executed, fetched, nothing}
+use Rattle.board.specs.Steps.{EndedIn, Spare, SteppedTo, steppedOf, toldOf, outcomeWith}
 use Rattle.block.specs.Steps.{Did, Knows}
 use Rattle.unit.specs.Standing.{unitOf}
 use Rattle.unit.proofs.Decided.{counts?}
 use Rattle.wire.proofs.Promises.{decided-says}
 use Rattle.board.specs.World.{World, buffersOf, changed, driveOf, effectAt, unitAt, worldAfter}
-use Rattle.board.specs.Run.{CameTo, outcomeWith, unitsOf}
+use Rattle.board.specs.Run.{CameTo, unitsOf}
 
 module _ (w : World) (at i : ℕ) (n : UnitNumber) (named : unitAt w at ≡ n) where
   effect-named : effectAt at i w ≡ effectOn (w .controller) (w .host) (driveOf w n) at i

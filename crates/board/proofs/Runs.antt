@@ -7,7 +7,8 @@ use native.Mathlib.Decide.{decLe, decLt}
 use native.Mathlib.Omega.{arith}
 use lib.ListN.{length}
 use Rattle.answers.specs.declared.RunAnswer.{RunAnswer}
-use Rattle.wire.specs.Memory.{InMemory, inMemory?}
+use Rattle.wire.proofs.Decided.{inMemory?}
+use Rattle.wire.specs.Memory.{InMemory}
 use Rattle.board.specs.Chain.{ends, fetched, nothing, ran}
 use Rattle.board.specs.World.{World}
 

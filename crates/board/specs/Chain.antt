@@ -9,9 +9,8 @@ use Rattle.answers.specs.declared.BlockAnswer.the-variants.{Ended, Failed}
 use Rattle.answers.specs.declared.RunAnswer.{RunAnswer}
 use Rattle.answers.specs.Numbers.{refusalNumber}
 use Rattle.iopb.specs.Layout.{blockAt}
-use Rattle.wire.specs.Memory.{inMemory?}
+use Rattle.wire.proofs.Decided.{inMemory?}
 use Rattle.board.specs.declared.chain.Count.{Count}
-use Rattle.board.specs.declared.chain.End.{End}
 use Rattle.board.specs.World.{World, effectAt, worldAfter}
 
 -- How a chain ends: its answer, "with answer 4 the failed block's answer number, 10 and up (otherwise 0)", what was counted, the blocks run and the sectors
@@ -24,13 +23,6 @@ pub record Ending : Type 0 where
 
 abbrev pub ends : RunAnswer → ℕ → Count → World → Ending
 ends answer failed t w = record { answer = answer; failed = failed; tally = t; world = w }
-
--- The same as it is told, without the world.
-abbrev pub endedOf : RunAnswer → ℕ → Count → End
-endedOf answer failed t = record { answer = answer; failed = failed; blocks = t .blocks; sectors = t .sectors }
-
-abbrev pub endOf : Ending → End
-endOf e = endedOf (e .answer) (e .failed) (e .tally)
 
 -- "a block fetched is a block run, refused or not"; "Sectors moved is the sum over the blocks of sectors copied"
 abbrev pub counted : Count → ℕ → Count

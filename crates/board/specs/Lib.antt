@@ -1,4 +1,5 @@
 pub mod Chain
+pub mod Ends
 pub mod Inspection
 pub mod Records
 pub mod Run

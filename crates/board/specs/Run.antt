@@ -6,9 +6,8 @@ use Rattle.unit.specs.declared.Controller.{Controller}
 use Rattle.unit.specs.Standing.{byValue, unitOf}
 use Rattle.board.specs.declared.Units.{Units}
 use Rattle.board.specs.World.{World}
-use Rattle.board.specs.declared.chain.End.{End}
 use Rattle.board.specs.declared.chain.Outcome.{Outcome}
-use Rattle.board.specs.Chain.{Ending, endOf}
+use Rattle.board.specs.Chain.{Ending}
 
 -- What a caller lends and says, as a world.
 abbrev pub worldOf : Controller → (host image0 image1 events tracks0 tracks1 : List ℕ) → Units → World
@@ -26,12 +25,9 @@ abbrev pub unitsOf : World → Units
 unitsOf w = record { zero = byValue (w .drive0 .unit); one = byValue (w .drive1 .unit) }
 
 -- What a run came to: how its chain ended, with the records that it left.
-abbrev pub outcomeWith : End → Units → Outcome
-outcomeWith r units =
-    record { answer = r .answer; failed = r .failed; blocks = r .blocks; sectors = r .sectors; units = units }
-
 abbrev pub outcomeOf : Ending → Outcome
-outcomeOf e = outcomeWith (endOf e) (unitsOf (e .world))
+outcomeOf e =
+    record { answer = e .answer; failed = e .failed; blocks = e .tally .blocks; sectors = e .tally .sectors; units = unitsOf (e .world) }
 
 -- A call that left the world w and returned r came to what the chain comes to.
 pub record CameTo (e : Ending) (w : World) (r : Outcome) : Type 0 where

@@ -12,15 +12,22 @@ use Rattle.unit.specs.Standing.{UnitRecord, byValue}
 use Rattle.board.specs.declared.Units.{Units}
 use Rattle.board.specs.declared.chain.Count.{Count}
 use Rattle.board.specs.declared.chain.End.{End}
+use Rattle.board.specs.declared.chain.Outcome.{Outcome}
 use Rattle.board.specs.declared.chain.Learnt.{Learnt}
 use Rattle.board.specs.declared.chain.Single.{Single}
 use Rattle.board.specs.declared.chain.Single.the-variants.{Ran, NoRoom}
 use Rattle.board.specs.declared.chain.Went.{Went}
 use Rattle.board.specs.declared.chain.Stepped.{Stepped}
 use Rattle.board.specs.declared.chain.BlockTold.{BlockTold}
-use Rattle.board.specs.Chain.{Ending, endOf}
+use Rattle.board.specs.Ends.{endOf}
+use Rattle.board.specs.Chain.{Ending}
 use Rattle.board.specs.World.{World, effectAt, worldAfter}
 use Rattle.board.specs.Run.{unitsOf, worldOf}
+
+-- What a run came to, made of how its chain ended and of the records that it left.
+abbrev pub outcomeWith : End → Units → Outcome
+outcomeWith r units =
+    record { answer = r .answer; failed = r .failed; blocks = r .blocks; sectors = r .sectors; units = units }
 
 -- What is returned of a block, in two parts: what it told, and the record that it left of its unit.
 abbrev pub toldOf : Done → BlockTold

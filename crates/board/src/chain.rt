@@ -14,8 +14,9 @@ use unit::UnitNumber;
 ghost use mathlib.Core.Path.{_≡_};
 ghost use Prim.Native.Nat.{_+_, _*_, _≤_};
 ghost use lib.ListN.{length};
-ghost use Rattle.board.specs.Chain.{counted, endedOf, executed, fetched, nothing, ran};
-ghost use Rattle.board.specs.Steps.{EndedIn, KnowsBoth, RanOne, Spare, SteppedOn, doneWith, nothingLearnt, steppedOf, toldOf};
+ghost use Rattle.board.specs.Ends.{endedOf};
+ghost use Rattle.board.specs.Chain.{counted, executed, fetched, nothing, ran};
+ghost use Rattle.board.specs.Steps.{EndedIn, KnowsBoth, RanOne, Spare, SteppedOn, doneWith, nothingLearnt, steppedOf, toldOf, outcomeWith};
 ghost use Rattle.block.specs.Block.{effectOn};
 ghost use Rattle.block.specs.Steps.{Did, Knows, BlockRoom, driveWith, three};
 ghost use Rattle.board.specs.Records.{unitIn, unitsIn};
@@ -24,7 +25,7 @@ ghost use Rattle.wire.specs.Memory.{InMemory};
 ghost use Rattle.wire.specs.Promise.{Says};
 ghost use Rattle.answers.specs.declared.RunAnswer.{RunAnswer};
 ghost use Rattle.answers.specs.Numbers.{refusalNumber};
-ghost use Rattle.board.specs.Run.{CameTo, outcomeWith, worldOf};
+ghost use Rattle.board.specs.Run.{CameTo, worldOf};
 
 // What a block alone came to: the records that it left, what it told, and what it said of the next.
 pub struct Stepped {
@@ -363,7 +364,12 @@ pub fn run(
     first: u32,
     allowance: u32,
 ) -> Outcome
-    ensures { λ r. ⌜ CameTo (ran first allowance (worldOf c (now (host .entry)) (now (image0 .entry)) (now (image1 .entry)) (now (events .entry)) (now (map0 .entry)) (now (map1 .entry)) units)) (worldOf c (now (host .exit)) (now (image0 .exit)) (now (image1 .exit)) (now (events .exit)) (now (map0 .exit)) (now (map1 .exit)) (r .units)) r ⌝ }
+    ensures { λ r. ⌜ (
+        let before = worldOf c (now (host .entry)) (now (image0 .entry)) (now (image1 .entry)) (now (events .entry))
+        (now (map0 .entry)) (now (map1 .entry)) units in
+        let after = worldOf c (now (host .exit)) (now (image0 .exit)) (now (image1 .exit)) (now (events .exit))
+        (now (map0 .exit)) (now (map1 .exit)) (r .units) in
+        CameTo (ran first allowance before) after r) ⌝ }
 {
     if !holds_entries(events) {
         return refused(RunAnswer::EventsShort, units);

@@ -8,7 +8,8 @@ use native.Mathlib.Omega.{arith}
 use native.Mathlib.Nat.{zero-mul}
 use lib.Dec.{T, T-not}
 use lib.ListN.{getD, length}
-use Rattle.wire.specs.Memory.{Among, InMemory}
+use Rattle.wire.specs.Among.{Among}
+use Rattle.wire.specs.Memory.{InMemory}
 use Rattle.answers.specs.declared.BlockAnswer.{BlockAnswer}
 use Rattle.answers.specs.declared.Refusal.{Refusal}
 use Rattle.answers.specs.Numbers.{refusalNumber}

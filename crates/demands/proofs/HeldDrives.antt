@@ -20,7 +20,7 @@ use Rattle.judge.proofs.Tasks.{handshake, held-24, unknown}
 use Rattle.request.specs.declared.Task.{Task}
 use Rattle.unit.specs.declared.UnitNumber.{UnitNumber}
 use Rattle.unit.specs.Holding.{heldByOther}
-use Rattle.wire.specs.Memory.{inMemory?}
+use Rattle.wire.proofs.Decided.{inMemory?}
 use Rattle.unit.specs.Standing.{holder}
 use Rattle.transfer.specs.Stores.{after}
 use Rattle.block.specs.Block.{transferOf}

@@ -14,7 +14,7 @@ use Rattle.unit.specs.declared.UnitNumber.{UnitNumber}
 use Rattle.unit.specs.declared.UnitNumber.the-variants.{Zero, One}
 use Rattle.transfer.specs.Stores.{Buffers, Cell, after, eventByte, held, hostByte, imageByte}
 use Rattle.transfer.proofs.Stays.{lengths-stay, unstored-stays}
-use Rattle.wire.specs.Memory.{inMemory?}
+use Rattle.wire.proofs.Decided.{inMemory?}
 use Rattle.block.specs.Block.{Drive, Effect, heldUnit, holderLeft, judged, leftBy}
 use Rattle.block.proofs.Held.{holder-keeps}
 use Rattle.board.specs.Chain.{Ending, fetched, follows, nothing, ran}

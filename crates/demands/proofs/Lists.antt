@@ -7,7 +7,7 @@ use mathlib.Core.Path.{_≡_, refl, sym, ap, subst, _∙_}
 use native.Mathlib.Nat.{zero-mul}
 use native.Mathlib.Omega.{arith}
 use lib.ListN.{length}
-use Rattle.wire.specs.Memory.{Among}
+use Rattle.wire.specs.Among.{Among}
 use Rattle.wire.proofs.Promises.{never}
 use Rattle.geometry.specs.Drive.{B}
 use Rattle.request.specs.declared.Move.{Move}

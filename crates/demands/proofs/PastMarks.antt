@@ -19,7 +19,8 @@ use Rattle.unit.specs.declared.UnitNumber.the-variants.{Zero, One}
 use Rattle.transfer.specs.SameSectors.{SameSectors}
 use Rattle.transfer.specs.Stores.{after}
 use Rattle.unit.specs.Standing.{geometry}
-use Rattle.wire.specs.Memory.{InMemory, inMemory?}
+use Rattle.wire.proofs.Decided.{inMemory?}
+use Rattle.wire.specs.Memory.{InMemory}
 use Rattle.block.specs.Block.{Effect, effectOn}
 use Rattle.block.proofs.PastMarks.{left-alike, one-effect}
 use Rattle.board.specs.Chain.{Ending, counted, ends, fetched, follows, nothing, ran}

@@ -18,25 +18,28 @@ use Rattle.geometry.specs.declared.Number.{Number}
 use Rattle.geometry.specs.declared.Number.the-variants.{Is, Outside}
 use Rattle.geometry.specs.Drive.{B, N, volume}
 use Rattle.geometry.specs.Limits.{Present}
-use Rattle.geometry.specs.Sectors.{OnDrive, SectorByte, address, addressOf, firstByte, onDrive?, placeOf}
-use Rattle.geometry.specs.Sectors.SectorByte.{data-byte}
+use Rattle.geometry.specs.SectorBytes.{SectorByte}
+use Rattle.geometry.specs.Answers.{onDrive?}
+use Rattle.geometry.specs.Sectors.{OnDrive, address, addressOf, firstByte, placeOf}
+use Rattle.geometry.specs.SectorBytes.SectorByte.{data-byte}
 use Rattle.geometry.proofs.Laws.{address-on-drive}
 use Rattle.spares.specs.declared.Track.{Track as OfADrive}
 use Rattle.unit.specs.Landing.{landed, spotOf}
 use Rattle.unit.specs.Standing.{CountsAsInitialized, UnitRecord, geometry}
 use Rattle.unit.proofs.Apart.{bad-never-reached, in-one-place-exactly, no-two-in-one-place, number-lands, track-lands}
-use Rattle.wire.specs.Memory.{Among}
+use Rattle.wire.specs.Among.{Among}
 use Rattle.wire.proofs.Promises.{never}
 use Rattle.judge.specs.declared.Plan.{Plan}
 use Rattle.judge.specs.declared.Verdict.{Verdict}
 use Rattle.judge.specs.declared.Verdict.the-variants.{Refused, Do}
-use Rattle.judge.specs.Asks.{asksHolder, numberThere, planOf}
+use Rattle.judge.specs.Asks.{numberThere, planOf}
 use Rattle.judge.specs.Fits.{MovingFits}
 use Rattle.judge.specs.Given.{Asked, beginsAt, on}
 use Rattle.judge.specs.Verdict.{verdict}
 use Rattle.judge.proofs.LetThrough.{own-plan, plan-fits}
 use Rattle.judge.proofs.Tasks.{format-16, move-14, move-on, own-unless-held, start-nowhere}
 use Rattle.request.specs.declared.Move.{Move}
+use Rattle.request.specs.declared.Shape.{Shape}
 use Rattle.request.specs.declared.Task.{Task}
 use Rattle.request.specs.declared.Track.{Track}
 use Rattle.transfer.specs.Progress.{stopsAt}
@@ -52,7 +55,7 @@ use Rattle.demands.proofs.Keeps.{block-keeps-image}
 use Rattle.demands.proofs.Tables.{reached-counts}
 use Rattle.demands.proofs.Written.{image-written-exactly}
 use Rattle.board.specs.World.{driveOf}
-use Rattle.judge.specs.Steps.{byItsOwn}
+use Rattle.judge.specs.Steps.{byItsOwn, asksHolder}
 use Rattle.unit.specs.Bytes.{Bad, Meets, NoTwoInOnePlace, Reaches, TrackByte}
 
 -- A place where an address that a block names lands, on a unit that counts as initialized.
@@ -142,7 +145,8 @@ module _ (a : Asked) where
           }
       by-task p so Task.Unknown is fits less = absurd (omega arith)
       by-task p so Task.Handshake is fits less = absurd (omega arith)
-      by-task p so (Task.Initialize s) is fits less = absurd (omega arith)
+      by-task p so (Task.Initialize Shape.Misplaced) is fits less = absurd (omega arith)
+      by-task p so (Task.Initialize (Shape.Given g)) is fits less = absurd (omega arith)
       by-task p so Task.Restore is fits less = absurd (omega arith)
       by-task p so (Task.Seek t) is fits less = absurd (omega arith)
       by-task p so (Task.Map k) is fits less = absurd (omega arith)

@@ -10,13 +10,15 @@ use native.Mathlib.Nat.{zero-add}
 use native.Mathlib.Omega.{arith}
 use lib.ListN.{length}
 use Rattle.board.specs.declared.chain.Count.{Count}
-use Rattle.wire.specs.Memory.{InMemory, inMemory?}
+use Rattle.wire.proofs.Decided.{inMemory?}
+use Rattle.wire.specs.Memory.{InMemory}
 use Rattle.answers.specs.declared.BlockAnswer.{BlockAnswer}
 use Rattle.answers.specs.declared.BlockAnswer.the-variants.{Ended, Failed}
 use Rattle.answers.specs.declared.Refusal.{Refusal}
 use Rattle.answers.specs.declared.RunAnswer.{RunAnswer}
 use Rattle.answers.specs.declared.RunAnswer.the-variants.{Done, EventsShort, AllowanceBad, FirstBad, BlockFailed, LinkBad, AllowanceSpent}
-use Rattle.answers.specs.Numbers.{refusalNumber, runNumber}
+use Rattle.answers.specs.RunNumbers.{runNumber}
+use Rattle.answers.specs.Numbers.{refusalNumber}
 use Rattle.board.specs.Chain.{Ending, ends, nothing, ran}
 use Rattle.demands.specs.Visits.{EndsWith, Passes, ToldByBlocks, Visit, blockOf, effectOf, fetchedBy, lastOf, passes?, sectorsOf, visits}
 use Rattle.demands.proofs.Endings.{chain-told, visits-few}

@@ -7,7 +7,7 @@ use mathlib.Core.List.{List, [], _∷_}
 use mathlib.Core.Logic.{_⊎_}
 use mathlib.Core.Path.{_≡_}
 use lib.ListN.{length}
-use Rattle.wire.specs.Memory.{Among}
+use Rattle.wire.specs.Among.{Among}
 use Rattle.geometry.specs.declared.Geometry.{Geometry}
 use Rattle.geometry.specs.Drive.{B}
 use Rattle.iopb.specs.Ask.{taskOf}

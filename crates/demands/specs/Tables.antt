@@ -10,7 +10,8 @@ use Rattle.geometry.specs.declared.Geometry.{Geometry}
 use Rattle.geometry.specs.declared.Number.{Number}
 use Rattle.geometry.specs.Drive.{C, S}
 use Rattle.geometry.specs.Limits.{Within}
-use Rattle.geometry.specs.Sectors.{SectorByte, address, addressOf}
+use Rattle.geometry.specs.SectorBytes.{SectorByte}
+use Rattle.geometry.specs.Sectors.{address, addressOf}
 use Rattle.request.specs.declared.Move.{Move}
 use Rattle.request.specs.declared.Pair.{Pair}
 use Rattle.request.specs.declared.Task.{Task}

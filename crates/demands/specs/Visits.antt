@@ -17,7 +17,8 @@ use Rattle.answers.specs.declared.RunAnswer.the-variants.{Done, EventsShort, Al
 use Rattle.answers.specs.Numbers.{refusalNumber}
 use Rattle.iopb.specs.declared.Block.{Block}
 use Rattle.iopb.specs.Layout.{blockAt}
-use Rattle.wire.specs.Memory.{InMemory, inMemory?}
+use Rattle.wire.proofs.Decided.{inMemory?}
+use Rattle.wire.specs.Memory.{InMemory}
 use Rattle.transfer.specs.Stores.{Store, bytesFrom, eventByte}
 use Rattle.block.specs.Block.{Effect}
 use Rattle.block.specs.Events.{InRange, entry}

@@ -1,14 +1,19 @@
 -- The statements about a geometry are decided, so that definitions elsewhere can go by cases on them.
--- The limits on the volumes are decided by their ends, as the program decides them; the rest are comparisons.
-use Prim.Native.Nat.{_%_}
+-- Whether the drive or a volume has an address, the answers themselves ask (Answers). The limits on the volumes are decided by their ends, as the program decides them; the rest are comparisons.
+use Prim.Native.Nat.{ℕ, _+_, _-_, _%_}
 use mathlib.Core.Logic.{Dec·and, inl, inr, by-cases}
 use native.Mathlib.Decide.{decLe, decLt, map-dec, ℕ-discrete}
 use native.Mathlib.Omega.{arith}
 use Rattle.geometry.specs.declared.Geometry.{Geometry}
+use Rattle.geometry.specs.declared.Number.{Number}
+use Rattle.geometry.specs.declared.Number.the-variants.{Is, Outside}
 use Rattle.geometry.specs.declared.Volume.{Volume}
+use Rattle.geometry.specs.declared.VolumeNumber.{VolumeNumber}
 use Rattle.geometry.specs.declared.VolumeNumber.the-variants.{Zero, One}
-use Rattle.geometry.specs.Drive.{B, C, N, S, end, start, volume}
+use Rattle.geometry.specs.Drive.{B, C, N, S, end, start, volume, volumeSectors}
 use Rattle.geometry.specs.Limits.{Present, SizesWithin, VolumesWithin, Within}
+use Rattle.geometry.specs.Sectors.{Covers}
+pub use Rattle.geometry.specs.Answers.{inVolume?, onDrive?}
 use Rattle.geometry.proofs.Ends.{low-of-within, not-aside, some-of-within, within-of-ends}
 
 pub present? : (v : Volume) → Dec (Present v)
@@ -40,3 +45,7 @@ volumes? g =
 pub within? : (g : Geometry) → Dec (Within g)
 within? g =
     map-dec (λ d. record { sizes = d .0; volumes = d .1 }) (λ w. (w .sizes, w .volumes)) (Dec·and (sizes? g) (volumes? g))
+
+pub covers? : (g : Geometry) (v : VolumeNumber) (n : Number) (count : ℕ) → Dec (Covers g v n count)
+covers? g v (Is n) count = Dec·and (decLt n (volumeSectors g v)) (decLt (n + (count - 1)) (volumeSectors g v))
+covers? g v Outside count = no (λ x. x)

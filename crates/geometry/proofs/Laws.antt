@@ -1,7 +1,7 @@
 -- Where sectors stand, as the crates above may know it: laws over the whole drive first, and the volumes' as corollaries.
 -- Each is a law of Counting, met through the equations of Inside; nothing here depends on what B is.
 use Prim.Native.Nat.{ℕ, _+_, _-_, _*_, _/_, _%_, _≤_, _<_}
-use mathlib.Core.Logic.{by-cases, if-neg, if-pos}
+use mathlib.Core.Logic.{by-cases, if-neg, if-pos, ite}
 use mathlib.Core.Path.{_≡_, refl, sym, ap, _∙_}
 use native.Mathlib.Decide.{decLt}
 use native.Mathlib.Nat.{add-assoc, add-mul, add-sub-cancel-left, add-zero, mul-le-mul, mul-le-mul-left, mul-le-mul-right}
@@ -11,14 +11,26 @@ use Rattle.geometry.specs.declared.Address.{Address}
 use Rattle.geometry.specs.declared.Geometry.{Geometry}
 use Rattle.geometry.specs.declared.VolumeNumber.{VolumeNumber}
 use Rattle.geometry.specs.declared.VolumeNumber.the-variants.{Zero, One}
-use Rattle.geometry.specs.Drive.{B, C, N, S, driveHeads, driveSectors, end, marksAt, need, start, table11, volume, volumeSectors}
+use Rattle.geometry.specs.Default.{table11}
+use Rattle.geometry.specs.Drive.{B, C, N, S, driveHeads, driveSectors, end, marksAt, need, start, volume, volumeSectors}
 use Rattle.geometry.specs.Drive.Inside.{driveSectors-is, marksAt-is, need-is, volumeSectors-is}
 use Rattle.geometry.specs.Limits.{Has, Present, VolumesWithin, Within}
-use Rattle.geometry.specs.Sectors.{InVolume, OnDrive, SectorByte, address, addressOf, firstByte, markByte, next, numberOf, placeOf}
-use Rattle.geometry.specs.Sectors.SectorByte.{data-byte, mark-byte}
-use Rattle.geometry.specs.Sectors.Inside.{addressOf-is, firstByte-is, markByte-is, next-is, numberOf-is, placeOf-is}
+use Rattle.geometry.specs.Following.{next}
+use Rattle.geometry.specs.SectorBytes.{SectorByte}
+use Rattle.geometry.specs.Sectors.{InVolume, OnDrive, address, addressOf, firstByte, markByte, numberOf, placeOf}
+use Rattle.geometry.specs.SectorBytes.SectorByte.{data-byte, mark-byte}
+use Rattle.geometry.specs.Sectors.Inside.{addressOf-is, firstByte-is, markByte-is, numberOf-is, placeOf-is}
 use Rattle.geometry.proofs.Counting.{Digits, counted-back, counted-below, counted-once, cylinder-back, digits-of, head-back, sector-back}
 use Rattle.geometry.proofs.Ends.{end-present, end-reached, heads-of-within, heads-reached}
+
+next-is :
+    (g : Geometry) (v : VolumeNumber) (a : Address) →
+    next g v a ≡
+    ite (decLt (a .sector + 1) (S g)) (address (a .cylinder) (a .head) (a .sector + 1))
+    (ite (decLt (a .head + 1) (end (volume g v))) (address (a .cylinder) (a .head + 1) 0)
+    (address (a .cylinder + 1) (start (volume g v)) 0))
+unfolding next
+next-is g v a = refl
 
 -- ---- over the whole drive
 

@@ -62,8 +62,3 @@ marksAt g = driveSectors g * B g
 
 pub need : Geometry → ℕ
 need g = marksAt g + driveSectors g
-
--- "its default (Table 11 of source document 000; .."): 644 cylinders of 64 sectors of 512 bytes, heads 0 to 9 in volume 0, and no
--- volume 1.
-abbrev pub table11 : Geometry
-table11 = geometryOf 644 64 512 (volumeOf 0 10) (volumeOf 0 0)

@@ -1,4 +1,7 @@
 pub mod Answers
+pub mod Default
 pub mod Drive
+pub mod Following
 pub mod Limits
+pub mod SectorBytes
 pub mod Sectors

@@ -3,7 +3,8 @@
 // It holds no image and no unit, and its fields are its own: crates above use its functions and cite its laws.
 ghost use mathlib.Core.Path.{_≡_};
 ghost use Prim.Native.Nat.{_<_};
-ghost use Rattle.geometry.specs.Drive.{B, C, N, S, end, geometryOf, start, table11, volume, volumeOf};
+ghost use Rattle.geometry.specs.Default.{table11};
+ghost use Rattle.geometry.specs.Drive.{B, C, N, S, end, geometryOf, start, volume, volumeOf};
 ghost use Rattle.geometry.specs.Limits.{Present};
 ghost use Rattle.wire.specs.Promise.{Says};
 

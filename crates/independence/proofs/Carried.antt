@@ -8,7 +8,8 @@ use mathlib.Core.Path.{_≡_, refl, sym, ap, subst, _∙_}
 use native.Mathlib.Omega.{arith}
 use lib.ListN.{getD, length}
 use Rattle.board.specs.declared.chain.End.{End}
-use Rattle.wire.specs.Memory.{Among, InMemory}
+use Rattle.wire.specs.Among.{Among}
+use Rattle.wire.specs.Memory.{InMemory}
 use Rattle.wire.proofs.Promises.{never as impossible}
 use Rattle.answers.specs.declared.BlockAnswer.{BlockAnswer}
 use Rattle.answers.specs.declared.BlockAnswer.the-variants.{Ended, Failed}
@@ -26,7 +27,8 @@ use Rattle.judge.specs.Given.{Asked}
 use Rattle.judge.specs.Reads.{InList, InUib}
 use Rattle.transfer.specs.Progress.{progress}
 use Rattle.block.specs.Block.{transferOf}
-use Rattle.board.specs.Chain.{endOf, ran}
+use Rattle.board.specs.Ends.{endOf}
+use Rattle.board.specs.Chain.{ran}
 use Rattle.request.specs.declared.Buffer.{Buffer}
 use Rattle.request.specs.declared.Move.{Move}
 use Rattle.request.specs.declared.Shape.{Shape}

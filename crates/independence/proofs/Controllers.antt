@@ -3,7 +3,8 @@
 use mathlib.Core.Path.{_≡_, refl, sym, ap, _∙_}
 use Rattle.unit.specs.declared.Controller.{Controller}
 use Rattle.unit.specs.declared.Controller.the-variants.{First as FirstController, Second as SecondController}
-use Rattle.board.specs.Chain.{endOf, ran}
+use Rattle.board.specs.Ends.{endOf}
+use Rattle.board.specs.Chain.{ran}
 use Rattle.demands.specs.Visits.{fetchedBy}
 use Rattle.demands.proofs.HeldDrives.{block-keeps-controller}
 use Rattle.demands.proofs.Keeps.{run-keeps, some-none}

@@ -8,12 +8,14 @@ use mathlib.Core.Path.{_≡_, refl, sym, ap, subst}
 use native.Mathlib.Omega.{arith}
 use Rattle.board.specs.declared.chain.End.{End}
 use Rattle.board.specs.declared.chain.Count.{Count}
-use Rattle.wire.specs.Memory.{InMemory, inMemory?}
+use Rattle.wire.proofs.Decided.{inMemory?}
+use Rattle.wire.specs.Memory.{InMemory}
 use Rattle.wire.proofs.Memory.{range-same}
 use Rattle.answers.specs.declared.BlockAnswer.{BlockAnswer}
 use Rattle.answers.specs.declared.BlockAnswer.the-variants.{Ended, Failed}
 use Rattle.answers.specs.declared.RunAnswer.{RunAnswer}
-use Rattle.board.specs.Chain.{counted, endOf, endedOf, fetched, follows}
+use Rattle.board.specs.Ends.{endOf, endedOf}
+use Rattle.board.specs.Chain.{counted, fetched, follows}
 use Rattle.board.proofs.Chains.{fetched-bad}
 use Rattle.demands.specs.Footprint.{Some, WritesHost, names}
 use Rattle.demands.specs.Visits.{Visit, onwards, visits}

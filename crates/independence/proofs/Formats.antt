@@ -7,7 +7,7 @@ use mathlib.Core.Logic.{inl, ⊎-elim}
 use mathlib.Core.Path.{_≡_, sym, subst}
 use native.Mathlib.Omega.{arith}
 use lib.ListN.{length}
-use Rattle.wire.specs.Memory.{Among}
+use Rattle.wire.specs.Among.{Among}
 use Rattle.wire.proofs.Promises.{never as impossible}
 use Rattle.geometry.specs.Drive.{B, S}
 use Rattle.iopb.specs.Ask.{taskOf}

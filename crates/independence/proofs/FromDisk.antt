@@ -20,7 +20,6 @@ use Rattle.iopb.proofs.Answers.{shapeAt-inside}
 use Rattle.judge.specs.declared.Leaving.{Leaving}
 use Rattle.judge.specs.declared.Verdict.{Verdict}
 use Rattle.judge.specs.Asks.{only}
-use Rattle.judge.proofs.EachTask.{passes-first}
 use Rattle.judge.proofs.First.{no-more}
 use Rattle.judge.proofs.Locality.{placed-uib-read}
 use Rattle.judge.proofs.Tasks.{own, shape-given, shape-outside}
@@ -28,8 +27,9 @@ use Rattle.unit.specs.declared.UnitNumber.the-variants.{Zero, One}
 use Rattle.transfer.specs.Stores.{after, bytesFrom, upTo}
 use Rattle.unit.specs.declared.Controller.the-variants.{First as FirstController}
 use Rattle.block.specs.Block.{begun, finish}
-use Rattle.board.specs.Chain.{endOf, ends, ran}
-use Rattle.demands.specs.Footprint.{WritesHost, askedOf, namedDrive, verdictOf}
+use Rattle.board.specs.Ends.{endOf}
+use Rattle.board.specs.Chain.{ends, ran}
+use Rattle.demands.specs.Footprint.{WritesHost, namedDrive, verdictOf}
 use Rattle.demands.specs.Footprint.HostWritten.{moved as given}
 use Rattle.demands.specs.Visits.{Passes, worldLeft}
 use Rattle.demands.proofs.Written.{effect-is}
@@ -149,7 +149,7 @@ uib-outside : verdictOf (visit (secondIn fromDisk) 248 0) ≡ Verdict.Refused Re
 unfolding word taskOf Present
 uib-outside =
     rw (shapeAt-inside (fromDisk .host1) 148 (omega arith))
-    (own _ _ _ _ _ no-more refl ∙ shape-outside FirstController (unit 0) 130 (fromDisk .host1) (uibAt (fromDisk .host1) 148)
+    (own _ _ _ _ _ tt refl ∙ shape-outside FirstController (unit 0) 130 (fromDisk .host1) (uibAt (fromDisk .host1) 148)
     (λ within. let one-head : 0 < 0 = within .volumes .one-head in omega arith))
 
 initialize-lies : Alone 248 (secondIn fromDisk) One ((248, 28) ∷ (148, 18) ∷ []) ((250, 2) ∷ [])
@@ -167,7 +167,7 @@ then-within : verdictOf (visit (secondIn then) 248 0) ≡ Verdict.Do (only (Leav
 unfolding word taskOf after bytesFrom upTo
 then-within =
     rw (shapeAt-inside (then .host1) 148 (omega arith))
-    (own _ _ _ _ _ no-more refl ∙ shape-given FirstController (unit 0) 130 (then .host1) tiny (counts 0 (omega arith) .within))
+    (own _ _ _ _ _ tt refl ∙ shape-given FirstController (unit 0) 130 (then .host1) tiny (counts 0 (omega arith) .within))
 
 then-done : runOf Second initialize .out then ≡ come RunAnswer.Done 0 0
 unfolding after bytesFrom upTo
@@ -183,8 +183,7 @@ unfolding word taskOf None
 uib-read =
     by-block 248 _ initialize-pass (λ v. ReadsHost v 148)
     (its-uib
-    (placed-uib-read _ _ _ _ _ refl (passes-first (askedOf (visit (secondIn fromDisk) 248 0)) no-more no-more)
-    (λ bad. rw (shapeAt-inside (fromDisk .host1) 148 (omega arith)) at bad) (omega arith)))
+    (placed-uib-read _ _ _ _ _ _ refl (shapeAt-inside (fromDisk .host1) 148 (omega arith)) no-more (omega arith)))
 
 outside-120 : In ((2, 2) ∷ (56, 64) ∷ []) 120 → ⊥
 outside-120 (inl word-1) = omega arith

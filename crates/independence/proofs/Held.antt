@@ -1,15 +1,15 @@
 -- A block that is refused because the other controller holds its drive reads its 28 bytes and nothing else (02, K10): no UIB, no list, no data.
 -- What a block reads of these it reads past the check that refuses this one.
 use Prim.Native.Nat.{ℕ}
-use mathlib.Core.List.{_++_}
 use mathlib.Core.Path.{_≡_, subst}
 use native.Mathlib.Nat.{zero-mul}
 use native.Mathlib.Omega.{arith}
 use lib.Dec.{T}
-use Rattle.wire.specs.Memory.{Among}
+use Rattle.wire.specs.Among.{Among}
 use Rattle.answers.specs.declared.BlockAnswer.{BlockAnswer}
 use Rattle.answers.specs.declared.Refusal.{Refusal}
-use Rattle.judge.specs.Asks.{firstChecks, ownChecks}
+use Rattle.judge.specs.Asks.{checksOf}
+use Rattle.judge.proofs.Locality.{read-uib-placed}
 use Rattle.judge.specs.Given.{Asked}
 use Rattle.judge.specs.Reads.{InList, InUib}
 use Rattle.request.specs.declared.Task.{Task}
@@ -25,16 +25,13 @@ use Rattle.judge.specs.Passed.{None, before}
 
 module _ (a : Asked) (held : T (heldByOther (a .controller) (holder (a .unit)))) where
   no-uib : (at bytes x : ℕ) → InUib a at bytes x → ⊥
-  unfolding None
-  no-uib at bytes x u =
-      let passed = subst (λ (t : Task). None (before Refusal.UibOutsideLimits (firstChecks a t ++ ownChecks a t))) (u .asks) (u .passed) in
-      passed .1 .0 held
+  no-uib at bytes x u = read-uib-placed a at bytes x u .1 held
 
   no-list : (x : ℕ) → InList a x → ⊥
   unfolding None
   no-list x l =
-      let passed = subst (λ (t : Task). None (before Refusal.ListBad (firstChecks a t ++ ownChecks a t))) (l .asks) (l .passed) in
-      passed .1 .0 held
+      let passed = subst (λ (t : Task). None (before Refusal.ListBad (checksOf a t))) (l .asks) (l .passed) in
+      passed .0 held
 
 module _ (v : Visit) (refused : effectOf v .answer ≡ BlockAnswer.Failed Refusal.DriveHeld) where
   pub reads-its-28-bytes-alone : (x : ℕ) → ReadsHost v x → Among (v .at) 28 x

@@ -2,15 +2,15 @@
 -- What an 87 asks looks at the place of its UIB before it looks at its bytes; what the others ask looks at no byte, and neither do the
 -- checks before a list.
 use Prim.Native.Nat.{ℕ, _*_}
-use mathlib.Core.List.{List, [], _∷_}
+use mathlib.Core.List.{List}
 use mathlib.Core.Logic.{by-cases}
-use mathlib.Core.Path.{_≡_, sym, _∙_, subst}
+use mathlib.Core.Path.{_≡_, refl, sym, _∙_, subst}
 use native.Mathlib.Decide.{ℕ-discrete}
 use lib.ListN.{length}
-use Rattle.wire.specs.Memory.{inMemory?}
+use Rattle.wire.proofs.Decided.{inMemory?}
 use Rattle.wire.proofs.Memory.{range-same}
 use Rattle.wire.proofs.Promises.{never}
-use Rattle.answers.specs.declared.Refusal.the-variants.{ListBad, UibOutsideLimits}
+use Rattle.answers.specs.declared.Refusal.the-variants.{ListBad}
 use Rattle.request.specs.declared.Buffer.the-variants.{List as Elements}
 use Rattle.request.specs.declared.Move.{Move}
 use Rattle.request.specs.declared.Shape.{Shape}
@@ -20,10 +20,12 @@ use Rattle.iopb.specs.declared.Block.{Block}
 use Rattle.iopb.specs.Ask.{shapeAt, taskOf}
 use Rattle.iopb.proofs.Answers.{shapeAt-inside, shapeAt-outside}
 use Rattle.iopb.proofs.Locality.{asked-by-87, task-apart}
-use Rattle.judge.specs.Asks.{checks, firstChecks, uibMisplaced}
-use Rattle.judge.specs.Given.{Asked, BadPlace}
+use Rattle.judge.specs.Asks.{checks}
+use Rattle.judge.specs.Given.{Asked}
+use Rattle.judge.proofs.Locality.{placed-uib-read, read-uib-placed}
+use Rattle.geometry.specs.declared.Geometry.{Geometry}
+use Rattle.iopb.specs.Layout.{uibAt}
 use Rattle.judge.specs.Reads.{InList, InUib}
-use Rattle.judge.proofs.First.{none-of-all, none-of-parts}
 use Rattle.unit.specs.declared.Controller.{Controller}
 use Rattle.block.specs.Block.{Drive, asking}
 use Rattle.judge.specs.Passed.{None, before}
@@ -32,23 +34,17 @@ no-shape-moves : {s : Shape} {m : Move} → Initialize s ≡ Moves m → ⊥
 no-shape-moves e = never cc
 
 module _ (by : Controller) (h k : List ℕ) (long : length h ≡ length k) (d : Drive) where
-  -- The checks before 18 and before 13, of the same task.
+  -- The checks before 18, of the same task.
   before-list-alike :
       (t : Task) (m : Move) (at n : ℕ) → t ≡ Moves m → m .buffer ≡ Elements at n → None (before ListBad (checks (asking by t d h))) →
       None (before ListBad (checks (asking by t d k)))
   before-list-alike t m at n asks buffer passed = rw (asks, buffer) (rw (asks, buffer) at passed)
 
-  before-limits-alike :
-      (t : Task) (s : Shape) → t ≡ Initialize s → None (before UibOutsideLimits (checks (asking by t d h))) →
-      None (before UibOutsideLimits (checks (asking by t d k)))
-  before-limits-alike t s asks passed = rw asks (rw asks at passed)
-
   -- A UIB that is where it can be read in one memory is so in the other.
-  placed-alike : (at : ℕ) → (BadPlace (shapeAt h at) → ⊥) → BadPlace (shapeAt k at) → ⊥
-  placed-alike at good bad =
-      by-cases (inMemory? h at 18)
-      (λ place. rw (shapeAt-inside k at (range-same h k at 18 long place)) at bad)
-      (λ out. good (rw (shapeAt-outside h at out) tt))
+  placed-alike : (at : ℕ) (g : Geometry) → shapeAt h at ≡ Shape.Given g → shapeAt k at ≡ Shape.Given (uibAt k at)
+  placed-alike at g given =
+      by-cases (inMemory? h at 18) (λ place. shapeAt-inside k at (range-same h k at 18 long place))
+      (λ out. absurd (never (cc (shapeAt-outside h at out, given))))
 
   module _ (b : Block) where
     abbrev in-h : Asked
@@ -76,33 +72,11 @@ module _ (by : Controller) (h k : List ℕ) (long : length h ≡ length k) (d : 
         }
 
     pub uib-read-alike : (x : ℕ) → InUib in-h (b .address) 18 x → InUib in-k (b .address) 18 x
-    unfolding None
     uib-read-alike x u =
+        let read = read-uib-placed in-h (b .address) 18 x u in
         by-cases (ℕ-discrete (b .command) 0x87)
         (λ is.
-        let in-h = asked-by-87 h b is in
-        let in-k = asked-by-87 k b is in
-        let uib-h = shapeAt h (b .address) in
-        let uib-k = shapeAt k (b .address) in
-        let a = asking by (Initialize uib-h) d h in
-        let e = asking by (Initialize uib-k) d k in
-        let passed = subst (λ t. None (before UibOutsideLimits (checks (asking by t d h)))) in-h (u .passed) in
-        let parts = none-of-parts (firstChecks a (Initialize uib-h)) (uibMisplaced a uib-h ∷ []) passed in
-        record {
-          shape = uib-k;
-          asks = in-k;
-          passed =
-              subst (λ t. None (before UibOutsideLimits (checks (asking by t d k)))) (sym in-k)
-              (none-of-all (firstChecks e (Initialize uib-k)) (uibMisplaced e uib-k ∷ []) (parts .0) (placed-alike (b .address) (parts .1 .0), tt));
-          among = u .among;
-        })
+        let given : shapeAt h (b .address) ≡ Shape.Given (read .0 .0) = cc (asked-by-87 h b is, read .0 .1) in
+        placed-uib-read in-k (b .address) 18 x _ _ (asked-by-87 k b is) (placed-alike (b .address) _ given) (read .1) (u .among))
         (λ other.
-        let same = task-apart h k b other in
-        record {
-          shape = u .shape;
-          asks = sym same ∙ u .asks;
-          passed =
-              subst (λ t. None (before UibOutsideLimits (checks (asking by t d k)))) same
-              (before-limits-alike (taskOf h b) (u .shape) (u .asks) (u .passed));
-          among = u .among;
-        })
+        placed-uib-read in-k (b .address) 18 x _ _ (sym (task-apart h k b other) ∙ read .0 .1) refl (read .1) (u .among))

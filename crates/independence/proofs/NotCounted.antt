@@ -6,8 +6,8 @@ use mathlib.Core.List.{[], _∷_}
 use mathlib.Core.Logic.{inl, inr, ⊎-elim}
 use mathlib.Core.Path.{_≡_, refl, sym, ap}
 use native.Mathlib.Omega.{arith}
-use Rattle.board.specs.Chain.{endOf}
-use Rattle.wire.specs.Memory.{Among}
+use Rattle.board.specs.Ends.{endOf}
+use Rattle.wire.specs.Among.{Among}
 use Rattle.wire.specs.Words.{word}
 use Rattle.answers.specs.declared.BlockAnswer.the-variants.{Ended}
 use Rattle.answers.specs.declared.RunAnswer.{RunAnswer}

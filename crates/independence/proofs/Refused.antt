@@ -2,12 +2,13 @@
 -- What a block does not read is told by the check that refuses it.
 use Prim.Native.Nat.{ℕ, _+_, _<_}
 use mathlib.Core.Bool.{Bool, true, false}
-use mathlib.Core.List.{[], _∷_, _++_}
+use mathlib.Core.List.{[], _∷_}
 use mathlib.Core.Logic.{⊎-elim}
 use mathlib.Core.Path.{_≡_, refl, ap, subst, _∙_}
 use native.Mathlib.Omega.{arith}
 use Rattle.board.specs.declared.chain.End.{End}
-use Rattle.wire.specs.Memory.{Among, InMemory}
+use Rattle.wire.specs.Among.{Among}
+use Rattle.wire.specs.Memory.{InMemory}
 use Rattle.wire.proofs.Promises.{never as impossible}
 use Rattle.answers.specs.declared.Refusal.{Refusal}
 use Rattle.answers.specs.declared.RunAnswer.{RunAnswer}
@@ -16,9 +17,8 @@ use Rattle.iopb.specs.Ask.{shapeAt, taskOf}
 use Rattle.iopb.proofs.Answers.{shapeAt-outside}
 use Rattle.judge.specs.declared.Leaving.{Leaving}
 use Rattle.judge.specs.declared.Verdict.{Verdict}
-use Rattle.judge.specs.Asks.{firstChecks, only, ownChecks}
+use Rattle.judge.specs.Asks.{checksOf, only}
 use Rattle.judge.specs.Reads.{InList, InUib}
-use Rattle.judge.proofs.First.{no-more}
 use Rattle.judge.proofs.Locality.{misplaced-uib-unread}
 use Rattle.judge.proofs.Tasks.{move-11, own, restore-done, shape-misplaced}
 use Rattle.request.specs.declared.Buffer.{Buffer}
@@ -27,7 +27,8 @@ use Rattle.request.specs.declared.Shape.{Shape}
 use Rattle.request.specs.declared.Task.{Task}
 use Rattle.unit.specs.Holding.{heldByOther}
 use Rattle.unit.specs.Standing.{CountsAsInitialized, holder}
-use Rattle.board.specs.Chain.{endOf, ran}
+use Rattle.board.specs.Ends.{endOf}
+use Rattle.board.specs.Chain.{ran}
 use Rattle.demands.specs.Footprint.{RunWrites, WritesHost, askedOf, namedDrive, verdictOf}
 use Rattle.demands.specs.Footprint.HostWritten.{status-word}
 use Rattle.demands.specs.Visits.{Passes, Visit, blockOf}
@@ -80,7 +81,7 @@ module _ (w : World) (at : ℕ) (passes : Passes at 1 w) where
     misplaced-unread uib task bad =
         let misplaced : taskOf (w .host) (blockOf b) ≡ Task.Initialize Shape.Misplaced =
         task ∙ ap Task.Initialize (shapeAt-outside (w .host) uib bad) in
-        turned-away Refusal.UibMisplaced (rw misplaced (own _ _ _ _ _ no-more nobody ∙ shape-misplaced _ _ _ _)) (λ x u. misplaced-uib-unread _ _ _ x misplaced u)
+        turned-away Refusal.UibMisplaced (rw misplaced (own _ _ _ _ _ tt nobody ∙ shape-misplaced _ _ _ _)) (λ x u. misplaced-uib-unread _ _ _ x misplaced u)
         (λ x l. no-list _ x (λ m is. impossible (cc (misplaced, is))) l)
 
     -- A transfer of a unit that is not initialized, in one piece or through a list.
@@ -88,12 +89,12 @@ module _ (w : World) (at : ℕ) (passes : Passes at 1 w) where
         (m : Move) → taskOf (w .host) (blockOf b) ≡ Task.Move m → (CountsAsInitialized (namedDrive b .unit) → ⊥) → TurnedAway Refusal.NotInitialized
     unfolding None
     unready-unread m task unready =
-        turned-away Refusal.NotInitialized (rw task (own _ _ _ _ _ no-more nobody ∙ move-11 _ _ _ _ m unready))
+        turned-away Refusal.NotInitialized (rw task (own _ _ _ _ _ tt nobody ∙ move-11 _ _ _ _ m unready))
         (λ x u. no-uib _ _ _ x (λ s is. impossible (cc (task, is))) u)
         (λ x l.
         let a = askedOf b in
-        let passed = subst (λ (t : Task). None (before Refusal.ListBad (firstChecks a t ++ ownChecks a t))) (l .asks) (l .passed) in
-        passed .1 .1 .0 unready)
+        let passed = subst (λ (t : Task). None (before Refusal.ListBad (checksOf a t))) (l .asks) (l .passed) in
+        passed .1 .0 unready)
 
   -- And such is a restore that is done.
   pub restored :
@@ -102,7 +103,7 @@ module _ (w : World) (at : ℕ) (passes : Passes at 1 w) where
   restored byte mark same task unlinked =
       let judged : verdictOf b ≡ Verdict.Do (only (Leaving.HeadsAt 0)) =
       rw (task, same)
-      (own (w .controller) (unit 0) 130 (w .host) Task.Restore no-more (free (w .controller) 0) ∙
+      (own (w .controller) (unit 0) 130 (w .host) Task.Restore tt (free (w .controller) 0) ∙
       restore-done (w .controller) (unit 0) 130 (w .host) (counts 0 (omega arith))) in
       record {
         footprint = idle w at passes _ judged refl refl (λ s is. impossible (cc (task, is))) (λ m is. impossible (cc (task, is)));

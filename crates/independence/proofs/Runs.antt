@@ -10,7 +10,8 @@ use lib.ListN.{length}
 use Rattle.board.specs.declared.chain.End.{End}
 use Rattle.wire.proofs.Memory.{range-same}
 use Rattle.answers.specs.declared.RunAnswer.{RunAnswer}
-use Rattle.board.specs.Chain.{endOf, endedOf, nothing, ran}
+use Rattle.board.specs.Ends.{endOf, endedOf}
+use Rattle.board.specs.Chain.{nothing, ran}
 use Rattle.board.proofs.Runs.{ran-allowance-bad, ran-chain, ran-events-short, ran-first-bad}
 use Rattle.demands.specs.Footprint.{WritesHost}
 use Rattle.demands.specs.Visits.{Passes, fetchedBy, passes?, visits}

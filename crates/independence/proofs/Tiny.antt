@@ -24,7 +24,6 @@ use Rattle.judge.specs.declared.Verdict.{Verdict}
 use Rattle.judge.specs.Given.{on}
 use Rattle.judge.specs.Asks.{carrying, jobOf, planOf}
 use Rattle.judge.specs.Verdict.{verdict}
-use Rattle.judge.proofs.First.{no-more}
 use Rattle.judge.proofs.Tasks.{data-done, format-on, list-18, move-on, own, piece-done, span-covers, span-on}
 use Rattle.request.specs.declared.Buffer.{Buffer}
 use Rattle.request.specs.declared.Move.{Move}
@@ -137,7 +136,7 @@ module _ (k : Controller) (host : List ℕ) (c : ℕ) (heads : c < 2) where
       let a = on k (unit c) 130 (Task.Move (moveBy to-host n count b)) host in verdict a ≡ fromBuffer a (moveBy to-host n count b)
   by-its-buffer to-host n count b some fits =
       let m = moveBy to-host n count b in
-      own k (unit c) 130 host _ no-more (free k c) ∙
+      own k (unit c) 130 host _ tt (free k c) ∙
       move-on k (unit c) 130 host m (counts c heads) present (λ none. omega arith) ∙
       span-on k (unit c) 130 host m (span-covers k (unit c) 130 host m n refl some (omega (arith, sectors-2))) (omega (arith, need-130))
 
@@ -171,7 +170,7 @@ pub format-passes :
     verdict (on k u 130 (Task.Format (track buffer)) host) ≡ Verdict.Do (planOf u (Task.Format (track buffer)))
 format-passes k host cylinders sectors buffer sizes two held =
     let u = fresh (shaped cylinders sectors) in
-    own k u 130 host _ no-more (nobody k (shaped cylinders sectors)) ∙
+    own k u 130 host _ tt (nobody k (shaped cylinders sectors)) ∙
     format-on k u 130 host (track buffer) (counts-of cylinders sectors sizes 0 (omega (arith, sizes .cylinders)))
     (record {
       cylinder = omega (arith, sizes .cylinders);

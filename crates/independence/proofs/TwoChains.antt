@@ -7,8 +7,8 @@ use mathlib.Core.Logic.{_⊎_, _↔_, inl, inr, ⊎-elim}
 use mathlib.Core.Path.{_≡_, refl, sym, ap, subst, _∙_}
 use native.Mathlib.Omega.{arith}
 use lib.ListN.{getD, length}
-use Rattle.board.specs.Chain.{endOf}
-use Rattle.wire.specs.Memory.{Among}
+use Rattle.board.specs.Ends.{endOf}
+use Rattle.wire.specs.Among.{Among}
 use Rattle.wire.specs.Words.{word}
 use Rattle.answers.specs.declared.BlockAnswer.the-variants.{Ended, Failed}
 use Rattle.answers.specs.declared.Refusal.{Refusal}
@@ -23,7 +23,6 @@ use Rattle.judge.specs.declared.Plan.{Plan}
 use Rattle.judge.specs.declared.Report.{Report}
 use Rattle.judge.specs.declared.Verdict.{Verdict}
 use Rattle.judge.specs.Asks.{only, plan, planOf}
-use Rattle.judge.proofs.EachTask.{passes-first}
 use Rattle.judge.proofs.First.{no-more}
 use Rattle.judge.proofs.Locality.{placed-uib-read}
 use Rattle.wire.proofs.Promises.{never as impossible}
@@ -210,7 +209,7 @@ refused-format-pass = both-pass refusedFormat refl refl (omega arith)
 
 refused-format : verdictOf (first-of refusedFormat) ≡ Verdict.Refused Refusal.NotInitialized
 unfolding word taskOf
-refused-format = own _ _ _ _ _ no-more refl ∙ format-11 FirstController (newDrive .unit) 0 (refusedFormat .host1) (track 256) not-ready
+refused-format = own _ _ _ _ _ tt refl ∙ format-11 FirstController (newDrive .unit) 0 (refusedFormat .host1) (track 256) not-ready
 
 refused-format-first : Alone 0 (firstIn refusedFormat) Zero ((0, 28) ∷ []) ((2, 2) ∷ [])
 unfolding word taskOf
@@ -341,11 +340,11 @@ shared-initialize : verdictOf (first-of sharedUnit) ≡ Verdict.Do (only (Leavin
 unfolding word taskOf
 shared-initialize =
     rw (shapeAt-inside (sharedUnit .host1) 32 (omega arith))
-    (own _ _ _ _ _ no-more refl ∙ shape-given FirstController (newDrive .unit) 0 (sharedUnit .host1) tiny within-tiny)
+    (own _ _ _ _ _ tt refl ∙ shape-given FirstController (newDrive .unit) 0 (sharedUnit .host1) tiny within-tiny)
 
 shared-restore : verdictOf (second-of sharedUnit) ≡ Verdict.Refused Refusal.NotInitialized
 unfolding word taskOf
-shared-restore = own _ _ _ _ _ no-more refl ∙ restore-refused FirstController (newDrive .unit) 0 (sharedUnit .host1) not-ready
+shared-restore = own _ _ _ _ _ tt refl ∙ restore-refused FirstController (newDrive .unit) 0 (sharedUnit .host1) not-ready
 
 shared-first : Alone 0 (firstIn sharedUnit) Zero ((0, 28) ∷ (32, 18) ∷ []) ((2, 2) ∷ [])
 unfolding word taskOf
@@ -376,7 +375,7 @@ then-passes = passes-at (secondIn then-shared) 28 refl refl (omega arith)
 
 then-restore : verdictOf (second-of then-shared) ≡ Verdict.Do (only (Leaving.HeadsAt 0))
 unfolding word taskOf after bytesFrom
-then-restore = own _ _ _ _ _ no-more refl ∙ restore-done FirstController (unit 0) 0 (then-shared .host1) (counts 0 (omega arith))
+then-restore = own _ _ _ _ _ tt refl ∙ restore-done FirstController (unit 0) 0 (then-shared .host1) (counts 0 (omega arith))
 
 then-comes : ofSecond then-shared ≡ come RunAnswer.Done 0 0
 unfolding after bytesFrom
@@ -411,7 +410,7 @@ read-initialize : verdictOf (second-of readByOther) ≡ Verdict.Do (only (Leavin
 unfolding word taskOf
 read-initialize =
     rw (shapeAt-inside (readByOther .host1) 4 (omega arith))
-    (own _ _ _ _ _ no-more refl ∙ shape-given FirstController (newDrive .unit) 0 (readByOther .host1) tiny within-tiny)
+    (own _ _ _ _ _ tt refl ∙ shape-given FirstController (newDrive .unit) 0 (readByOther .host1) tiny within-tiny)
 
 read-first : Alone 0 (firstIn readByOther) Zero ((0, 28) ∷ []) ((2, 2) ∷ (4, 12) ∷ [])
 unfolding word taskOf
@@ -449,7 +448,7 @@ then-outside : verdictOf (second-of then-read) ≡ Verdict.Refused Refusal.UibOu
 unfolding word taskOf after bytesFrom Present
 then-outside =
     rw (shapeAt-inside (then-read .host1) 4 (omega arith))
-    (own _ _ _ _ _ no-more refl ∙ shape-outside FirstController (newDrive .unit) 0 (then-read .host1) (uibAt (then-read .host1) 4)
+    (own _ _ _ _ _ tt refl ∙ shape-outside FirstController (newDrive .unit) 0 (then-read .host1) (uibAt (then-read .host1) 4)
     (λ within. let one-head : 0 < 0 = within .volumes .one-head in omega arith))
 
 read-differs : EitherWay one two readByOther → ⊥
@@ -466,8 +465,7 @@ read-by-other = (
       none refl 4 .0 (by-block 0 _ (read-pass .0) (λ v. WritesHost v 4) (report (rw read-report (omega arith, omega arith))))
       (by-block 28 _ (read-pass .1) (λ v. ReadsHost v 4)
       (its-uib
-      (placed-uib-read _ _ _ _ _ refl (passes-first (askedOf (second-of readByOther)) no-more no-more) (λ bad. rw (shapeAt-inside (readByOther .host1) 4 (omega arith)) at bad)
-      (omega arith)))),
+      (placed-uib-read _ _ _ _ _ _ refl (shapeAt-inside (readByOther .host1) 4 (omega arith)) no-more (omega arith)))),
   (no-unit one two readByOther read-first read-second differ, (none-twice one two readByOther read-first read-second (omega arith), read-differs)),
 )
 
@@ -495,7 +493,7 @@ format-outside : verdictOf (second-of formatRead) ≡ Verdict.Refused Refusal.Ui
 unfolding word taskOf Present
 format-outside =
     rw (shapeAt-inside (formatRead .host1) 8 (omega arith))
-    (own _ _ _ _ _ no-more refl ∙ shape-outside FirstController (newDrive .unit) 0 (formatRead .host1) (uibAt (formatRead .host1) 8)
+    (own _ _ _ _ _ tt refl ∙ shape-outside FirstController (newDrive .unit) 0 (formatRead .host1) (uibAt (formatRead .host1) 8)
     (λ within. let one-head : 0 < 0 = within .volumes .one-head in omega arith))
 
 format-second : Alone 28 (secondIn formatRead) One ((28, 28) ∷ (8, 18) ∷ []) ((30, 2) ∷ [])
@@ -526,7 +524,7 @@ then-within : verdictOf (second-of then-format) ≡ Verdict.Do (only (Leaving.Fr
 unfolding word taskOf after bytesFrom dataOn progress upTo stopsAt
 then-within =
     rw (shapeAt-inside (then-format .host1) 8 (omega arith))
-    (own _ _ _ _ _ no-more refl ∙ shape-given FirstController (newDrive .unit) 0 (then-format .host1) tiny within-tiny)
+    (own _ _ _ _ _ tt refl ∙ shape-given FirstController (newDrive .unit) 0 (then-format .host1) tiny within-tiny)
 
 then-format-comes : ofSecond then-format ≡ come RunAnswer.Done 0 0
 unfolding after bytesFrom dataOn progress upTo stopsAt
@@ -546,8 +544,7 @@ format-read = (
       none refl 9 .0 (format-wrote (firstIn formatRead) (format-pass .0) 256 refl refl format-accepted 9 (omega arith))
       (by-block 28 _ (format-pass .1) (λ v. ReadsHost v 9)
       (its-uib
-      (placed-uib-read _ _ _ _ _ refl (passes-first (askedOf (second-of formatRead)) no-more no-more) (λ bad. rw (shapeAt-inside (formatRead .host1) 8 (omega arith)) at bad)
-      (omega arith)))),
+      (placed-uib-read _ _ _ _ _ _ refl (shapeAt-inside (formatRead .host1) 8 (omega arith)) no-more (omega arith)))),
   (no-unit one two formatRead format-first format-second differ, (none-twice one two formatRead format-first format-second (omega arith), format-differs)),
 )
 

@@ -7,7 +7,7 @@ use mathlib.Core.Logic.{inl}
 use mathlib.Core.Path.{_≡_, refl, ap, _∙_}
 use native.Mathlib.Omega.{arith}
 use lib.IntN.{pos}
-use Rattle.board.specs.Chain.{endOf}
+use Rattle.board.specs.Ends.{endOf}
 use Rattle.wire.specs.Words.{word}
 use Rattle.wire.proofs.Promises.{never as impossible}
 use Rattle.answers.specs.declared.BlockAnswer.the-variants.{Ended}
@@ -18,7 +18,6 @@ use Rattle.iopb.specs.Layout.{blockAt}
 use Rattle.judge.specs.declared.Leaving.{Leaving}
 use Rattle.judge.specs.declared.Verdict.{Verdict}
 use Rattle.judge.specs.Asks.{only}
-use Rattle.judge.proofs.First.{no-more}
 use Rattle.judge.proofs.Tasks.{held-24, own, restore-done}
 use Rattle.request.specs.declared.Task.{Task}
 use Rattle.unit.specs.declared.UnitNumber.the-variants.{Zero, One}
@@ -160,11 +159,11 @@ shared-pass = (passes-at (firstIn sharedDrive) 0 refl refl (omega arith), passes
 
 first-restores : verdictOf (v (firstIn sharedDrive) 0 (shared-pass .0)) ≡ Verdict.Do (only (Leaving.HeadsAt 0))
 unfolding word taskOf
-first-restores = own _ _ _ _ _ no-more refl ∙ restore-done FirstController (unit 0) 130 (sharedDrive .host1) (counts 0 (omega arith))
+first-restores = own _ _ _ _ _ tt refl ∙ restore-done FirstController (unit 0) 130 (sharedDrive .host1) (counts 0 (omega arith))
 
 other-restores : verdictOf (v (otherIn sharedDrive) 28 (shared-pass .1)) ≡ Verdict.Do (only (Leaving.HeadsAt 0))
 unfolding word taskOf
-other-restores = own _ _ _ _ _ no-more refl ∙ restore-done SecondController (unit 0) 130 (sharedDrive .host2) (counts 0 (omega arith))
+other-restores = own _ _ _ _ _ tt refl ∙ restore-done SecondController (unit 0) 130 (sharedDrive .host2) (counts 0 (omega arith))
 
 alone-done : ofOther sharedDrive ≡ come RunAnswer.Done 0 0
 alone-done = comes-done (otherIn sharedDrive) 28 (shared-pass .1) refl _ other-restores refl

@@ -9,7 +9,8 @@ use Rattle.unit.specs.declared.UnitNumber.{UnitNumber}
 use Rattle.unit.specs.declared.UnitNumber.the-variants.{Zero, One}
 use Rattle.unit.specs.declared.Controller.{Controller}
 use Rattle.unit.specs.declared.Controller.the-variants.{First as FirstController, Second as SecondController}
-use Rattle.board.specs.Chain.{endOf, ran}
+use Rattle.board.specs.Ends.{endOf}
+use Rattle.board.specs.Chain.{ran}
 use Rattle.demands.specs.Footprint.{RunNames, RunWrites}
 use Rattle.independence.specs.Local.{Kind, Place, Step, placed}
 use Rattle.independence.specs.Reads.{RunReads}

@@ -2,7 +2,8 @@
 -- by either controller: the memories of both, an event buffer for each chain, and the drives, holders and all.
 use mathlib.Core.Path.{_≡_}
 use Rattle.unit.specs.declared.Controller.{Controller}
-use Rattle.board.specs.Chain.{endOf, ran}
+use Rattle.board.specs.Ends.{endOf}
+use Rattle.board.specs.Chain.{ran}
 use Rattle.independence.specs.Chains.{Both, Chain, Which, eventsOf, hostOf, runOf, worldFor}
 
 -- A run is that of its controller on its own memory and event buffer and on the drives: what it answers and counts, and what it leaves of these; and

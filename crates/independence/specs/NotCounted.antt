@@ -6,7 +6,8 @@ use mathlib.Core.Bool.{false}
 use mathlib.Core.List.{List}
 use mathlib.Core.Path.{_≡_}
 use lib.ListN.{replicate}
-use Rattle.wire.specs.Memory.{Among, InMemory}
+use Rattle.wire.specs.Among.{Among}
+use Rattle.wire.specs.Memory.{InMemory}
 use Rattle.answers.specs.declared.RunAnswer.{RunAnswer}
 use Rattle.unit.specs.declared.UnitNumber.the-variants.{Zero}
 use Rattle.unit.specs.declared.Controller.the-variants.{First as FirstController}

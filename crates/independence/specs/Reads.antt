@@ -2,8 +2,7 @@
 -- too, and are no bytes.
 use Prim.Native.Nat.{ℕ}
 use mathlib.Core.Bool.{false}
-use Rattle.wire.specs.Memory.{Among}
-use Rattle.iopb.specs.Layout.{uibBytes}
+use Rattle.wire.specs.Among.{Among}
 use Rattle.judge.specs.Given.{Asked}
 use Rattle.judge.specs.Reads.{InList, InUib}
 use Rattle.demands.specs.Footprint.{HostData, Some, askedOf, namedDrive}
@@ -16,7 +15,7 @@ pub data HostRead (at uib : ℕ) (a : Asked) (d : Drive) (x : ℕ) : Type 0 wher
   -- "the 28 of each fetched block"
   block : Among at 28 x → HostRead at uib a d x
   -- "a UIB that passed check 12"
-  its-uib : InUib a uib uibBytes x → HostRead at uib a d x
+  its-uib : InUib a uib 18 x → HostRead at uib a d x
   -- "a list of 1 to 64 elements .."
   its-list : InList a x → HostRead at uib a d x
   -- "the data of 82, A2 and 8C": the bytes moved, which are all of them, since nothing stops a write

@@ -4,7 +4,7 @@ use mathlib.Core.List.{List, _++_}
 use mathlib.Core.Path.{_≡_}
 use lib.ListN.{replicate}
 use Rattle.board.specs.declared.chain.End.{End}
-use Rattle.wire.specs.Memory.{Among}
+use Rattle.wire.specs.Among.{Among}
 use Rattle.answers.specs.declared.RunAnswer.{RunAnswer}
 use Rattle.unit.specs.declared.Controller.the-variants.{Second as SecondController}
 use Rattle.unit.specs.declared.Holder.the-variants.{TheSecond}

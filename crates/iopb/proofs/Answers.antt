@@ -5,7 +5,8 @@ use mathlib.Core.List.{List}
 use mathlib.Core.Logic.{if-neg, if-pos}
 use mathlib.Core.Path.{_≡_}
 use Rattle.request.specs.declared.Shape.{Shape}
-use Rattle.wire.specs.Memory.{InMemory, inMemory?}
+use Rattle.wire.proofs.Decided.{inMemory?}
+use Rattle.wire.specs.Memory.{InMemory}
 use Rattle.iopb.specs.Ask.{shapeAt}
 use Rattle.iopb.specs.Layout.{uibAt}
 

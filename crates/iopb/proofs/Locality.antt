@@ -10,7 +10,9 @@ use lib.ListN.{getD, length}
 use Rattle.geometry.specs.Drive.{geometryOf, volumeOf}
 use Rattle.request.specs.declared.Shape.{Shape}
 use Rattle.request.specs.declared.Task.{Task}
-use Rattle.wire.specs.Memory.{Among, InMemory, inMemory?}
+use Rattle.wire.proofs.Decided.{inMemory?}
+use Rattle.wire.specs.Among.{Among}
+use Rattle.wire.specs.Memory.{InMemory}
 use Rattle.wire.proofs.Laws.{word-same}
 use Rattle.wire.proofs.Memory.{range-same}
 use Rattle.iopb.specs.declared.Block.{Block}

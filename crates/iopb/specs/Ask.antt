@@ -4,7 +4,7 @@ use mathlib.Core.Bool.{Bool, true, false, cond}
 use mathlib.Core.List.{List, [], _∷_}
 use mathlib.Core.Logic.{ite}
 use lib.Dec.{eqb}
-use Rattle.wire.specs.Memory.{inMemory?}
+use Rattle.wire.proofs.Decided.{inMemory?}
 use Rattle.geometry.specs.declared.VolumeNumber.{VolumeNumber}
 use Rattle.request.specs.declared.Buffer.{Buffer}
 use Rattle.request.specs.declared.Move.{Move}
@@ -16,15 +16,11 @@ use Rattle.request.specs.declared.Task.{Task}
 use Rattle.request.specs.declared.Track.{Track}
 use Rattle.unit.specs.declared.UnitNumber.{UnitNumber}
 use Rattle.iopb.specs.declared.Block.{Block}
-use Rattle.iopb.specs.declared.Options.{Options}
-use Rattle.iopb.specs.Layout.{uibAt, uibBytes}
+use Rattle.iopb.specs.Layout.{uibAt}
 
 -- UN and VO
-abbrev pub unitIn : Options → UnitNumber
-unitIn o = cond (o .unit) UnitNumber.One UnitNumber.Zero
-
 abbrev pub unitAsked : Block → UnitNumber
-unitAsked b = unitIn (b .options)
+unitAsked b = cond (b .options .unit) UnitNumber.One UnitNumber.Zero
 
 abbrev pub volumeAsked : Block → VolumeNumber
 volumeAsked b = cond (b .options .volume) VolumeNumber.One VolumeNumber.Zero
@@ -63,7 +59,7 @@ pairOf b =
 -- A UIB is 18 bytes, read where they lie in host memory; elsewhere it is misplaced, which check 12 says of a "UIB address odd or
 -- UIB not wholly in host memory".
 unfoldable pub shapeAt : List ℕ → ℕ → Shape
-shapeAt host at = ite (inMemory? host at uibBytes) (Shape.Given (uibAt host at)) Shape.Misplaced
+shapeAt host at = ite (inMemory? host at 18) (Shape.Given (uibAt host at)) Shape.Misplaced
 
 -- What each command asks, by its code: "81 read, 82 write, 86 handshake, 87 initialize, 89 restore, 8A seek, 8C format with
 -- data, A1 scatter, A2 gather (hex)" (01, What the board answers for), and "command 85" (02, K5).

@@ -54,10 +54,6 @@ blockAt bytes at =
       elements = byte bytes (at + 27);
     }
 
--- The bytes of Table 10.
-abbrev pub uibBytes : ℕ
-uibBytes = 18
-
 -- Table 10: each volume's start head and heads, sectors a track at 4, bytes a sector at 6, cylinders at 12.
 abbrev pub uibAt : List ℕ → ℕ → Geometry
 uibAt bytes at =

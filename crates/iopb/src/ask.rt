@@ -15,10 +15,12 @@ use unit::UnitNumber;
 ghost use mathlib.Core.Path.{_≡_};
 ghost use Prim.Native.Nat.{_+_, _≤_};
 ghost use lib.ListN.{length};
-ghost use Rattle.iopb.specs.Layout.{blockAt, uibBytes};
+ghost use mathlib.Core.Bool.{cond};
+ghost use Rattle.unit.specs.declared.UnitNumber.{UnitNumber};
+ghost use Rattle.iopb.specs.Layout.{blockAt};
 ghost use Rattle.wire.specs.Memory.{InMemory};
 ghost use Rattle.wire.specs.Promise.{Says};
-ghost use Rattle.iopb.specs.Ask.{listOf, moveOf, pairOf, shapeAt, startOf, targetOf, taskOf, trackAsked, unitIn, unitAsked};
+ghost use Rattle.iopb.specs.Ask.{listOf, moveOf, pairOf, shapeAt, startOf, targetOf, taskOf, trackAsked, unitAsked};
 
 // The unit that the block at an address names, told without the rest of it: whoever picks a drive by it need not keep a block.
 pub fn unit_at(host: &[u8], at: usize) -> UnitNumber
@@ -29,7 +31,7 @@ pub fn unit_at(host: &[u8], at: usize) -> UnitNumber
 }
 
 fn unit(options: Options) -> UnitNumber
-    ensures { λ r. ⌜ r ≡ unitIn options ⌝ }
+    ensures { λ r. ⌜ r ≡ cond (options .unit) UnitNumber.One UnitNumber.Zero ⌝ }
 {
     if options.unit {
         UnitNumber::One
@@ -137,7 +139,7 @@ fn pair(b: Block) -> Pair
 }
 
 fn holds_uib(host: &[u8], address: u32) -> bool
-    ensures { λ r. ⌜ Says r (InMemory (now (host .entry)) address uibBytes) ⌝ }
+    ensures { λ r. ⌜ Says r (InMemory (now (host .entry)) address 18) ⌝ }
 {
     wire::holds(host, address, 18)
 }

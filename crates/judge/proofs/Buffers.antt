@@ -14,11 +14,12 @@ use Rattle.request.specs.declared.Buffer.the-variants.{Piece, List as Elements}
 use Rattle.request.specs.declared.Move.{Move}
 use Rattle.request.specs.declared.Task.{Task}
 use Rattle.request.specs.declared.Task.the-variants.{Move as Moves}
-use Rattle.wire.specs.Memory.{Among}
+use Rattle.wire.specs.Among.{Among}
 use Rattle.wire.proofs.Memory.{range-same}
 use Rattle.judge.specs.declared.Plan.{Plan}
 use Rattle.judge.specs.declared.Verdict.{Verdict}
-use Rattle.judge.specs.Asks.{firstChecks, beforeBuffer, bytesOf, checks, dataMisplaced, ofBuffer, ownChecks}
+use Rattle.judge.specs.Steps.{beforeBuffer, bytesOf}
+use Rattle.judge.specs.Asks.{checks, checksOf, dataMisplaced, ofBuffer}
 use Rattle.judge.specs.Checks.{Check, first}
 use Rattle.judge.specs.Given.{Asked, on}
 use Rattle.judge.specs.Reads.{InList}
@@ -49,10 +50,10 @@ alike-then k l ks ls p answer same rest =
 -- What comes before check 18 of a transfer through a list.
 pub before-list :
     (a : Asked) (m : Move) (at n : ℕ) → a .task ≡ Moves m → m .buffer ≡ Elements at n →
-    None (firstChecks a (Moves m) ++ beforeBuffer a m) → None (before Refusal.ListBad (checks a))
+    None (beforeBuffer a m) → None (before Refusal.ListBad (checks a))
 before-list a m at n asks buffer none =
-    subst (λ (t : Task). None (before Refusal.ListBad (firstChecks a t ++ ownChecks a t))) (sym asks)
-    (subst (λ (b : Buffer). None (before Refusal.ListBad (firstChecks a (Moves m) ++ beforeBuffer a m ++ ofBuffer a b (bytesOf a m)))) (sym buffer) none)
+    subst (λ (t : Task). None (before Refusal.ListBad (checksOf a t))) (sym asks)
+    (subst (λ (b : Buffer). None (before Refusal.ListBad (beforeBuffer a m ++ ofBuffer a b (bytesOf a m)))) (sym buffer) none)
 
 module _ (c : Controller) (u : UnitRecord) (image : ℕ) (h k : List ℕ) (long : length h ≡ length k) where
   pub same-range : (t : Task) (at bytes : ℕ) (p : Plan) → first (dataMisplaced (on c u image t h) at bytes ∷ []) p ≡ first (dataMisplaced (on c u image t k) at bytes ∷ []) p
@@ -63,7 +64,7 @@ module _ (c : Controller) (u : UnitRecord) (image : ℕ) (h k : List ℕ) (long 
       )
       (λ out. refl)
 
-  module _ (m : Move) (alike : (i : ℕ) → InList (on c u image (Moves m) h) i → getD h i 0 ≡ getD k i 0) (passed : None (firstChecks (on c u image (Moves m) h) (Moves m) ++ beforeBuffer (on c u image (Moves m) h) m)) where
+  module _ (m : Move) (alike : (i : ℕ) → InList (on c u image (Moves m) h) i → getD h i 0 ≡ getD k i 0) (passed : None (beforeBuffer (on c u image (Moves m) h) m)) where
     -- The elements of a list that can be read are the same in both.
     same-elements :
         (at n bytes : ℕ) → m .buffer ≡ Elements at n → (host : List ℕ) → length host ≡ length h → ListGood host at n bytes →

@@ -1,16 +1,17 @@
 -- Whatever is shown by going through the tasks one by one: a task more is a line in each, here, and a law of its command in Table.
 -- What they have in common stands beside them (Buffers, Known), and what follows for every task above (Table, Locality, LetThrough).
 use Prim.Native.Nat.{ℕ, _<_}
-use mathlib.Core.Bool.{Bool, true, false, cond}
-use mathlib.Core.List.{List, [], _∷_, _++_}
-use mathlib.Core.Path.{_≡_, refl, _∙_}
+use mathlib.Core.List.{List, [], _∷_}
+use mathlib.Core.Logic.{Dec·and}
+use mathlib.Core.Path.{_≡_, refl, ap, _∙_}
 use native.Mathlib.Omega.{arith}
 use lib.Dec.{T}
 use lib.ListN.{getD, length}
 use Rattle.answers.specs.declared.Refusal.the-variants.{DriveHeld}
 use Rattle.geometry.specs.Drive.{B}
-use Rattle.geometry.specs.Sectors.{address, onDrive?}
-use Rattle.geometry.proofs.Decided.{within?}
+use Rattle.geometry.specs.Answers.{onDrive?}
+use Rattle.geometry.specs.Sectors.{address}
+use Rattle.geometry.proofs.Decided.{covers?, within?}
 use Rattle.memory.specs.Lists.{ListGood}
 use Rattle.request.specs.declared.Buffer.{Buffer}
 use Rattle.request.specs.declared.Buffer.the-variants.{Piece, List as Elements}
@@ -24,12 +25,12 @@ use Rattle.unit.specs.declared.Controller.{Controller}
 use Rattle.unit.specs.Standing.{UnitRecord, geometry, holder, pairs, table}
 use Rattle.unit.proofs.Decided.{counts?}
 use Rattle.unit.proofs.Laws.{track-inside, track-whole}
-use Rattle.wire.specs.Memory.{inMemory?}
+use Rattle.wire.proofs.Decided.{inMemory?}
 use Rattle.judge.specs.declared.Leaving.{Leaving}
 use Rattle.judge.specs.declared.Verdict.{Verdict}
-use Rattle.judge.specs.Asks.{asksHolder, beforeBuffer, bytesOf, driveHeld, firstChecks, numberThere, imageShort, jobOf, notInitialized, ofBuffer, ownChecks, planOf, trackOutside, unlisted}
+use Rattle.judge.specs.Steps.{asksHolder, beforeBuffer, byItsOwn, bytesOf, ownChecks}
+use Rattle.judge.specs.Asks.{checksOf, driveHeld, numberThere, imageShort, jobOf, notInitialized, ofBuffer, planOf, trackOutside}
 use Rattle.judge.specs.Checks.{first}
-use Rattle.judge.specs.Decided.{covers?, hasTracks?}
 use Rattle.judge.specs.Fits.{SpanGood}
 use Rattle.judge.specs.Given.{Asked, badNumber, beginsAt, on, spareNumber}
 use Rattle.judge.specs.Reads.{InList}
@@ -37,45 +38,36 @@ use Rattle.judge.specs.Table.{oneOf}
 use Rattle.judge.specs.Verdict.{verdict}
 use Rattle.judge.proofs.Known.{Accepted, covered, good-buffer, has-number, heads-only, seek-inside, so}
 use Rattle.judge.proofs.Buffers.{after-the-same, before-list, same-buffer, same-range}
-use Rattle.judge.proofs.First.{none-of-all, numbersOf, skip, stop}
+use Rattle.judge.proofs.First.{numbersOf, skip, stop}
 use Rattle.judge.specs.Passed.{None}
 
 -- ---- what is asked
 
--- A listed command passes what is asked first, where the other controller does not hold the drive.
-pub passes-first :
-    (a : Asked) → (T (unlisted (a .task)) → ⊥) → (T (heldByOther (a .controller) (holder (a .unit))) → ⊥) → None (firstChecks a (a .task))
-unfolding None
-passes-first a listed free = (listed, by-test (asksHolder (a .task)))
-  where
-    by-test : (asks : Bool) → None (cond asks (driveHeld a ∷ []) [])
-    by-test true = (free, tt)
-    by-test false = tt
+-- One that is asked who holds the drive is asked that first, and then what is its own,
+asked-first : (a : Asked) (t : Task) → T (asksHolder t) → checksOf a t ≡ driveHeld a ∷ ownChecks a t
+asked-first a Unknown asks = absurd asks
+asked-first a (Moves m) asks = refl
+asked-first a Handshake asks = absurd asks
+asked-first a (Initialize Misplaced) asks = refl
+asked-first a (Initialize (Uib g)) asks = refl
+asked-first a Restore asks = refl
+asked-first a (Seek t) asks = refl
+asked-first a (Format k) asks = refl
+asked-first a (Map k) asks = refl
 
--- One that is asked who holds the drive is listed,
-pub asked-is-listed : (t : Task) → T (asksHolder t) → T (unlisted t) → ⊥
-asked-is-listed Unknown asks none = asks
-asked-is-listed (Moves m) asks none = none
-asked-is-listed Handshake asks none = none
-asked-is-listed (Initialize s) asks none = none
-asked-is-listed Restore asks none = none
-asked-is-listed (Seek t) asks none = none
-asked-is-listed (Format k) asks none = none
-asked-is-listed (Map k) asks none = none
+-- so that it is judged by its own checks where the other controller does not hold the drive,
+pub on-its-own : (a : Asked) → T (asksHolder (a .task)) → (T (heldByOther (a .controller) (holder (a .unit))) → ⊥) → verdict a ≡ byItsOwn a
+unfolding verdict byItsOwn
+on-its-own a asks free = ap (λ ks. first ks (planOf (a .unit) (a .task))) (asked-first a (a .task) asks) ∙ skip _ _ _ free
 
--- and refused where the other controller holds it.
+-- and refused where that holds it.
 pub stopped-by-holder :
     (a : Asked) → T (asksHolder (a .task)) → T (heldByOther (a .controller) (holder (a .unit))) → verdict a ≡ Verdict.Refused DriveHeld
 unfolding verdict
-stopped-by-holder a asks held = skip _ _ _ (asked-is-listed (a .task) asks) ∙ by-test (asksHolder (a .task)) asks
-  where
-    by-test :
-        (asks : Bool) → T asks → first (cond asks (driveHeld a ∷ []) [] ++ ownChecks a (a .task)) (planOf (a .unit) (a .task)) ≡ Verdict.Refused DriveHeld
-    by-test true asks = stop _ _ _ held
-    by-test false asks = absurd asks
+stopped-by-holder a asks held = ap (λ ks. first ks (planOf (a .unit) (a .task))) (asked-first a (a .task) asks) ∙ stop _ _ _ held
 
 -- No task is asked a check with 20, which is the answer of a transfer that is stopped.
-pub never-asked-20 : (a : Asked) (t : Task) → T (oneOf 20 (numbersOf (firstChecks a t ++ ownChecks a t))) → ⊥
+pub never-asked-20 : (a : Asked) (t : Task) → T (oneOf 20 (numbersOf (checksOf a t))) → ⊥
 never-asked-20 a Unknown there = there
 never-asked-20 a (Moves m) there = by-buffer (m .buffer) there
   where
@@ -83,7 +75,8 @@ never-asked-20 a (Moves m) there = by-buffer (m .buffer) there
     by-buffer (Piece at) there = there
     by-buffer (Elements at n) there = there
 never-asked-20 a Handshake there = there
-never-asked-20 a (Initialize s) there = there
+never-asked-20 a (Initialize Misplaced) there = there
+never-asked-20 a (Initialize (Uib g)) there = there
 never-asked-20 a Restore there = there
 never-asked-20 a (Seek t) there = there
 never-asked-20 a (Format k) there = there
@@ -97,33 +90,34 @@ module _ (c : Controller) (u : UnitRecord) (image : ℕ) (h k : List ℕ) (long 
   verdict-local Unknown alike = refl
   verdict-local (Moves m) alike =
       let a = on c u image (Moves m) h in
-      after-the-same (firstChecks a (Moves m) ++ beforeBuffer a m) (ofBuffer a (m .buffer) (bytesOf a m))
+      after-the-same (beforeBuffer a m) (ofBuffer a (m .buffer) (bytesOf a m))
       (ofBuffer (on c u image (Moves m) k) (m .buffer) (bytesOf a m)) (planOf u (Moves m))
       (λ passed. same-buffer c u image h k long m alike passed (m .buffer) refl (bytesOf a m) (planOf u (Moves m)))
   verdict-local Handshake alike = refl
-  verdict-local (Initialize s) alike = refl
+  verdict-local (Initialize Misplaced) alike = refl
+  verdict-local (Initialize (Uib g)) alike = refl
   verdict-local Restore alike = refl
   verdict-local (Seek t) alike = refl
   verdict-local (Format x) alike =
       let a = on c u image (Format x) h in
-      after-the-same (firstChecks a (Format x) ++ notInitialized a ∷ trackOutside a x ∷ imageShort a ∷ []) _ _ (planOf u (Format x))
+      after-the-same (driveHeld a ∷ notInitialized a ∷ trackOutside a x ∷ imageShort a ∷ []) _ _ (planOf u (Format x))
       (λ passed. same-range c u image h k long (Format x) (x .buffer) (B (geometry u)) (planOf u (Format x)))
   verdict-local (Map x) alike = refl
 
 -- ---- what its plan is known to be
 
 module _ (c : Controller) (u : UnitRecord) (image : ℕ) (host : List ℕ) where
-  pub accepted : (t : Task) → None (firstChecks (on c u image t host) t) → None (ownChecks (on c u image t host) t) → Accepted (on c u image t host) (planOf u t)
+  pub accepted : (t : Task) → None (checksOf (on c u image t host) t) → Accepted (on c u image t host) (planOf u t)
   unfolding None
-  accepted Unknown (listed, rest) none = absurd (listed tt)
-  accepted (Moves m) first (initialized, (present, (some-sectors, (inside, (long, buffer))))) =
+  accepted Unknown (listed, rest) = absurd (listed tt)
+  accepted (Moves m) (free, (initialized, (present, (some-sectors, (inside, (long, buffer)))))) =
       let a = on c u image (Moves m) host in
       let begin = beginsAt u (m .target) in
       let some : 0 < m .count = omega arith in
       let span : SpanGood u (jobOf m (numberThere begin) .span) =
       record {
         some = some;
-        inside = covered c u image host (m .target .volume) begin (m .count) some (so (covers? u (m .target .volume) begin (m .count)) inside);
+        inside = covered c u image host (m .target .volume) begin (m .count) some (so (covers? (geometry u) (m .target .volume) begin (m .count)) inside);
       } in
       let good = good-buffer c u image host a (m .buffer) (bytesOf a m) buffer in
       record {
@@ -145,26 +139,24 @@ module _ (c : Controller) (u : UnitRecord) (image : ℕ) (host : List ℕ) where
               elements = n;
               buffer = is;
               passed =
-                  before-list a m at n refl is
-                  (none-of-all (firstChecks a (Moves m)) (beforeBuffer a m) first
-                  (initialized, (present, (some-sectors, (inside, (long, tt))))));
+                  before-list a m at n refl is (free, (initialized, (present, (some-sectors, (inside, (long, tt))))));
               some = l .some;
               most = l .most;
               place = l .place;
               among = among;
             };
       }
-  accepted Handshake first none = record { fits = record { moving = tt; report = tt; leaving = tt }; mover = tt; report = refl; quiet = tt; list = tt }
-  accepted (Initialize Misplaced) first (placed, rest) = absurd (placed tt)
-  accepted (Initialize (Uib g)) first (placed, (within, rest)) = heads-only c u image host _ (Leaving.Fresh g) (so (within? g) within)
-  accepted Restore first (initialized, rest) =
+  accepted Handshake none = record { fits = record { moving = tt; report = tt; leaving = tt }; mover = tt; report = refl; quiet = tt; list = tt }
+  accepted (Initialize Misplaced) (free, (placed, rest)) = absurd (placed tt)
+  accepted (Initialize (Uib g)) (free, (within, rest)) = heads-only c u image host _ (Leaving.Fresh g) (so (within? g) within)
+  accepted Restore (free, (initialized, rest)) =
       let counts = so (counts? u) initialized in
       heads-only c u image host _ (Leaving.HeadsAt 0) (counts, omega (arith, counts .within .sizes .cylinders))
-  accepted (Seek t) first (initialized, (present, (inside, rest))) =
+  accepted (Seek t) (free, (initialized, (present, (inside, rest)))) =
       let begin = beginsAt u t in
       heads-only c u image host _ (Leaving.HeadsAt (spotOf u (t .volume) (numberThere begin) .cylinder))
-      (so (counts? u) initialized, seek-inside c u image host (t .volume) begin (so (covers? u (t .volume) begin 1) inside))
-  accepted (Format k) first (initialized, (inside, (long, (held, rest)))) =
+      (so (counts? u) initialized, seek-inside c u image host (t .volume) begin (so (covers? (geometry u) (t .volume) begin 1) inside))
+  accepted (Format k) (free, (initialized, (inside, (long, (held, rest))))) =
       let counts = so (counts? u) initialized in
       let on = so (onDrive? (geometry u) (address (k .cylinder) (k .head) 0)) inside in
       record {
@@ -190,9 +182,9 @@ module _ (c : Controller) (u : UnitRecord) (image : ℕ) (host : List ℕ) where
         quiet = tt;
         list = tt;
       }
-  accepted (Map k) first (initialized, (inside, (taken, (full, rest)))) =
+  accepted (Map k) (free, (initialized, (inside, (taken, (full, rest))))) =
       let counts = so (counts? u) initialized in
-      let on = so (hasTracks? u k) inside in
+      let on = so (Dec·and (onDrive? (geometry u) (address (k .«bad_cylinder») (k .«bad_head») 0)) (onDrive? (geometry u) (address (k .«spare_cylinder») (k .«spare_head») 0))) inside in
       heads-only c u image host _ (Leaving.Mapped (badNumber k) (spareNumber k)) (
         counts,
         record {

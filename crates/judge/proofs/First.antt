@@ -12,12 +12,8 @@ use Rattle.answers.specs.Numbers.{refusalNumber}
 use Rattle.wire.proofs.Promises.{never as impossible}
 use Rattle.judge.specs.declared.Plan.{Plan}
 use Rattle.judge.specs.declared.Verdict.{Verdict}
-use Rattle.judge.specs.Asks.{firstChecks}
 use Rattle.judge.specs.Checks.{Check, first}
-use Rattle.judge.specs.Given.{Asked}
 use Rattle.judge.specs.Table.{oneOf}
-use Rattle.judge.specs.Verdict.{verdict}
-use Rattle.judge.specs.Steps.{byItsOwn}
 use Rattle.judge.specs.Passed.{None}
 
 pub skip : (k : Check) (ks : List Check) (p : Plan) → (k .Given → ⊥) → first (k ∷ ks) p ≡ first ks p
@@ -80,12 +76,5 @@ refused-among (k ∷ ks) p r e =
     rw (eq-eqb _ _ (ap refusalNumber same)) tt)
     (λ out. later (eqb (refusalNumber r) (refusalNumber (k .answer))) _ (refused-among ks p r (sym (skip k ks p out) ∙ e)))
 
--- ---- the verdict
-
 pub no-more : ⊥ → ⊥
 no-more x = x
-
--- A command that passes what all are asked first is judged by its own checks.
-pub on-its-own : (a : Asked) → None (firstChecks a (a .task)) → verdict a ≡ byItsOwn a
-unfolding verdict byItsOwn
-on-its-own a none = pass (firstChecks a (a .task)) _ _ none

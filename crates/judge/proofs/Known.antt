@@ -5,7 +5,9 @@ use mathlib.Core.List.{List, [], _∷_}
 use mathlib.Core.Logic.{by-cases}
 use mathlib.Core.Path.{_≡_, sym, _∙_}
 use native.Mathlib.Omega.{arith}
-use Rattle.wire.specs.Memory.{Among, inMemory?}
+use Rattle.geometry.specs.Sectors.{Covers}
+use Rattle.wire.proofs.Decided.{inMemory?}
+use Rattle.wire.specs.Among.{Among}
 use Rattle.wire.proofs.Promises.{never as impossible}
 use Rattle.answers.specs.declared.Refusal.{Refusal}
 use Rattle.geometry.specs.declared.Number.{Number}
@@ -36,7 +38,7 @@ use Rattle.judge.specs.declared.Verdict.{Verdict}
 use Rattle.judge.specs.Asks.{numberThere, ofBuffer, only}
 use Rattle.judge.specs.Checks.{Check, first}
 use Rattle.judge.specs.Fits.{BufferGood, LeavingFits, PlanFits}
-use Rattle.judge.specs.Given.{Asked, Covers, HasTrack, on}
+use Rattle.judge.specs.Given.{Asked, HasTrack, on}
 use Rattle.judge.specs.Reads.{InList}
 use Rattle.judge.proofs.First.{done, skip, stop}
 use Rattle.judge.specs.Passed.{None}
@@ -102,11 +104,11 @@ module _ (c : Controller) (u : UnitRecord) (image : ℕ) (host : List ℕ) where
   good-buffer a (Elements at n) bytes none = (so (listGood? (a .host) at n bytes) (none .0), so (ranges? (a .host) at n) (none .1 .0))
 
   pub covered :
-      (v : VolumeNumber) (x : Number) (count : ℕ) → 0 < count → Covers u v x count → numberThere x + count ≤ volumeSectors (geometry u) v
+      (v : VolumeNumber) (x : Number) (count : ℕ) → 0 < count → Covers (geometry u) v x count → numberThere x + count ≤ volumeSectors (geometry u) v
   covered v (Is n) count some c = omega arith
   covered v Outside count some c = absurd c
 
-  pub seek-inside : (v : VolumeNumber) (x : Number) → Covers u v x 1 → spotOf u v (numberThere x) .cylinder < C (geometry u)
+  pub seek-inside : (v : VolumeNumber) (x : Number) → Covers (geometry u) v x 1 → spotOf u v (numberThere x) .cylinder < C (geometry u)
   seek-inside v (Is n) c = spot-inside u v n (c .0) .cylinder
   seek-inside v Outside c = absurd c
 

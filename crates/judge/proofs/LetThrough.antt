@@ -2,7 +2,7 @@
 -- What each task's own plan is known to be, EachTask says.
 use Prim.Native.Nat.{ℕ, _*_}
 use mathlib.Core.Path.{_≡_, sym, ap, subst, _∙_}
-use Rattle.wire.specs.Memory.{Among}
+use Rattle.wire.specs.Among.{Among}
 use Rattle.geometry.specs.Drive.{S}
 use Rattle.request.specs.declared.Buffer.the-variants.{List as Elements}
 use Rattle.request.specs.declared.Task.{Task}
@@ -17,12 +17,11 @@ use Rattle.judge.specs.declared.Moving.the-variants.{Sectors}
 use Rattle.judge.specs.declared.Report.{Report}
 use Rattle.judge.specs.declared.Report.the-variants.{Nothing, Formatted}
 use Rattle.judge.specs.declared.Verdict.{Verdict}
-use Rattle.judge.specs.Asks.{firstChecks, ownChecks, checks, plan, planOf}
+use Rattle.judge.specs.Asks.{checks, plan, planOf}
 use Rattle.judge.specs.Fits.{PlanFits}
 use Rattle.judge.specs.Given.{Asked, on}
 use Rattle.judge.specs.Reads.{InList}
 use Rattle.judge.specs.Verdict.{verdict}
-use Rattle.judge.proofs.First.{none-of-parts}
 use Rattle.judge.proofs.Tasks.{handshake}
 use Rattle.judge.proofs.Known.{Accepted, ListKnown, MoverKnown, Quiet, ReportKnown, all-passed}
 use Rattle.judge.proofs.EachTask.{accepted}
@@ -31,8 +30,7 @@ let-through : (a : Asked) (p : Plan) → verdict a ≡ Verdict.Do p → Accepted
 unfolding verdict
 let-through a p e =
     let passed = all-passed (checks a) (planOf (a .unit) (a .task)) p e in
-    let none = none-of-parts (firstChecks a (a .task)) (ownChecks a (a .task)) (passed .0) in
-    subst (Accepted a) (passed .1) (accepted (a .controller) (a .unit) (a .image) (a .host) (a .task) (none .0) (none .1))
+    subst (Accepted a) (passed .1) (accepted (a .controller) (a .unit) (a .image) (a .host) (a .task) (passed .0))
 
 -- It is its task's own.
 pub own-plan : (a : Asked) (p : Plan) → verdict a ≡ Verdict.Do p → p ≡ planOf (a .unit) (a .task)

@@ -1,10 +1,11 @@
 -- Two host memories of one length that agree on the bytes read get the same verdict.
 -- What a block asks looks at its UIB alone, and what is judged of it at its list, each where it is read.
 use Prim.Native.Nat.{ℕ, _*_, _≤_}
-use mathlib.Core.List.{List, [], _∷_, _++_}
+use mathlib.Core.List.{List}
 use mathlib.Core.Logic.{by-cases}
 use mathlib.Core.Path.{_≡_, sym, ap, subst, _∙_}
 use native.Mathlib.Decide.{ℕ-discrete}
+use lib.Dec.{T}
 use lib.ListN.{getD, length}
 use Rattle.answers.specs.declared.Refusal.{Refusal}
 use Rattle.iopb.specs.declared.Block.{Block}
@@ -17,15 +18,18 @@ use Rattle.request.specs.declared.Move.{Move}
 use Rattle.request.specs.declared.Shape.{Shape}
 use Rattle.request.specs.declared.Task.{Task}
 use Rattle.request.specs.declared.Task.the-variants.{Move as Moves, Initialize}
-use Rattle.wire.specs.Memory.{Among}
-use Rattle.judge.specs.Asks.{firstChecks, checks, ownChecks, uibMisplaced}
-use Rattle.judge.specs.Given.{Asked, BadPlace, on}
+use Rattle.wire.specs.Among.{Among}
+use Rattle.wire.proofs.Decided.{test?}
+use Rattle.wire.proofs.Promises.{never}
+use Rattle.geometry.specs.declared.Geometry.{Geometry}
+use Rattle.judge.specs.Asks.{checks, checksOf}
+use Rattle.judge.specs.Given.{Asked, on}
 use Rattle.judge.specs.Reads.{InList, InUib}
 use Rattle.judge.specs.Verdict.{verdict}
-use Rattle.judge.proofs.First.{early, none-of-all, none-of-parts, none?}
 use Rattle.unit.specs.declared.Controller.{Controller}
-use Rattle.unit.specs.Standing.{UnitRecord}
-use Rattle.judge.proofs.EachTask.{verdict-local}
+use Rattle.unit.specs.Holding.{heldByOther}
+use Rattle.unit.specs.Standing.{UnitRecord, holder}
+use Rattle.judge.proofs.EachTask.{stopped-by-holder, verdict-local}
 use Rattle.judge.specs.Passed.{None, before}
 
 module _ (c : Controller) (u : UnitRecord) (image : ℕ) (h k : List ℕ) (long : length h ≡ length k) where
@@ -48,8 +52,10 @@ module _ (c : Controller) (u : UnitRecord) (image : ℕ) (h k : List ℕ) (long 
           let in-h = asked-by-87 h b is in
           let in-k = asked-by-87 k b is in
           let a = on c u image (Initialize (shapeAt h (b .address))) h in
-          by-cases (none? (firstChecks a (a .task)))
-          (λ none.
+          by-cases (test? (heldByOther c (holder u)))
+          (λ held. ap (λ (t : Task). verdict (on c u image t h)) in-h ∙ stopped-by-holder a tt held
+          ∙ sym (ap (λ (t : Task). verdict (on c u image t k)) in-k ∙ stopped-by-holder (on c u image (Initialize (shapeAt k (b .address))) k) tt held))
+          (λ free.
           same-task
           (in-h
           ∙ ap Initialize
@@ -61,14 +67,10 @@ module _ (c : Controller) (u : UnitRecord) (image : ℕ) (h k : List ℕ) (long 
             asks = in-h;
             passed =
                 subst (λ (t : Task). None (before Refusal.UibOutsideLimits (checks (on c u image t h)))) (sym in-h)
-                (none-of-all (firstChecks a (a .task)) (uibMisplaced a (shapeAt h (b .address)) ∷ []) none (λ bad. rw (shapeAt-inside h (b .address) place) at bad, tt));
+                (rw (shapeAt-inside h (b .address) place) (free, tt));
             among = among;
           })))
           ∙ sym in-k))
-          (λ some.
-          ap (λ (t : Task). verdict (on c u image t h)) in-h
-          ∙ early (firstChecks a (a .task)) _ _ _ _ some
-          ∙ sym (ap (λ (t : Task). verdict (on c u image t k)) in-k))
 
       pub block-local : verdict (asked-in h) ≡ verdict (asked-in k)
       block-local =
@@ -76,27 +78,35 @@ module _ (c : Controller) (u : UnitRecord) (image : ℕ) (h k : List ℕ) (long 
 
 -- ---- what is read, and what is not
 
--- A UIB that lies in memory is read by an 87 that passes what all are asked first.
+-- A UIB that lies in memory is read by an 87 on a drive that the other controller does not hold.
 pub placed-uib-read :
-    (a : Asked) (at bytes x : ℕ) (s : Shape) → a .task ≡ Initialize s → None (firstChecks a (Initialize s)) → (BadPlace s → ⊥) → Among at bytes x →
-    InUib a at bytes x
+    (a : Asked) (at bytes x : ℕ) (s : Shape) (g : Geometry) → a .task ≡ Initialize s → s ≡ Shape.Given g →
+    (T (heldByOther (a .controller) (holder (a .unit))) → ⊥) → Among at bytes x → InUib a at bytes x
 unfolding None
-placed-uib-read a at bytes x s is first placed among =
+placed-uib-read a at bytes x s g is given free among =
     record {
       shape = s;
       asks = is;
-      passed =
-          subst (λ (t : Task). None (before Refusal.UibOutsideLimits (firstChecks a t ++ ownChecks a t))) (sym is)
-          (none-of-all (firstChecks a (Initialize s)) (uibMisplaced a s ∷ []) first (placed, tt));
+      passed = subst (λ (t : Task). None (before Refusal.UibOutsideLimits (checksOf a t))) (sym (is ∙ ap Initialize given)) (free, tt);
       among = among;
     }
 
--- A UIB that failed check 12 is not read.
-pub misplaced-uib-unread : (a : Asked) (at bytes x : ℕ) → a .task ≡ Initialize Shape.Misplaced → InUib a at bytes x → ⊥
+-- And one that is read lies in memory, on such a drive: a UIB that failed check 12 is not read.
+pub read-uib-placed :
+    (a : Asked) (at bytes x : ℕ) → InUib a at bytes x →
+    ((g : Geometry) × (a .task ≡ Initialize (Shape.Given g))) × (T (heldByOther (a .controller) (holder (a .unit))) → ⊥)
 unfolding None
-misplaced-uib-unread a at bytes x is uib =
-    let passed = subst (λ (t : Task). None (before Refusal.UibOutsideLimits (firstChecks a t ++ ownChecks a t))) is (uib .passed) in
-    none-of-parts (firstChecks a (Initialize Shape.Misplaced)) (uibMisplaced a Shape.Misplaced ∷ []) passed .1 .0 tt
+read-uib-placed a at bytes x uib =
+    by-shape (uib .shape) (uib .asks) (subst (λ (t : Task). None (before Refusal.UibOutsideLimits (checksOf a t))) (uib .asks) (uib .passed))
+  where
+    by-shape :
+        (s : Shape) → a .task ≡ Initialize s → None (before Refusal.UibOutsideLimits (checksOf a (Initialize s))) →
+        ((g : Geometry) × (a .task ≡ Initialize (Shape.Given g))) × (T (heldByOther (a .controller) (holder (a .unit))) → ⊥)
+    by-shape Shape.Misplaced is passed = absurd (passed .1 .0 tt)
+    by-shape (Shape.Given g) is passed = ((g, is), passed .0)
+
+pub misplaced-uib-unread : (a : Asked) (at bytes x : ℕ) → a .task ≡ Initialize Shape.Misplaced → InUib a at bytes x → ⊥
+misplaced-uib-unread a at bytes x is uib = let read = read-uib-placed a at bytes x uib in never (cc (is, read .0 .1))
 
 -- A list is read wherever it can be and no check before 18 refuses the block, whatever is then found in it.
 pub refused-list-read :

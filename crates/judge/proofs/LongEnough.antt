@@ -6,12 +6,14 @@ use mathlib.Core.Logic.{by-cases}
 use mathlib.Core.Path.{_≡_, refl, sym, _∙_}
 use native.Mathlib.Omega.{arith}
 use Rattle.geometry.specs.Drive.{B, need}
+use Rattle.request.specs.declared.Shape.the-variants.{Misplaced, Given as Uib}
 use Rattle.request.specs.declared.Task.{Task}
 use Rattle.request.specs.declared.Task.the-variants.{Unknown, Move as Moves, Handshake, Initialize, Restore, Seek, Format, Map}
 use Rattle.unit.specs.declared.Controller.{Controller}
 use Rattle.unit.specs.Standing.{UnitRecord, geometry}
 use Rattle.judge.specs.declared.Plan.{Plan}
-use Rattle.judge.specs.Asks.{bytesOf, dataMisplaced, firstChecks, imageShort, notInitialized, ofBuffer, ofUnit, planOf, sectorOutside, trackOutside}
+use Rattle.judge.specs.Steps.{bytesOf, ofUnit}
+use Rattle.judge.specs.Asks.{dataMisplaced, driveHeld, imageShort, notInitialized, ofBuffer, planOf, sectorOutside, trackOutside}
 use Rattle.judge.specs.Checks.{Check, first}
 use Rattle.judge.specs.Given.{on}
 use Rattle.judge.specs.Verdict.{verdict}
@@ -33,15 +35,16 @@ module _ (c : Controller) (u : UnitRecord) (image other : ℕ) (host : List ℕ)
   long-enough-alike (Moves m) =
       let a = on c u image (Moves m) host in
       let b = on c u other (Moves m) host in
-      either-passed (firstChecks a (Moves m) ++ ofUnit a m ++ sectorOutside a (m .target) (m .count) ∷ []) (imageShort a) (imageShort b)
+      either-passed (driveHeld a ∷ ofUnit a m ++ sectorOutside a (m .target) (m .count) ∷ []) (imageShort a) (imageShort b)
       (ofBuffer a (m .buffer) (bytesOf a m)) (planOf u (Moves m)) (λ short. omega arith) (λ short. omega arith)
   long-enough-alike Handshake = refl
-  long-enough-alike (Initialize s) = refl
+  long-enough-alike (Initialize Misplaced) = refl
+  long-enough-alike (Initialize (Uib g)) = refl
   long-enough-alike Restore = refl
   long-enough-alike (Seek t) = refl
   long-enough-alike (Format k) =
       let a = on c u image (Format k) host in
       let b = on c u other (Format k) host in
-      either-passed (firstChecks a (Format k) ++ notInitialized a ∷ trackOutside a k ∷ []) (imageShort a) (imageShort b)
+      either-passed (driveHeld a ∷ notInitialized a ∷ trackOutside a k ∷ []) (imageShort a) (imageShort b)
       (dataMisplaced a (k .buffer) (B (geometry u)) ∷ []) (planOf u (Format k)) (λ short. omega arith) (λ short. omega arith)
   long-enough-alike (Map k) = refl

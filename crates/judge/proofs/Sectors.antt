@@ -5,11 +5,12 @@ use mathlib.Core.List.{List}
 use mathlib.Core.Logic.{by-cases}
 use mathlib.Core.Path.{_≡_, refl}
 use native.Mathlib.Omega.{arith}
+use Rattle.geometry.proofs.Decided.{covers?}
 use Rattle.geometry.specs.declared.Number.{Number}
 use Rattle.geometry.specs.declared.Number.the-variants.{Is, Outside}
 use Rattle.geometry.specs.declared.VolumeNumber.{VolumeNumber}
 use Rattle.geometry.specs.Drive.{B, volumeSectors}
-use Rattle.geometry.specs.Sectors.{firstByte, markByte}
+use Rattle.geometry.specs.Sectors.{Covers, firstByte, markByte}
 use Rattle.geometry.proofs.Laws.{sector-in-image}
 use Rattle.unit.specs.Landing.{spotOf}
 use Rattle.unit.proofs.Laws.{spot-inside}
@@ -17,9 +18,8 @@ use Rattle.unit.specs.Standing.{UnitRecord, geometry, unitOf}
 use Rattle.request.specs.declared.Move.{Move}
 use Rattle.request.specs.declared.Task.{Task}
 use Rattle.judge.specs.declared.Standing.{Standing}
-use Rattle.judge.specs.Asks.{beforeBuffer}
-use Rattle.judge.specs.Decided.{covers?}
-use Rattle.judge.specs.Given.{Covers, asked, beginsAt}
+use Rattle.judge.specs.Steps.{asked, beforeBuffer}
+use Rattle.judge.specs.Given.{beginsAt}
 use Rattle.judge.specs.Passed.{None}
 
 -- A sector of a transfer: in its volume, its bytes and its mark in the image.
@@ -42,11 +42,11 @@ module _ (m : Move) (s : Standing) (ts host : List ℕ) where
       None (beforeBuffer (asked (Task.Move m) s ts host) m) →
       (n : ℕ) × ((begin ≡ Is n) × ((j : ℕ) → j < m .count → Reachable u (s .image) v (n + j)))
   unfolding None
-  sectors-reachable (initialized, (present, (some, (inside, (long, rest))))) =
-      by-number begin refl (by-cases (covers? u v begin (m .count)) (λ c. c) (λ out. absurd (inside out)))
+  sectors-reachable (free, (initialized, (present, (some, (inside, (long, rest)))))) =
+      by-number begin refl (by-cases (covers? (geometry u) v begin (m .count)) (λ c. c) (λ out. absurd (inside out)))
     where
       by-number :
-          (x : Number) → begin ≡ x → Covers u v x (m .count) →
+          (x : Number) → begin ≡ x → Covers (geometry u) v x (m .count) →
           (n : ℕ) × ((begin ≡ Is n) × ((j : ℕ) → j < m .count → Reachable u (s .image) v (n + j)))
       by-number Outside is covers = absurd covers
       by-number (Is n) is covers = (

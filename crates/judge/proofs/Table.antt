@@ -3,25 +3,28 @@
 use Prim.Native.Nat.{ℕ}
 use mathlib.Core.Bool.{Bool, true, false, cond, not, _||_}
 use mathlib.Core.List.{List, [], _∷_}
-use mathlib.Core.Logic.{_↔_, Iff·not, Iff·rfl, by-cases, inl, inr, ⊎-elim}
+use mathlib.Core.Logic.{_↔_, _⊎_, Iff·not, Iff·rfl, by-cases, inl, inr, ⊎-elim}
 use mathlib.Core.Path.{_≡_, refl, sym, ap, subst, _∙_}
 use borrow.Author.Tests.{eq-eqb, eqb-false, eqb-true}
 use lib.Dec.{T, T-not, eqb}
+use Rattle.geometry.specs.Sectors.{Covers}
 use Rattle.answers.specs.declared.Refusal.{Refusal}
 use Rattle.answers.specs.Numbers.{refusalNumber}
 use Rattle.answers.proofs.Laws.{refusals-differ}
 use Rattle.geometry.specs.declared.Geometry.{Geometry}
 use Rattle.geometry.specs.declared.VolumeNumber.{VolumeNumber}
-use Rattle.geometry.specs.Sectors.{inVolume?}
-use Rattle.geometry.proofs.Answers.{numbered-inside, numbered-outside}
+use Rattle.geometry.specs.Answers.{inVolume?}
+use Rattle.unit.proofs.Answers.{numberOn-inside, numberOn-outside}
 use Rattle.iopb.specs.declared.Block.{Block}
-use Rattle.iopb.specs.Ask.{targetOf, taskAt, taskOf, tasks, volumeAsked}
+use Rattle.iopb.specs.Ask.{shapeAt, targetOf, taskAt, taskOf, tasks, volumeAsked}
 use Rattle.iopb.proofs.Answers.{shapeAt-inside, shapeAt-outside}
 use Rattle.request.specs.declared.Start.{Start}
+use Rattle.request.specs.declared.Shape.{Shape}
+use Rattle.request.specs.declared.Shape.the-variants.{Misplaced, Given as Uib}
 use Rattle.request.specs.declared.Task.{Task}
-use Rattle.unit.specs.Landing.{numberOn}
+use Rattle.request.specs.declared.Task.the-variants.{Initialize}
 use Rattle.unit.specs.Standing.{UnitRecord, geometry}
-use Rattle.wire.specs.Memory.{inMemory?}
+use Rattle.wire.proofs.Decided.{inMemory?}
 use Rattle.judge.specs.declared.Plan.{Plan}
 use Rattle.judge.specs.declared.Report.{Report}
 use Rattle.judge.specs.declared.Report.the-variants.{Nothing as Silent, Identity, Formatted}
@@ -29,11 +32,11 @@ use Rattle.judge.specs.declared.Verdict.{Verdict}
 use Rattle.judge.specs.declared.Verdict.the-variants.{Refused, Do}
 use Rattle.judge.specs.Asks.{checks, planOf}
 use Rattle.judge.specs.Checks.{Check, first}
-use Rattle.judge.specs.Given.{Asked, Covers, beginsAt, startNumber, on}
+use Rattle.judge.specs.Given.{Asked, beginsAt, startNumber, on}
 use Rattle.judge.specs.Table.{AnsweredWith, Applies, BeforeTransfer, FromStart, Line, SectorsInside, Unanswered, listed, oneOf, paper}
 use Rattle.judge.specs.Verdict.{verdict}
 use Rattle.judge.proofs.EachTask.{never-asked-20}
-use Rattle.judge.proofs.First.{done, later, refused-among, skip, stop}
+use Rattle.judge.proofs.First.{done, later, no-more, refused-among, skip, stop}
 use Rattle.judge.proofs.LetThrough.{own-plan}
 
 -- ---- lines and checks, for a command
@@ -95,12 +98,15 @@ module _ (c : ℕ) where
   passed-over (Refused r) l ls out so = inr (out, so)
   passed-over (Do p) l ls out so = (out, so)
 
-  -- Some checks are those of the lines that are for the command, one by one: each has its line's number, and its line's case where none before it
-  -- is given.
+  -- Some checks are those of the lines that are for the command, one by one, but for lines whose case cannot be: each has its line's number, and its
+  -- line's case where none before it is given.
+  abbrev Its : Line → (List Check → Type 0) → List Check → Type 0
+  Its l Rest [] = ⊥
+  Its l Rest (k ∷ ks) = (refusalNumber (k .answer) ≡ l .number) × (k .Given ↔ l .Given) × ((k .Given → ⊥) → Rest ks)
+
   abbrev Next : (for : Bool) → Line → (List Check → Type 0) → List Check → Type 0
   Next false l Rest ks = Rest ks
-  Next true l Rest [] = ⊥
-  Next true l Rest (k ∷ ks) = (refusalNumber (k .answer) ≡ l .number) × (k .Given ↔ l .Given) × ((k .Given → ⊥) → Rest ks)
+  Next true l Rest ks = ((l .Given → ⊥) × Rest ks) ⊎ Its l Rest ks
 
   abbrev AreLines : List Line → List Check → Type 0
   AreLines [] [] = Unit {0}
@@ -116,8 +122,9 @@ module _ (c : ℕ) where
           ((ks : List Check) → AreLines ls ks → Told (first ks p) ls) → (for : Bool) → l .for c ≡ for → (ks : List Check) → Next for l (AreLines ls) ks →
           Told (first ks p) (l ∷ ls)
       by-for rest false is ks are = passed-over (first ks p) l ls (λ it. subst T is (it .0)) (rest ks are)
-      by-for rest true is [] are = absurd are
-      by-for rest true is (k ∷ ks) (number, case, are) =
+      by-for rest true is ks (inl (out, are)) = passed-over (first ks p) l ls (λ it. out (it .1)) (rest ks are)
+      by-for rest true is [] (inr are) = absurd are
+      by-for rest true is (k ∷ ks) (inr (number, case, are)) =
           by-cases (k .given?) (λ given. rw (stop k ks p given) (inl ((subst T (sym is) tt, case .0 given), sym number)))
           (λ out. rw (skip k ks p out) (passed-over (first ks p) l ls (λ it. out (case .1 (it .1))) (rest ks (are out))))
 
@@ -156,12 +163,15 @@ no-task c ((code, t) ∷ ts) none = by-test (no-task c ts) (eqb c code) none
 
 -- ---- the paper's lines
 
--- A check and a line of one number and one case, whatever comes after them.
-alike : {n : ℕ} {G H R : Type 0} → G ↔ H → R → (n ≡ n) × (G ↔ H) × ((G → ⊥) → R)
-alike case rest = (refl, case, λ out. rest)
+-- A check and a line of one number and one case, whatever comes after them; and a line without a check, whose case cannot be.
+alike : {n : ℕ} {G H R L : Type 0} → G ↔ H → R → L ⊎ ((n ≡ n) × (G ↔ H) × ((G → ⊥) → R))
+alike case rest = inr (refl, case, λ out. rest)
 
-same : {n : ℕ} {G R : Type 0} → R → (n ≡ n) × (G ↔ G) × ((G → ⊥) → R)
+same : {n : ℕ} {G R L : Type 0} → R → L ⊎ ((n ≡ n) × (G ↔ G) × ((G → ⊥) → R))
 same rest = alike Iff·rfl rest
+
+left-out : {G R L : Type 0} → (G → ⊥) → R → ((G → ⊥) × R) ⊎ L
+left-out never rest = inl (never, rest)
 
 module _ (b : Block) (a : Asked) where
   abbrev g : Geometry
@@ -171,19 +181,18 @@ module _ (b : Block) (a : Asked) where
   v = volumeAsked b
 
   -- 16: a logical start is its number, and a physical one has a number where the volume has it.
-  outside : (count : ℕ) → (Covers (a .unit) v (beginsAt (a .unit) (targetOf b)) count → ⊥) ↔ (SectorsInside b a count → ⊥)
-  unfolding numberOn
+  outside : (count : ℕ) → (Covers (geometry (a .unit)) v (beginsAt (a .unit) (targetOf b)) count → ⊥) ↔ (SectorsInside b a count → ⊥)
   outside count = Iff·not (by-start (b .options .logical))
     where
       by-start :
           (logical : Bool) →
-          Covers (a .unit) v (startNumber g v (cond logical (Start.Logical (b .number)) (Start.Physical (b .cylinder) (b .head) (b .sector)))) count ↔
+          Covers (geometry (a .unit)) v (startNumber g v (cond logical (Start.Logical (b .number)) (Start.Physical (b .cylinder) (b .head) (b .sector)))) count ↔
           FromStart b a logical count
       by-start true = Iff·rfl
       by-start false =
           by-cases (inVolume? g v (b .cylinder) (b .head) (b .sector))
-          (λ in-it. rw (numbered-inside _ _ _ _ _ in-it) (λ x. (in-it, x), λ x. x .1))
-          (λ out. rw (numbered-outside _ _ _ _ _ out) (λ x. absurd x, λ x. out (x .0)))
+          (λ in-it. rw (numberOn-inside _ _ _ _ _ in-it) (λ x. (in-it, x), λ x. x .1))
+          (λ out. rw (numberOn-outside _ _ _ _ _ out) (λ x. absurd x, λ x. out (x .0)))
 
   -- The lines for a command in place of the block's, which line 10 alone looks at, and the checks of what it asks.
   abbrev after10 : List Line → List Line
@@ -201,45 +210,44 @@ module _ (b : Block) (a : Asked) where
 
   -- Each command's checks are its lines, most of them word for word.
   of-81 : Of 0x81
-  of-81 = same (same (same (same (same (alike (outside (b .count)) (same (same tt)))))))
+  of-81 = left-out no-more (same (same (same (same (alike (outside (b .count)) (same (same tt)))))))
 
   of-82 : Of 0x82
-  of-82 = same (same (same (same (same (alike (outside (b .count)) (same (same tt)))))))
+  of-82 = left-out no-more (same (same (same (same (alike (outside (b .count)) (same (same tt)))))))
 
   of-86 : Of 0x86
-  of-86 = same tt
+  of-86 = left-out no-more tt
 
-  -- A UIB that is not in memory has no shape, and 13 is not asked.
+  -- A UIB that is in memory is not asked 12, and one that is not has no shape, and is not asked 13.
   of-87 : Of 0x87
   of-87 =
-      same
-      (same
+      left-out no-more
       (by-cases (inMemory? (a .host) (b .address) 18)
-      (λ place. rw (shapeAt-inside (a .host) (b .address) place) (alike (λ x. absurd x, λ out. out place) (same tt)))
-      (λ out. rw (shapeAt-outside (a .host) (b .address) out) (refl, (λ x. out, λ x. tt), λ placed. absurd (placed tt)))))
+      (λ place. rw (shapeAt-inside (a .host) (b .address) place) (same (left-out (λ out. out place) (same tt))))
+      (λ out. rw (shapeAt-outside (a .host) (b .address) out) (same (inr (refl, (λ x. out, λ x. tt), λ placed. absurd (placed tt))))))
 
   of-89 : Of 0x89
-  of-89 = same (same (same tt))
+  of-89 = left-out no-more (same (same tt))
 
   of-8A : Of 0x8a
-  of-8A = same (same (same (same (alike (outside 1) tt))))
+  of-8A = left-out no-more (same (same (same (alike (outside 1) tt))))
 
   of-8C : Of 0x8c
-  of-8C = same (same (same (same (same (same tt)))))
+  of-8C = left-out no-more (same (same (same (same (same tt)))))
 
   of-A1 : Of 0xa1
-  of-A1 = same (same (same (same (same (alike (outside (b .count)) (same (same (same tt))))))))
+  of-A1 = left-out no-more (same (same (same (same (alike (outside (b .count)) (same (same (same tt))))))))
 
   of-A2 : Of 0xa2
-  of-A2 = same (same (same (same (same (alike (outside (b .count)) (same (same (same tt))))))))
+  of-A2 = left-out no-more (same (same (same (same (alike (outside (b .count)) (same (same (same tt))))))))
 
   of-85 : Of 0x85
-  of-85 = same (same (same (same (same (same tt)))))
+  of-85 = left-out no-more (same (same (same (same (same tt)))))
 
   of-unlisted : T (not (oneOf (b .command) listed)) → Of (b .command)
   of-unlisted none =
       subst (At (b .command)) (sym (no-task (b .command) (tasks (a .host) b) none))
-      (refl, (λ x. none, λ x. tt), λ listed. absurd (listed tt))
+      (inr (refl, (λ x. none, λ x. tt), λ listed. absurd (listed tt)))
 
   told-by-the-table : a .task ≡ taskOf (a .host) b → Told (b .command) (verdict a) (paper b a)
   unfolding taskOf verdict
@@ -290,11 +298,16 @@ Tells c Identity = c ≡ 0x86
 Tells c (Formatted n) = c ≡ 0x8c
 
 module _ (u : UnitRecord) (host : List ℕ) (b : Block) where
+  -- An 87 reports nothing, whatever its UIB says.
+  shape-silent : (s : Shape) → Tells 0x87 (planOf u (Initialize s) .report)
+  shape-silent Misplaced = tt
+  shape-silent (Uib g) = tt
+
   tells : Tells (b .command) (planOf u (taskOf host b) .report)
   unfolding taskOf
   tells =
       by-code (λ c. Tells c (planOf u (taskAt c (tasks host b)) .report)) (b .command) listed
-      (tt, (tt, (refl, (tt, (tt, (tt, (refl, (tt, (tt, (tt, tt)))))))))) (λ none. rw (no-task (b .command) (tasks host b) none) tt)
+      (tt, (tt, (refl, (shape-silent (shapeAt host (b .address)), (tt, (tt, (refl, (tt, (tt, (tt, tt)))))))))) (λ none. rw (no-task (b .command) (tasks host b) none) tt)
 
   pub only-86-identifies : planOf u (taskOf host b) .report ≡ Identity → b .command ≡ 0x86
   only-86-identifies is = subst (Tells (b .command)) is tells

@@ -7,6 +7,7 @@ use mathlib.Core.Logic.{_⊎_, inl, inr}
 use mathlib.Core.Path.{_≡_, refl, sym, subst, _∙_}
 use native.Mathlib.Omega.{arith}
 use lib.Dec.{T}
+use Rattle.geometry.specs.Sectors.{Covers}
 use Rattle.answers.specs.declared.Refusal.{Refusal}
 use Rattle.geometry.specs.declared.Geometry.{Geometry}
 use Rattle.geometry.specs.declared.Number.{Number}
@@ -30,12 +31,12 @@ use Rattle.judge.specs.declared.Leaving.{Leaving}
 use Rattle.judge.specs.declared.Moving.{Moving}
 use Rattle.judge.specs.declared.Report.{Report}
 use Rattle.judge.specs.declared.Verdict.{Verdict}
-use Rattle.judge.specs.Asks.{asksHolder, carrying, jobOf, ofUnit, only, plan, planOf, unlisted}
-use Rattle.judge.specs.Given.{Asked, Covers, HasTrack, HasTracks, badNumber, beginsAt, on, spareNumber}
+use Rattle.judge.specs.Asks.{carrying, jobOf, only, plan, planOf}
+use Rattle.judge.specs.Given.{Asked, HasTrack, HasTracks, badNumber, beginsAt, on, spareNumber}
 use Rattle.judge.specs.Verdict.{verdict}
-use Rattle.judge.proofs.EachTask.{asked-is-listed, passes-first, stopped-by-holder}
-use Rattle.judge.proofs.First.{done, no-more, on-its-own, pass, skip, stop}
-use Rattle.judge.specs.Steps.{byItsOwn, fromAddress, fromBuffer, fromData, fromImage, fromSectors, fromTable}
+use Rattle.judge.proofs.EachTask.{on-its-own, stopped-by-holder}
+use Rattle.judge.proofs.First.{done, pass, skip, stop}
+use Rattle.judge.specs.Steps.{byItsOwn, fromAddress, fromBuffer, fromData, fromImage, fromSectors, fromTable, asksHolder, ofUnit}
 use Rattle.judge.specs.Passed.{None}
 
 not-held : (asks held : Bool) → T asks → asks && held ≡ false → held ≡ false
@@ -50,8 +51,8 @@ module _ (c : Controller) (u : UnitRecord) (image : ℕ) (host : List ℕ) where
   abbrev g : Geometry
   g = geometry u
 
-  pub own : (t : Task) → (T (unlisted t) → ⊥) → heldByOther c (holder u) ≡ false → verdict (on c u image t host) ≡ byItsOwn (on c u image t host)
-  own t listed free = on-its-own (on c u image t host) (passes-first (on c u image t host) listed (λ held. subst T free held))
+  pub own : (t : Task) → T (asksHolder t) → heldByOther c (holder u) ≡ false → verdict (on c u image t host) ≡ byItsOwn (on c u image t host)
+  own t asks free = on-its-own (on c u image t host) asks (λ held. subst T free held)
 
   -- Where the other does, every task that is asked is refused.
   pub held-24 : (t : Task) → T (asksHolder t) → heldByOther c (holder u) ≡ true → verdict (on c u image t host) ≡ Verdict.Refused Refusal.DriveHeld
@@ -67,7 +68,7 @@ module _ (c : Controller) (u : UnitRecord) (image : ℕ) (host : List ℕ) where
           (held : Bool) → heldByOther c (holder u) ≡ held →
           (verdict (on c u image t host) ≡ Verdict.Refused Refusal.DriveHeld) ⊎ (verdict (on c u image t host) ≡ byItsOwn (on c u image t host))
       by-holder true held = inl (held-24 t asks held)
-      by-holder false free = inr (own t (asked-is-listed t asks) free)
+      by-holder false free = inr (own t asks free)
 
   -- The same by what the code asks at once.
   pub refused-as-held :
@@ -76,7 +77,7 @@ module _ (c : Controller) (u : UnitRecord) (image : ℕ) (host : List ℕ) where
 
   pub own-if-asked :
       (t : Task) → T (asksHolder t) → asksHolder t && heldByOther c (holder u) ≡ false → verdict (on c u image t host) ≡ byItsOwn (on c u image t host)
-  own-if-asked t asks is = own t (asked-is-listed t asks) (not-held (asksHolder t) (heldByOther c (holder u)) asks is)
+  own-if-asked t asks is = own t asks (not-held (asksHolder t) (heldByOther c (holder u)) asks is)
 
   pub unknown : verdict (on c u image Task.Unknown host) ≡ Verdict.Refused Refusal.CommandUnknown
   unfolding verdict
@@ -84,7 +85,7 @@ module _ (c : Controller) (u : UnitRecord) (image : ℕ) (host : List ℕ) where
 
   pub handshake : verdict (on c u image Task.Handshake host) ≡ Verdict.Do (plan Moving.Nothing Report.Identity Leaving.AsItWas)
   unfolding verdict
-  handshake = skip _ _ _ no-more ∙ done _
+  handshake = done _
 
   -- ---- 87
 
@@ -95,11 +96,11 @@ module _ (c : Controller) (u : UnitRecord) (image : ℕ) (host : List ℕ) where
   module _ (x : Geometry) where
     pub shape-outside : (Within x → ⊥) → byItsOwn (on c u image (Task.Initialize (Shape.Given x)) host) ≡ Verdict.Refused Refusal.UibOutsideLimits
     unfolding byItsOwn
-    shape-outside out = skip _ _ _ no-more ∙ stop _ _ _ out
+    shape-outside out = stop _ _ _ out
 
     pub shape-given : Within x → byItsOwn (on c u image (Task.Initialize (Shape.Given x)) host) ≡ Verdict.Do (only (Leaving.Fresh x))
     unfolding byItsOwn
-    shape-given within = skip _ _ _ no-more ∙ skip _ _ _ (λ n. n within) ∙ done _
+    shape-given within = skip _ _ _ (λ n. n within) ∙ done _
 
   -- ---- 89
 
@@ -133,7 +134,7 @@ module _ (c : Controller) (u : UnitRecord) (image : ℕ) (host : List ℕ) where
       unfolding byItsOwn fromAddress
       seek-on present = skip _ _ _ (λ n. n counts) ∙ skip _ _ _ (λ n. n present)
 
-    pub address-16 : (Covers u (t .volume) at 1 → ⊥) → fromAddress seek t ≡ Verdict.Refused Refusal.SectorOutside
+    pub address-16 : (Covers (geometry u) (t .volume) at 1 → ⊥) → fromAddress seek t ≡ Verdict.Refused Refusal.SectorOutside
     unfolding fromAddress
     address-16 out = stop _ _ _ out
 
@@ -142,10 +143,10 @@ module _ (c : Controller) (u : UnitRecord) (image : ℕ) (host : List ℕ) where
 
     module _ (n : ℕ) (is : at ≡ Number.Is n) where
       pub address-past : volumeSectors g (t .volume) ≤ n → fromAddress seek t ≡ Verdict.Refused Refusal.SectorOutside
-      address-past past = address-16 (λ covers. let c : Covers u (t .volume) (Number.Is n) 1 = rw is at covers in omega arith)
+      address-past past = address-16 (λ covers. let c : Covers (geometry u) (t .volume) (Number.Is n) 1 = rw is at covers in omega arith)
 
       pub address-done :
-          Covers u (t .volume) (Number.Is n) 1 →
+          Covers (geometry u) (t .volume) (Number.Is n) 1 →
           fromAddress seek t ≡ Verdict.Do (only (Leaving.HeadsAt (spotOf u (t .volume) n .cylinder)))
       unfolding fromAddress
       address-done inside = skip _ _ _ (λ x. x (rw is inside)) ∙ done _ ∙ rw is
@@ -247,7 +248,7 @@ module _ (c : Controller) (u : UnitRecord) (image : ℕ) (host : List ℕ) where
         unfolding byItsOwn fromSectors None
         move-on some = pass (ofUnit moves m) _ _ (λ n. n counts, (λ n. n present, (some, tt)))
 
-    pub span-16 : (Covers u (m .target .volume) begins (m .count) → ⊥) → fromSectors moves m ≡ Verdict.Refused Refusal.SectorOutside
+    pub span-16 : (Covers (geometry u) (m .target .volume) begins (m .count) → ⊥) → fromSectors moves m ≡ Verdict.Refused Refusal.SectorOutside
     unfolding fromSectors
     span-16 out = stop _ _ _ out
 
@@ -258,18 +259,18 @@ module _ (c : Controller) (u : UnitRecord) (image : ℕ) (host : List ℕ) where
       pub span-first : volumeSectors g (m .target .volume) ≤ n → fromSectors moves m ≡ Verdict.Refused Refusal.SectorOutside
       span-first past =
           span-16
-          (λ covers. let c : Covers u (m .target .volume) (Number.Is n) (m .count) = rw is at covers in omega arith)
+          (λ covers. let c : Covers (geometry u) (m .target .volume) (Number.Is n) (m .count) = rw is at covers in omega arith)
 
       pub span-last :
           0 < m .count → volumeSectors g (m .target .volume) < n + m .count →
           fromSectors moves m ≡ Verdict.Refused Refusal.SectorOutside
       span-last some past =
           span-16
-          (λ covers. let c : Covers u (m .target .volume) (Number.Is n) (m .count) = rw is at covers in omega arith)
+          (λ covers. let c : Covers (geometry u) (m .target .volume) (Number.Is n) (m .count) = rw is at covers in omega arith)
 
       pub span-covers :
-          0 < m .count → n + m .count ≤ volumeSectors g (m .target .volume) → Covers u (m .target .volume) begins (m .count)
-      span-covers some fits = let c : Covers u (m .target .volume) (Number.Is n) (m .count) = omega arith in rw is c
+          0 < m .count → n + m .count ≤ volumeSectors g (m .target .volume) → Covers (geometry u) (m .target .volume) begins (m .count)
+      span-covers some fits = let c : Covers (geometry u) (m .target .volume) (Number.Is n) (m .count) = omega arith in rw is c
 
     pub image-17 : image < need g → fromImage moves m ≡ Verdict.Refused Refusal.ImageShort
     unfolding fromImage
@@ -279,7 +280,7 @@ module _ (c : Controller) (u : UnitRecord) (image : ℕ) (host : List ℕ) where
     unfolding fromImage fromBuffer
     image-on long = skip _ _ _ (λ n. omega arith)
 
-    module _ (covers : Covers u (m .target .volume) begins (m .count)) where
+    module _ (covers : Covers (geometry u) (m .target .volume) begins (m .count)) where
       pub span-inside : fromSectors moves m ≡ fromImage moves m
       unfolding fromSectors fromImage
       span-inside = skip _ _ _ (λ n. n covers)

@@ -1,27 +1,26 @@
 -- What each command is asked, in the order of the answers (01, Answer numbers; 02, K5 and K10), and what it does where no check refuses it. Whatever
 -- goes by command stands here; that the lists are the paper's table is shown (Table and proofs/Table).
 use Prim.Native.Nat.{ℕ, _*_, _≤_, _<_}
-use mathlib.Core.Bool.{Bool, true, false, cond}
-use mathlib.Core.List.{List, [], _∷_, _++_}
-use mathlib.Core.Logic.{Dec·not}
+use mathlib.Core.List.{List, [], _∷_}
+use mathlib.Core.Logic.{Dec·and, Dec·not}
 use mathlib.Core.Path.{_≡_}
 use native.Mathlib.Decide.{decLe, decLt, ℕ-discrete}
 use lib.Dec.{T}
 use Rattle.answers.specs.declared.Refusal.the-variants.{CommandUnknown, NotInitialized, UibMisplaced, UibOutsideLimits, VolumeAbsent, CountZero, SectorOutside, ImageShort, ListBad, DataMisplaced, TracksTaken, TableFull, DriveHeld}
+use Rattle.geometry.specs.declared.Geometry.{Geometry}
 use Rattle.geometry.specs.declared.Number.{Number}
 use Rattle.geometry.specs.declared.Number.the-variants.{Is, Outside}
 use Rattle.geometry.specs.declared.VolumeNumber.{VolumeNumber}
 use Rattle.geometry.specs.Drive.{B, S, need, volume}
-use Rattle.geometry.specs.Limits.{Present}
-use Rattle.geometry.specs.Sectors.{address, onDrive?}
-use Rattle.geometry.proofs.Decided.{present?}
+use Rattle.geometry.specs.Limits.{Present, Within}
+use Rattle.geometry.specs.Sectors.{Covers, address}
+use Rattle.geometry.proofs.Decided.{covers?, onDrive?, present?, within?}
 use Rattle.memory.specs.Lists.{ListGood, Ranges}
 use Rattle.memory.proofs.Decided.{listGood?, ranges?}
 use Rattle.request.specs.declared.Buffer.{Buffer}
 use Rattle.request.specs.declared.Buffer.the-variants.{Piece, List as Elements}
 use Rattle.request.specs.declared.Move.{Move}
 use Rattle.request.specs.declared.Pair.{Pair}
-use Rattle.request.specs.declared.Shape.{Shape}
 use Rattle.request.specs.declared.Shape.the-variants.{Misplaced, Given as Uib}
 use Rattle.request.specs.declared.Target.{Target}
 use Rattle.request.specs.declared.Task.{Task}
@@ -33,7 +32,8 @@ use Rattle.unit.specs.Holding.{heldByOther}
 use Rattle.unit.specs.Landing.{spotOf, trackOf}
 use Rattle.unit.specs.Standing.{CountsAsInitialized, UnitRecord, geometry, holder, pairs, table}
 use Rattle.unit.proofs.Decided.{counts?}
-use Rattle.wire.specs.Memory.{InMemory, inMemory?}
+use Rattle.wire.proofs.Decided.{inMemory?, test?}
+use Rattle.wire.specs.Memory.{InMemory}
 use Rattle.judge.specs.declared.Job.{Job}
 use Rattle.judge.specs.declared.Leaving.{Leaving}
 use Rattle.judge.specs.declared.Leaving.the-variants.{AsItWas, HeadsAt, HeadsAtLastTried, Fresh, Mapped}
@@ -42,37 +42,11 @@ use Rattle.judge.specs.declared.Moving.the-variants.{Sectors, Track as T
 use Rattle.judge.specs.declared.Plan.{Plan}
 use Rattle.judge.specs.declared.Report.{Report}
 use Rattle.judge.specs.declared.Report.the-variants.{Identity, Formatted}
-use Rattle.judge.specs.Checks.{Check, check}
-use Rattle.judge.specs.Decided.{badPlace?, badShape?, covers?, hasTracks?, test?}
-use Rattle.judge.specs.Given.{Asked, BadPlace, BadShape, Covers, HasTrack, HasTracks, badNumber, beginsAt, spareNumber}
-
--- "command not listed"
-abbrev pub unlisted : Task → Bool
-unlisted Unknown = true
-unlisted (Moves m) = false
-unlisted Handshake = false
-unlisted (Initialize s) = false
-unlisted Restore = false
-unlisted (Seek t) = false
-unlisted (Format k) = false
-unlisted (Map k) = false
-
--- Which tasks are asked who holds the drive: "not for 86" (02, K10), nor for one that is not listed, which 10 has refused.
-abbrev pub asksHolder : Task → Bool
-asksHolder Unknown = false
-asksHolder (Moves m) = true
-asksHolder Handshake = false
-asksHolder (Initialize s) = true
-asksHolder Restore = true
-asksHolder (Seek t) = true
-asksHolder (Format k) = true
-asksHolder (Map k) = true
+use Rattle.judge.specs.Checks.{Check, always, check}
+use Rattle.judge.specs.Given.{Asked, HasTrack, HasTracks, badNumber, beginsAt, spareNumber}
 
 module _ (a : Asked) where
   -- ---- the checks, each an answer with its case
-
-  abbrev pub commandUnknown : Check
-  commandUnknown = check CommandUnknown (T (unlisted (a .task))) (test? (unlisted (a .task)))
 
   -- "A chain's block for a drive held by the other controller is refused at once" (02, K10)
   abbrev pub driveHeld : Check
@@ -84,13 +58,9 @@ module _ (a : Asked) where
   abbrev pub notInitialized : Check
   notInitialized = check NotInitialized (CountsAsInitialized (a .unit) → ⊥) (Dec·not (counts? (a .unit)))
 
-  -- "UIB address odd or UIB not wholly in host memory", which the shape of a request says (iopb, shapeAt)
-  abbrev pub uibMisplaced : Shape → Check
-  uibMisplaced s = check UibMisplaced (BadPlace s) (badPlace? s)
-
   -- "UIB outside the geometry's limits"
-  abbrev pub uibOutsideLimits : Shape → Check
-  uibOutsideLimits s = check UibOutsideLimits (BadShape s) (badShape? s)
+  abbrev pub uibOutsideLimits : Geometry → Check
+  uibOutsideLimits g = check UibOutsideLimits (Within g → ⊥) (Dec·not (within? g))
 
   -- "volume absent"
   abbrev pub volumeAbsent : VolumeNumber → Check
@@ -104,8 +74,9 @@ module _ (a : Asked) where
   -- "first sector outside the volume, or the last; .. 8A: the one address only"
   abbrev pub sectorOutside : Target → ℕ → Check
   sectorOutside t count =
+      let g = geometry (a .unit) in
       let begin = beginsAt (a .unit) t in
-      check SectorOutside (Covers (a .unit) (t .volume) begin count → ⊥) (Dec·not (covers? (a .unit) (t .volume) begin count))
+      check SectorOutside (Covers g (t .volume) begin count → ⊥) (Dec·not (covers? g (t .volume) begin count))
 
   -- "8C: track outside the drive"
   abbrev pub trackOutside : Track → Check
@@ -115,7 +86,11 @@ module _ (a : Asked) where
 
   -- 85: "16 (either track)" (02, K5)
   abbrev pub tracksOutside : Pair → Check
-  tracksOutside k = check SectorOutside (HasTracks (a .unit) k → ⊥) (Dec·not (hasTracks? (a .unit) k))
+  tracksOutside k =
+      let g = geometry (a .unit) in
+      check SectorOutside (HasTracks (a .unit) k → ⊥)
+      (Dec·not
+      (Dec·and (onDrive? g (address (k .«bad_cylinder») (k .«bad_head») 0)) (onDrive? g (address (k .«spare_cylinder») (k .«spare_head») 0))))
 
   -- "image shorter than the geometry needs"
   abbrev pub imageShort : Check
@@ -145,48 +120,33 @@ module _ (a : Asked) where
 
   -- ---- what is asked, in order
 
-  -- "24 drive held, directly after 10" (02, K10)
-  abbrev pub ofHolder : Task → List Check
-  ofHolder t = cond (asksHolder t) (driveHeld ∷ []) []
-
-  -- What is asked first: whether the command is listed, and, but for 86, who holds the drive.
-  abbrev pub firstChecks : Task → List Check
-  firstChecks t = commandUnknown ∷ ofHolder t
-
-  -- What 81, 82, A1 and A2 are asked of the unit, of their sectors, and of the buffer, which may be a list.
-  abbrev pub ofUnit : Move → List Check
-  ofUnit m = notInitialized ∷ volumeAbsent (m .target .volume) ∷ countZero (m .count) ∷ []
-
-  abbrev pub ofSectors : Move → List Check
-  ofSectors m = sectorOutside (m .target) (m .count) ∷ imageShort ∷ []
-
-  abbrev pub beforeBuffer : Move → List Check
-  beforeBuffer m = ofUnit m ++ ofSectors m
-
+  -- What is asked of a buffer for so many bytes, which may be a list.
   abbrev pub ofBuffer : Buffer → ℕ → List Check
   ofBuffer (Piece at) bytes = dataMisplaced at bytes ∷ []
   ofBuffer (Elements at n) bytes = listBad at n bytes ∷ elementMisplaced at n ∷ []
 
-  abbrev pub bytesOf : Move → ℕ
-  bytesOf m = m .count * B (geometry (a .unit))
-
-  -- What each command is asked then.
-  abbrev pub ownChecks : Task → List Check
-  ownChecks Unknown = []
-  ownChecks (Moves m) = beforeBuffer m ++ ofBuffer (m .buffer) (bytesOf m)
-  ownChecks Handshake = []
-  ownChecks (Initialize s) = uibMisplaced s ∷ uibOutsideLimits s ∷ []
-  ownChecks Restore = notInitialized ∷ []
-  ownChecks (Seek t) = notInitialized ∷ volumeAbsent (t .volume) ∷ sectorOutside t 1 ∷ []
-  ownChecks (Format k) = notInitialized ∷ trackOutside k ∷ imageShort ∷ dataMisplaced (k .buffer) (B (geometry (a .unit))) ∷ []
-  ownChecks (Map k) = notInitialized ∷ tracksOutside k ∷ tracksTaken k ∷ tableFull ∷ []
+  -- What each command is asked. "24 drive held, directly after 10 .. not for 86" (02, K10).
+  abbrev pub checksOf : Task → List Check
+  -- "command not listed": what is not listed asks for nothing that is known
+  checksOf Unknown = always CommandUnknown ∷ []
+  checksOf (Moves m) =
+      driveHeld ∷ notInitialized ∷ volumeAbsent (m .target .volume) ∷ countZero (m .count) ∷ sectorOutside (m .target) (m .count) ∷ imageShort ∷
+      ofBuffer (m .buffer) (m .count * B (geometry (a .unit)))
+  checksOf Handshake = []
+  -- "UIB address odd or UIB not wholly in host memory", which the shape of a request says (iopb, shapeAt)
+  checksOf (Initialize Misplaced) = driveHeld ∷ always UibMisplaced ∷ []
+  checksOf (Initialize (Uib g)) = driveHeld ∷ uibOutsideLimits g ∷ []
+  checksOf Restore = driveHeld ∷ notInitialized ∷ []
+  checksOf (Seek t) = driveHeld ∷ notInitialized ∷ volumeAbsent (t .volume) ∷ sectorOutside t 1 ∷ []
+  checksOf (Format k) = driveHeld ∷ notInitialized ∷ trackOutside k ∷ imageShort ∷ dataMisplaced (k .buffer) (B (geometry (a .unit))) ∷ []
+  checksOf (Map k) = driveHeld ∷ notInitialized ∷ tracksOutside k ∷ tracksTaken k ∷ tableFull ∷ []
 
   abbrev pub checks : List Check
-  checks = firstChecks (a .task) ++ ownChecks (a .task)
+  checks = checksOf (a .task)
 
 -- ---- what is done
 
--- A number that a check has numberThere: the one of the start, and 0 where there is none, which check 16 refuses.
+-- The number of a start that check 16 has let pass, and 0 where there is none, which it refuses.
 abbrev pub numberThere : Number → ℕ
 numberThere (Is n) = n
 numberThere Outside = 0
@@ -212,10 +172,6 @@ only leaving = plan Moving.Nothing Report.Nothing leaving
 abbrev pub carrying : Job → Plan
 carrying j = plan (Sectors j) Report.Nothing (HeadsAtLastTried (j .span))
 
-abbrev renewed : Shape → Leaving
-renewed Misplaced = AsItWas
-renewed (Uib g) = Fresh g
-
 -- What is to be done, of a task that no check refuses. A task that some check always refuses has no plan: what stands for it
 -- here is never asked for.
 abbrev pub planOf : UnitRecord → Task → Plan
@@ -224,7 +180,8 @@ planOf u (Moves m) = carrying (jobOf m (numberThere (beginsAt u (m .target))))
 -- 86 "writes words 2 to 7 with this board's own identity"
 planOf u Handshake = plan Moving.Nothing Identity AsItWas
 -- "87 replaces the unit record"
-planOf u (Initialize s) = only (renewed s)
+planOf u (Initialize Misplaced) = only AsItWas
+planOf u (Initialize (Uib g)) = only (Fresh g)
 -- "89 goes to cylinder 0"; "8A goes to the address given", to the cylinder on which that lands
 planOf u Restore = only (HeadsAt 0)
 planOf u (Seek t) = only (HeadsAt (spotOf u (t .volume) (numberThere (beginsAt u t)) .cylinder))

@@ -15,6 +15,10 @@ pub record Check : Type 1 where
 abbrev pub check : Refusal → (Given : Type 0) → Dec Given → Check
 check answer Given given? = record { answer = answer; Given = Given; given? = given? }
 
+-- One that is given wherever it is asked.
+abbrev pub always : Refusal → Check
+always answer = check answer (Unit {0}) (yes tt)
+
 -- The answer of the first check that is given, or, where none is, what is to be done.
 unfoldable pub first : List Check → Plan → Verdict
 first [] plan = Verdict.Do plan

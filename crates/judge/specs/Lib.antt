@@ -1,6 +1,5 @@
 pub mod Asks
 pub mod Checks
-pub mod Decided
 pub mod Fits
 pub mod Given
 pub mod Passed

@@ -1,7 +1,8 @@
 -- The host bytes that judging a request reads (01, One run: "Host bytes read, for demand 3"), beside those of the block itself.
 use Prim.Native.Nat.{ℕ, _*_, _≤_}
 use mathlib.Core.Path.{_≡_}
-use Rattle.wire.specs.Memory.{Among, InMemory}
+use Rattle.wire.specs.Among.{Among}
+use Rattle.wire.specs.Memory.{InMemory}
 use Rattle.answers.specs.declared.Refusal.the-variants.{ListBad, UibOutsideLimits}
 use Rattle.request.specs.declared.Buffer.the-variants.{List as Elements}
 use Rattle.request.specs.declared.Move.{Move}

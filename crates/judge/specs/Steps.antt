@@ -1,19 +1,58 @@
 -- What the functions of the judge promise each other: the verdict by some of the checks alone, and how a transfer begins.
-use Prim.Native.Nat.{ℕ, _<_}
-use mathlib.Core.List.{[], _∷_, _++_}
+use Prim.Native.Nat.{ℕ, _*_, _<_}
+use mathlib.Core.Bool.{Bool, true, false, cond}
+use mathlib.Core.List.{List, [], _∷_, _++_}
 use mathlib.Core.Path.{_≡_}
 use Rattle.geometry.specs.Drive.{B}
 use Rattle.geometry.specs.declared.Number.the-variants.{Is}
 use Rattle.request.specs.declared.Move.{Move}
 use Rattle.request.specs.declared.Pair.{Pair}
 use Rattle.request.specs.declared.Target.{Target}
-use Rattle.request.specs.declared.Task.the-variants.{Move as Moves, Seek, Format, Map}
+use Rattle.request.specs.declared.Task.{Task}
+use Rattle.request.specs.declared.Task.the-variants.{Unknown, Move as Moves, Handshake, Initialize, Restore, Seek, Format, Map}
 use Rattle.request.specs.declared.Track.{Track}
-use Rattle.unit.specs.Standing.{geometry}
+use Rattle.unit.specs.Standing.{geometry, unitOf}
+use Rattle.judge.specs.declared.Standing.{Standing}
 use Rattle.judge.specs.declared.Verdict.{Verdict}
-use Rattle.judge.specs.Asks.{ownChecks, bytesOf, dataMisplaced, imageShort, ofBuffer, ofSectors, planOf, sectorOutside, tableFull, tracksTaken}
-use Rattle.judge.specs.Checks.{first}
-use Rattle.judge.specs.Given.{Asked, beginsAt}
+use Rattle.judge.specs.Asks.{checksOf, countZero, dataMisplaced, driveHeld, imageShort, notInitialized, ofBuffer, planOf, sectorOutside, tableFull, tracksTaken, volumeAbsent}
+use Rattle.judge.specs.Checks.{Check, first}
+use Rattle.judge.specs.Given.{Asked, beginsAt, on}
+
+-- The same as the judge is handed it. Whether the record counts as initialized, which it is told besides, is no part of what is asked: the record says it.
+abbrev pub asked : Task → Standing → (tracks host : List ℕ) → Asked
+asked t s tracks host = on (s .controller) (unitOf (s .record) tracks) (s .image) t host
+
+-- Which tasks are asked who holds the drive: "not for 86" (02, K10), nor for one that is not listed, which 10 has refused.
+abbrev pub asksHolder : Task → Bool
+asksHolder Unknown = false
+asksHolder (Moves m) = true
+asksHolder Handshake = false
+asksHolder (Initialize s) = true
+asksHolder Restore = true
+asksHolder (Seek t) = true
+asksHolder (Format k) = true
+asksHolder (Map k) = true
+
+-- What a task is asked besides: all but that, which comes first where it is asked.
+abbrev past : List Check → List Check
+past [] = []
+past (k ∷ ks) = ks
+
+abbrev pub ownChecks : Asked → Task → List Check
+ownChecks a t = cond (asksHolder t) (past (checksOf a t)) (checksOf a t)
+
+-- What a transfer is asked of its unit, of its sectors, and of both, with its drive's holder, before it is asked of its buffer.
+abbrev pub ofUnit : Asked → Move → List Check
+ofUnit a m = notInitialized a ∷ volumeAbsent a (m .target .volume) ∷ countZero a (m .count) ∷ []
+
+abbrev pub ofSectors : Asked → Move → List Check
+ofSectors a m = sectorOutside a (m .target) (m .count) ∷ imageShort a ∷ []
+
+abbrev pub beforeBuffer : Asked → Move → List Check
+beforeBuffer a m = driveHeld a ∷ ofUnit a m ++ ofSectors a m
+
+abbrev pub bytesOf : Asked → Move → ℕ
+bytesOf a m = m .count * B (geometry (a .unit))
 
 -- The verdict by some of the checks alone, for the functions that are asked after others have passed: a task's own checks, those of a
 -- transfer from its sectors on, and those of its buffer.

@@ -29,8 +29,8 @@ ghost use mathlib.Core.Path.{_≡_};
 ghost use Prim.Native.Nat.{ℕ, _<_};
 ghost use Rattle.geometry.specs.Drive.{B, S, need, volume, volumeSectors};
 ghost use Rattle.geometry.specs.Limits.{Present};
-ghost use Rattle.judge.specs.Given.{HasTrack, HasTracks, asked, startNumber, on};
-ghost use Rattle.judge.specs.Asks.{asksHolder, carrying, jobOf, only, plan};
+ghost use Rattle.judge.specs.Given.{HasTrack, HasTracks, startNumber, on};
+ghost use Rattle.judge.specs.Asks.{carrying, jobOf, only, plan};
 ghost use Rattle.judge.specs.Verdict.{verdict};
 ghost use Rattle.judge.specs.declared.Leaving.{Leaving};
 ghost use Rattle.judge.specs.declared.Moving.{Moving};
@@ -42,7 +42,7 @@ ghost use Rattle.unit.specs.declared.Controller.{Controller};
 ghost use Rattle.unit.specs.Holding.{heldByOther};
 ghost use Rattle.unit.specs.Landing.{trackOf};
 ghost use Rattle.unit.specs.Standing.{CountsAsInitialized, UnitRecord, geometry, holder, unitOf};
-ghost use Rattle.judge.specs.Steps.{Begins, byItsOwn, fromAddress, fromBuffer, fromData, fromImage, fromSectors, fromTable};
+ghost use Rattle.judge.specs.Steps.{Begins, byItsOwn, fromAddress, fromBuffer, fromData, fromImage, fromSectors, fromTable, asksHolder, asked};
 ghost use Rattle.unit.specs.Made.{bare};
 
 // What is judged of a unit beside the task: its record, whether that counts as initialized, how long its image is, and which controller asks.

@@ -4,8 +4,7 @@ use Prim.Native.Nat.{ℕ, _*_, _%_}
 use mathlib.Core.List.{List}
 use mathlib.Core.Logic.{Dec·and}
 use native.Mathlib.Decide.{decLe, decLt, map-dec, ℕ-discrete}
-use Rattle.wire.specs.Memory.{inMemory?}
-use Rattle.wire.proofs.Decided.{all?}
+use Rattle.wire.proofs.Decided.{all?, inMemory?}
 use Rattle.memory.specs.Lists.{GoodCount, ListGood, Ranges, elementOf, total}
 
 goodCount? : (bytes : ℕ) → Dec (GoodCount bytes)

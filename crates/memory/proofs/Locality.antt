@@ -6,7 +6,8 @@ use mathlib.Core.Path.{_≡_, refl, sym, ap₂, subst, _∙_}
 use native.Mathlib.Omega.{arith}
 use lib.ListN.{getD, length}
 use Rattle.memory.specs.declared.Element.{Element}
-use Rattle.wire.specs.Memory.{Among, InMemory}
+use Rattle.wire.specs.Among.{Among}
+use Rattle.wire.specs.Memory.{InMemory}
 use Rattle.wire.proofs.Laws.{word-same}
 use Rattle.wire.proofs.Memory.{range-same}
 use Rattle.memory.specs.Lists.{GoodCount, ListGood, Ranges, elementOf, total}

@@ -3,7 +3,8 @@ use Prim.Native.Nat.{ℕ, _*_, _≤_}
 use mathlib.Core.List.{List}
 use mathlib.Core.Logic.{Dec·and}
 use native.Mathlib.Decide.{decLe, map-dec}
-use Rattle.wire.specs.Memory.{InMemory, inMemory?}
+use Rattle.wire.proofs.Decided.{inMemory?}
+use Rattle.wire.specs.Memory.{InMemory}
 
 pub record ListPlace (host : List ℕ) (at n : ℕ) : Type 0 where
   pub most : n ≤ 64

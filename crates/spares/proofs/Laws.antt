@@ -2,9 +2,9 @@
 -- The pairs are gone through from the first on, and one that serves a track ends the search.
 use Prim.Native.Nat.{ℕ, zero, suc, _+_, _-_, _*_, _/_, _%_, _≤_, _<_, min}
 use mathlib.Core.List.{List}
-use mathlib.Core.Logic.{_↔_, by-cases, if-neg, if-pos}
+use mathlib.Core.Logic.{_↔_, Dec·and, by-cases, if-neg, if-pos}
 use mathlib.Core.Path.{_≡_, refl, sym, ap, subst, _∙_}
-use native.Mathlib.Decide.{decLt}
+use native.Mathlib.Decide.{decLt, ℕ-discrete}
 use native.Mathlib.Nat.{min-eq-left}
 use native.Mathlib.Numerals.{add-one}
 use native.Mathlib.Omega.{arith}
@@ -15,18 +15,19 @@ use Rattle.geometry.specs.Drive.{C, driveHeads}
 use Rattle.spares.specs.declared.Track.{Track}
 use Rattle.spares.specs.declared.Served.{Served}
 use Rattle.spares.specs.declared.Served.the-variants.{Itself, By}
-use Rattle.spares.specs.Table.{Good, Serves, badOf, served, servedAt, servedFrom, serves?, spareOf}
-use Rattle.spares.specs.Tracks.{TrackOn, trackNumber, standsFor}
-use Rattle.spares.specs.Lands.{landsOn, numberServing}
+use Rattle.spares.specs.Table.{Good, badOf, served, servedAt, servedFrom, spareOf}
+use Rattle.spares.specs.Tracks.{TrackOn, standsFor, trackNumber, trackOn?}
+use Rattle.spares.specs.Lands.{landsOn, numberServing, Serves, serves?}
 
 module _ (g : Geometry) (ts : List ℕ) (t : ℕ) where
   pub serves-first : (i n : ℕ) → Serves g ts i t → servedFrom g ts i (suc n) t ≡ By (standsFor (spareOf ts i))
   unfolding servedFrom
-  serves-first i n it = if-pos (serves? g ts i t) it _ _
+  serves-first i n it = if-pos (Dec·and (ℕ-discrete (badOf ts i) t) (trackOn? g (spareOf ts i))) (it .bad, it .on) _ _
 
   pub serves-later : (i n : ℕ) → (Serves g ts i t → ⊥) → servedFrom g ts i (suc n) t ≡ servedFrom g ts (suc i) n t
   unfolding servedFrom
-  serves-later i n not-it = if-neg (serves? g ts i t) not-it _ _
+  serves-later i n not-it =
+      if-neg (Dec·and (ℕ-discrete (badOf ts i) t) (trackOn? g (spareOf ts i))) (λ it. not-it (record { bad = it .0; on = it .1 })) _ _
 
   pub serves-none : (i : ℕ) → servedFrom g ts i 0 t ≡ Itself
   unfolding servedFrom

@@ -1,13 +1,24 @@
--- What is proved of a table: where a track lands, the tracks of the pairs that count, and a table that is blank past them.
+-- What is proved of a table: which pair serves a track, where a track lands, the tracks of the pairs that count, and a table that is blank past them.
 use Prim.Native.Nat.{ℕ, _*_, _≤_, min}
 use mathlib.Core.List.{List}
+use mathlib.Core.Logic.{Dec·and}
 use mathlib.Core.Path.{_≡_}
+use native.Mathlib.Decide.{map-dec, ℕ-discrete}
 use lib.ListN.{getD, length, take}
 use Rattle.geometry.specs.declared.Geometry.{Geometry}
 use Rattle.spares.specs.declared.Served.{Served}
 use Rattle.spares.specs.declared.Served.the-variants.{Itself, By}
-use Rattle.spares.specs.Tracks.{trackNumber}
-use Rattle.spares.specs.Table.{served}
+use Rattle.spares.specs.Tracks.{TrackOn, trackNumber, trackOn?}
+use Rattle.spares.specs.Table.{badOf, served, spareOf}
+
+-- Pair i serves a track: it has it as bad, and a spare that the drive has.
+pub record Serves (g : Geometry) (ts : List ℕ) (i t : ℕ) : Type 0 where
+  pub bad : badOf ts i ≡ t
+  pub on : TrackOn g (spareOf ts i)
+
+pub serves? : (g : Geometry) (ts : List ℕ) (i t : ℕ) → Dec (Serves g ts i t)
+serves? g ts i t =
+    map-dec (λ d. record { bad = d .0; on = d .1 }) (λ s. (s .bad, s .on)) (Dec·and (ℕ-discrete (badOf ts i) t) (trackOn? g (spareOf ts i)))
 
 -- The number of the track that a track lands on.
 abbrev pub numberServing : ℕ → Served → ℕ

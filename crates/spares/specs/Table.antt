@@ -4,7 +4,7 @@ use Prim.Native.Nat.{ℕ, zero, suc, _+_, _*_, _≤_, _<_, min}
 use mathlib.Core.List.{List}
 use mathlib.Core.Logic.{ite, Dec·and}
 use mathlib.Core.Path.{_≡_}
-use native.Mathlib.Decide.{decLt, map-dec, ℕ-discrete}
+use native.Mathlib.Decide.{decLt, ℕ-discrete}
 use lib.ListN.{getD, length, set}
 use Rattle.geometry.specs.declared.Geometry.{Geometry}
 use Rattle.spares.specs.declared.Served.{Served}
@@ -42,20 +42,12 @@ pub record Free (n : ℕ) (ts : List ℕ) (bad spare : ℕ) : Type 0 where
   pub bad-new : InTable n ts bad → ⊥
   pub spare-new : InTable n ts spare → ⊥
 
--- Pair i serves a track: it has it as bad, and a spare that the drive has.
-pub record Serves (g : Geometry) (ts : List ℕ) (i t : ℕ) : Type 0 where
-  pub bad : badOf ts i ≡ t
-  pub on : TrackOn g (spareOf ts i)
-
-pub serves? : (g : Geometry) (ts : List ℕ) (i t : ℕ) → Dec (Serves g ts i t)
-serves? g ts i t =
-    map-dec (λ d. record { bad = d .0; on = d .1 }) (λ s. (s .bad, s .on)) (Dec·and (ℕ-discrete (badOf ts i) t) (trackOn? g (spareOf ts i)))
-
 -- What serves a track, of n pairs from the i-th on: "Every later command that lands on a bad track works on its spare". It is the first pair that
--- serves it; where none does, the track itself.
+-- has the track as bad and a spare that the drive has; where none does, the track itself.
 unfoldable pub servedFrom : Geometry → List ℕ → (i n t : ℕ) → Served
 servedFrom g ts i zero t = Itself
-servedFrom g ts i (suc n) t = ite (serves? g ts i t) (By (standsFor (spareOf ts i))) (servedFrom g ts (suc i) n t)
+servedFrom g ts i (suc n) t =
+    ite (Dec·and (ℕ-discrete (badOf ts i) t) (trackOn? g (spareOf ts i))) (By (standsFor (spareOf ts i))) (servedFrom g ts (suc i) n t)
 
 abbrev pub served : Geometry → ℕ → List ℕ → ℕ → Served
 served g n ts t = servedFrom g ts 0 (min n 32) t

@@ -13,8 +13,7 @@ use Rattle.unit.specs.declared.Span.{Span}
 use Rattle.unit.specs.Standing.{UnitRecord}
 use Rattle.transfer.specs.declared.carry.Cursor.{Cursor}
 use Rattle.transfer.specs.Data.{move}
-use Rattle.transfer.specs.Pieces.{sum}
-use Rattle.transfer.specs.Runs.{Carried, CarryFits, InImage, On, PiecesFit, Spans, behind, diskFrom, lent, pieceByte, spanBytes, spanStores}
+use Rattle.transfer.specs.Runs.{Carried, CarryFits, InImage, On, PiecesFit, Spans, behind, diskFrom, lent, pieceByte, spanBytes, spanStores, sum}
 use Rattle.transfer.specs.Stores.{Buffers, Store, after, upTo}
 use Rattle.transfer.proofs.Joined.{joined-at}
 use Rattle.transfer.proofs.Stores.{after-add, upTo-same}

@@ -6,7 +6,8 @@ use mathlib.Core.Path.{_≡_, refl, sym, _∙_}
 use native.Mathlib.Decide.{decLt}
 use native.Mathlib.Nat.{add-suc, add-zero, sub-add-eq, sub-zero, suc-add, zero-add}
 use native.Mathlib.Omega.{arith}
-use Rattle.transfer.specs.Pieces.{joined, sum}
+use Rattle.transfer.specs.Runs.{sum}
+use Rattle.transfer.specs.Pieces.{joined}
 
 module _ (bytes : ℕ → ℕ) where
   -- The bytes of t pieces from the i-th on.

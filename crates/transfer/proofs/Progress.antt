@@ -8,7 +8,8 @@ use native.Mathlib.Decide.{decLt}
 use native.Mathlib.Nat.{add-suc, add-zero, suc-add, zero-add}
 use native.Mathlib.Omega.{arith}
 use Rattle.answers.specs.declared.BlockAnswer.{BlockAnswer}
-use Rattle.transfer.specs.Progress.{Progress, progress, stopped}
+use Rattle.transfer.specs.Runs.{stopped}
+use Rattle.transfer.specs.Progress.{Progress, progress}
 
 -- k sectors that are all moved are passed over.
 pub progress-passes :

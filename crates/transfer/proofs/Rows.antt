@@ -15,8 +15,8 @@ use Rattle.answers.specs.declared.BlockAnswer.{BlockAnswer}
 use Rattle.geometry.specs.declared.Geometry.{Geometry}
 use Rattle.geometry.specs.Sectors.{markByte}
 use Rattle.geometry.proofs.Laws.{marks-consecutive}
-use Rattle.transfer.specs.Progress.{stopped, stopsAt}
-use Rattle.transfer.specs.Runs.{Readable, inARow, rowOf}
+use Rattle.transfer.specs.Progress.{stopsAt}
+use Rattle.transfer.specs.Runs.{Readable, inARow, rowOf, stopped}
 use Rattle.transfer.proofs.Progress.{all-move, stops-at}
 
 -- What a row comes to, by its test.

@@ -9,7 +9,7 @@ use native.Mathlib.Numerals.{add-one}
 use native.Mathlib.Omega.{arith}
 use lib.ListN.{length, length-set}
 use lib.Seq.{ext-getD, getD-set-other, sets}
-use Rattle.wire.specs.Memory.{Among}
+use Rattle.wire.specs.Among.{Among}
 use Rattle.transfer.specs.Stores.{Buffers, Cell, Store, after, bytesFrom, eventByte, held, hostByte, imageByte, upTo, with, worth}
 use Rattle.transfer.specs.Targets.{Stored}
 

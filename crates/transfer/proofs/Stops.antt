@@ -16,7 +16,8 @@ use Rattle.answers.specs.declared.Refusal.{Refusal}
 use Rattle.geometry.specs.declared.Geometry.{Geometry}
 use Rattle.geometry.specs.Sectors.{markByte}
 use Rattle.transfer.specs.Data.{Transfer, progressOn}
-use Rattle.transfer.specs.Progress.{progress, stopped, stopsAt, whole}
+use Rattle.transfer.specs.Runs.{stopped, whole}
+use Rattle.transfer.specs.Progress.{progress, stopsAt}
 use Rattle.transfer.specs.Unreadable.{MeetsUnreadable, StopsBefore, markOf}
 use Rattle.transfer.proofs.Progress.{progress-counts, progress-moved, stops-at}
 

@@ -9,8 +9,3 @@ unfoldable pub joined : (bytes address : ℕ → ℕ) → (n i k : ℕ) → ℕ
 joined bytes address zero i k = 0
 joined bytes address (suc n) i k =
     ite (decLt k (bytes i)) (address i + k) (joined bytes address n (suc i) (k - bytes i))
-
--- The bytes of the first n pieces together.
-unfoldable pub sum : (ℕ → ℕ) → ℕ → ℕ
-sum bytes zero = 0
-sum bytes (suc n) = sum bytes n + bytes n

@@ -19,19 +19,12 @@ pub record Progress : Type 0 where
   pub sectors : ℕ
   pub answer : BlockAnswer
 
--- "until done" (00, demand 2): so many sectors, which are all.
-abbrev pub whole : ℕ → Progress
-whole n = record { sectors = n; answer = BlockAnswer.Ended }
-
--- 20, "unreadable sector, DE clear; earlier sectors moved"
-abbrev pub stopped : ℕ → Progress
-stopped j = record { sectors = j; answer = BlockAnswer.Failed Refusal.Unreadable }
-
--- From sector j on, with n sectors to go: "sectors in order until done or stopped at an unreadable sector" (00, demand 2). What comes after a
--- sector counts only where that sector does not stop the transfer.
+-- From sector j on, with n sectors to go: "sectors in order until done or stopped at an unreadable sector" (00, demand 2), the second with 20,
+-- "unreadable sector, DE clear; earlier sectors moved". What comes after a sector counts only where that sector does not stop the transfer.
 unfoldable pub progress : (ℕ → Bool) → (j n : ℕ) → Progress
-progress stops j zero = whole j
-progress stops j (suc n) = cond (stops j) (stopped j) (progress stops (suc j) n)
+progress stops j zero = record { sectors = j; answer = BlockAnswer.Ended }
+progress stops j (suc n) =
+    cond (stops j) (record { sectors = j; answer = BlockAnswer.Failed Refusal.Unreadable }) (progress stops (suc j) n)
 
 -- "the last sector tried; the sector that stopped a read counts as tried", of so many that were to be moved
 abbrev pub lastTried : ℕ → ℕ → ℕ

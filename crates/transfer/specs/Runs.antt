@@ -1,5 +1,5 @@
 -- Runs of sectors that follow one another in the image, between the code and the definitions of Data.
-use Prim.Native.Nat.{ℕ, _+_, _-_, _*_, _%_, _^_, _≤_, _<_}
+use Prim.Native.Nat.{ℕ, zero, suc, _+_, _-_, _*_, _%_, _^_, _≤_, _<_}
 use mathlib.Core.Bool.{Bool, true, false}
 use mathlib.Core.List.{List, []}
 use mathlib.Core.Logic.{ite}
@@ -7,6 +7,7 @@ use mathlib.Core.Path.{_≡_}
 use native.Mathlib.Decide.{decLt}
 use lib.ListN.{getD, length}
 use Rattle.answers.specs.declared.BlockAnswer.{BlockAnswer}
+use Rattle.answers.specs.declared.Refusal.{Refusal}
 use Rattle.geometry.specs.declared.Geometry.{Geometry}
 use Rattle.geometry.specs.declared.VolumeNumber.{VolumeNumber}
 use Rattle.geometry.specs.Drive.{B, volumeSectors}
@@ -17,9 +18,21 @@ use Rattle.transfer.specs.declared.Moved.{Moved}
 use Rattle.transfer.specs.declared.carry.Cursor.{Cursor}
 use Rattle.transfer.specs.declared.reach.Run.{Run}
 use Rattle.transfer.specs.Data.{diskByte, move, placeFrom}
-use Rattle.transfer.specs.Pieces.{joined, sum}
-use Rattle.transfer.specs.Progress.{Progress, progress, stopped, stopsAt}
+use Rattle.transfer.specs.Pieces.{joined}
+use Rattle.transfer.specs.Progress.{Progress, progress, stopsAt}
 use Rattle.transfer.specs.Stores.{Buffers, Store, after, upTo}
+
+-- The bytes of the first n pieces together.
+unfoldable pub sum : (ℕ → ℕ) → ℕ → ℕ
+sum bytes zero = 0
+sum bytes (suc n) = sum bytes n + bytes n
+
+-- A transfer that is whole, so many sectors, and one that was stopped before a sector.
+abbrev pub whole : ℕ → Progress
+whole n = record { sectors = n; answer = BlockAnswer.Ended }
+
+abbrev pub stopped : ℕ → Progress
+stopped j = record { sectors = j; answer = BlockAnswer.Failed Refusal.Unreadable }
 
 -- Sectors that their volume has; their numbers can be counted in 64 bits.
 pub record Spans (u : UnitRecord) (s : Span) : Type 0 where

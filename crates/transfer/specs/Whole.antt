@@ -15,8 +15,7 @@ use Rattle.unit.specs.Standing.{UnitRecord, geometry}
 use Rattle.transfer.specs.declared.Attempt.{Attempt}
 use Rattle.transfer.specs.declared.Moved.{Moved}
 use Rattle.transfer.specs.Data.{Transfer, dataOn, formatting, moving, progressOn}
-use Rattle.transfer.specs.Pieces.{sum}
-use Rattle.transfer.specs.Runs.{PiecesFit, pieceByte}
+use Rattle.transfer.specs.Runs.{PiecesFit, pieceByte, sum}
 use Rattle.transfer.specs.Stores.{Store}
 
 -- Some sectors, which their volume has, pieces in host memory for all their bytes, and an image that is long enough for the drive.

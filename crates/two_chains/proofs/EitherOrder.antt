@@ -3,7 +3,8 @@
 use mathlib.Core.Path.{_≡_, sym, ap, _∙_}
 use denote.Ref.{now}
 use Rattle.board.specs.declared.chain.Outcome.{Outcome}
-use Rattle.board.specs.Chain.{Ending, endOf, ran}
+use Rattle.board.specs.Ends.{endOf}
+use Rattle.board.specs.Chain.{Ending, ran}
 use Rattle.board.specs.World.{World}
 use Rattle.board.proofs.run.Reads as run
 use Rattle.independence.specs.Chains.{Both, Chain, First, Second, Which, leaving, runOf, worldFor}

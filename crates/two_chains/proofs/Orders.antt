@@ -6,7 +6,8 @@ use mathlib.Core.Path.{_≡_, refl, sym, _∙_, ap}
 use Rattle.board.specs.declared.chain.End.{End}
 use Rattle.board.specs.declared.Units.{Units}
 use Rattle.board.specs.declared.chain.Outcome.{Outcome}
-use Rattle.board.specs.Chain.{endOf, ran}
+use Rattle.board.specs.Ends.{endOf}
+use Rattle.board.specs.Chain.{ran}
 use Rattle.two_chains.specs.declared.Order.{Order}
 use Rattle.two_chains.specs.declared.Order.the-variants.{FirstThenSecond, SecondThenFirst}
 use Rattle.two_chains.specs.declared.Twice.{Twice}

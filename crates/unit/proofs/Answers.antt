@@ -8,23 +8,24 @@ use native.Mathlib.Omega.{arith}
 use Rattle.geometry.specs.declared.Address.{Address}
 use Rattle.geometry.specs.declared.Found.{Found}
 use Rattle.geometry.specs.declared.Geometry.{Geometry}
+use Rattle.geometry.specs.declared.Number.{Number}
 use Rattle.geometry.specs.declared.Place.{Place}
 use Rattle.geometry.specs.declared.VolumeNumber.{VolumeNumber}
 use Rattle.geometry.specs.Drive.{S, volumeSectors}
-use Rattle.geometry.specs.Sectors.{OnDrive, address, onDrive?}
+use Rattle.geometry.specs.Sectors.{InVolume, OnDrive, address, numberOf}
 use Rattle.geometry.proofs.Answers.{at-found, at-placed, no-address, no-place}
 use Rattle.geometry.proofs.Laws.{address-on-drive}
 use Rattle.unit.specs.declared.Landing.{Landing}
 use Rattle.wire.proofs.Promises.{never}
 use Rattle.unit.specs.declared.Spot.{Spot}
-use Rattle.unit.specs.Landing.{landed, onto, spotAt, spotOf, trackOf}
+use Rattle.unit.specs.Landing.{landed, numberOn, onto, spotAt, spotOf, trackOf}
 use Rattle.unit.specs.Landing.Behind.{landed-is, spotAt-is, spotOf-is, trackOf-is}
 use Rattle.unit.specs.Standing.{UnitRecord, geometry, pairs, table}
 use Rattle.unit.proofs.Laws.{landed-on-drive}
 use Rattle.spares.specs.declared.Served.{Served}
 use Rattle.spares.specs.Table.{servedAt}
 use Rattle.unit.specs.Answers.{landing, landingAt, spotted, trackLanding}
-use Rattle.geometry.specs.Answers.{found, placed}
+use Rattle.geometry.specs.Answers.{found, inVolume?, onDrive?, placed}
 
 pub spotted-inside : (g : Geometry) (a : Address) → OnDrive g a → spotted g a ≡ Landing.At (spotAt g a)
 unfolding spotted
@@ -128,3 +129,13 @@ pub no-track : (u : UnitRecord) (c h : ℕ) → trackLanding u c h ≡ Landing.O
 unfolding trackLanding
 no-track u c h is on =
     never (cc (if-pos (onDrive? (geometry u) (address c h 0)) on (Landing.At (trackOf u c h)) Landing.Outside))
+
+-- A physical address has a number where the volume has it.
+pub numberOn-inside :
+    (g : Geometry) (v : VolumeNumber) (c h s : ℕ) → InVolume g v c h s → numberOn g v c h s ≡ Number.Is (numberOf g v c h s)
+unfolding numberOn
+numberOn-inside g v c h s in-it = if-pos (inVolume? g v c h s) in-it _ _
+
+pub numberOn-outside : (g : Geometry) (v : VolumeNumber) (c h s : ℕ) → (InVolume g v c h s → ⊥) → numberOn g v c h s ≡ Number.Outside
+unfolding numberOn
+numberOn-outside g v c h s out = if-neg (inVolume? g v c h s) out _ _

@@ -12,8 +12,9 @@ use Rattle.geometry.specs.declared.Address.{Address}
 use Rattle.geometry.specs.declared.Geometry.{Geometry}
 use Rattle.geometry.specs.declared.VolumeNumber.{VolumeNumber}
 use Rattle.geometry.specs.Drive.{S, driveSectors, volumeSectors}
-use Rattle.geometry.specs.Sectors.{OnDrive, SectorByte, address, addressOf, markByte, placeOf}
-use Rattle.geometry.specs.Sectors.SectorByte.{mark-byte}
+use Rattle.geometry.specs.SectorBytes.{SectorByte}
+use Rattle.geometry.specs.Sectors.{OnDrive, address, addressOf, markByte, placeOf}
+use Rattle.geometry.specs.SectorBytes.SectorByte.{mark-byte}
 use Rattle.geometry.proofs.Ends.{heads-of-within}
 use Rattle.geometry.proofs.Laws as geometry
 use Rattle.spares.specs.declared.Served.{Served}

@@ -6,7 +6,8 @@ use Rattle.geometry.specs.declared.Address.{Address}
 use Rattle.geometry.specs.declared.Geometry.{Geometry}
 use Rattle.geometry.specs.declared.VolumeNumber.{VolumeNumber}
 use Rattle.geometry.specs.Drive.{volumeSectors}
-use Rattle.geometry.specs.Sectors.{address, onDrive?}
+use Rattle.geometry.specs.Answers.{onDrive?}
+use Rattle.geometry.specs.Sectors.{address}
 use Rattle.unit.specs.declared.Landing.{Landing}
 use Rattle.unit.specs.Standing.{UnitRecord, geometry}
 use Rattle.unit.specs.Landing.{spotAt, landed, spotOf, trackOf}

@@ -5,7 +5,8 @@ use mathlib.Core.Path.{_≡_}
 use Rattle.geometry.specs.declared.Address.{Address}
 use Rattle.geometry.specs.declared.Geometry.{Geometry}
 use Rattle.geometry.specs.Drive.{S}
-use Rattle.geometry.specs.Sectors.{OnDrive, SectorByte, address, placeOf}
+use Rattle.geometry.specs.SectorBytes.{SectorByte}
+use Rattle.geometry.specs.Sectors.{OnDrive, address, placeOf}
 use Rattle.spares.specs.declared.Track.{Track}
 use Rattle.spares.specs.Table.{badOf, spareOf}
 use Rattle.spares.specs.Tracks.{standsFor}

@@ -1,12 +1,14 @@
 -- Where one sector, or one track, lands on a unit: its cylinder, its place, and how far its track goes on from there. None of it asks
 -- whether the unit counts as initialized. Everything above goes by these and by the laws of proofs/; what is behind is shut.
 use Prim.Native.Nat.{ℕ, _-_}
+use mathlib.Core.Logic.{ite}
 use Rattle.geometry.specs.declared.Address.{Address}
 use Rattle.geometry.specs.declared.Geometry.{Geometry}
 use Rattle.geometry.specs.declared.Number.{Number}
 use Rattle.geometry.specs.declared.VolumeNumber.{VolumeNumber}
 use Rattle.geometry.specs.Drive.{S}
-use Rattle.geometry.specs.Sectors.{address, addressOf, numbered, placeOf}
+use Rattle.geometry.specs.Sectors.{address, addressOf, numberOf, placeOf}
+use Rattle.geometry.proofs.Decided.{inVolume?}
 use Rattle.spares.specs.declared.Served.{Served}
 use Rattle.spares.specs.declared.Served.the-variants.{Itself, By}
 use Rattle.spares.specs.Table.{servedAt}
@@ -34,6 +36,6 @@ spotOf u v n = spotAt (geometry u) (landed u (addressOf (geometry u) v n))
 pub trackOf : UnitRecord → ℕ → ℕ → Spot
 trackOf u c h = spotAt (geometry u) (landed u (address c h 0))
 
--- The number in a volume of a physical address, which goes by the shape of the drive alone.
+-- The number in a volume of a physical address, or that the volume has no such sector. It goes by the shape of the drive alone.
 unfoldable pub numberOn : Geometry → VolumeNumber → ℕ → ℕ → ℕ → Number
-numberOn g v c h s = numbered g v c h s
+numberOn g v c h s = ite (inVolume? g v c h s) (Number.Is (numberOf g v c h s)) Number.Outside

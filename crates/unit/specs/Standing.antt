@@ -46,10 +46,10 @@ unitOf r ts = record { held = r; tracks = ts }
 abbrev pub byValue : UnitRecord → Record
 byValue u = u .held
 
--- A record from what it is to say, with nobody holding the drive; a holder is put in by withHolder.
-abbrev pub heldOf : Bool → Geometry → ℕ → ℕ → Record
-heldOf initialized geometry cylinder pairs =
-    record { initialized = initialized; geometry = geometry; cylinder = cylinder; pairs = pairs; holder = Nobody }
+-- What goes by value, from what it is to say.
+abbrev pub heldOf : Bool → Geometry → (cylinder pairs : ℕ) → Holder → Record
+heldOf initialized geometry cylinder pairs holder =
+    record { initialized = initialized; geometry = geometry; cylinder = cylinder; pairs = pairs; holder = holder }
 
 -- A table without pairs.
 abbrev pub noTracks : List ℕ
@@ -57,33 +57,22 @@ noTracks = replicate 64 0
 
 -- A unit that has just been initialized: "cylinder 0" (01, One run, 87), and "A successful 87 clears the table" (02, K5). Nobody
 -- holds it here: the block that initialized it says who does.
-abbrev pub freshly : Geometry → Record
-freshly g = heldOf true g 0 0
-
 abbrev pub fresh : Geometry → UnitRecord
-fresh g = unitOf (freshly g) noTracks
+fresh g = unitOf (heldOf true g 0 0 Nobody) noTracks
 
 -- The same unit with another holder (02, K10).
-abbrev pub withHolder : Record → Holder → Record
-withHolder r h =
-    record { initialized = r .initialized; geometry = r .geometry; cylinder = r .cylinder; pairs = r .pairs; holder = h }
-
 abbrev pub heldBy : UnitRecord → Holder → UnitRecord
-heldBy u h = unitOf (withHolder (u .held) h) (u .tracks)
+heldBy u h = unitOf (heldOf (initialized u) (geometry u) (cylinder u) (pairs u) h) (table u)
 
 -- The same unit with its heads on a cylinder.
-abbrev pub headsOn : Record → ℕ → Record
-headsOn r c = withHolder (heldOf (r .initialized) (r .geometry) c (r .pairs)) (r .holder)
-
 abbrev pub movedTo : UnitRecord → ℕ → UnitRecord
-movedTo u c = unitOf (headsOn (u .held) c) (u .tracks)
+movedTo u c = unitOf (heldOf (initialized u) (geometry u) c (pairs u) (holder u)) (table u)
 
 -- The same unit with a pair more at the end of its table (02, K5): 85 "moves neither data nor heads".
-abbrev pub moreHeld : Record → Record
-moreHeld r = withHolder (heldOf (r .initialized) (r .geometry) (r .cylinder) (onePairMore (r .pairs))) (r .holder)
-
 abbrev pub mapped : UnitRecord → (bad spare : ℕ) → UnitRecord
-mapped u bad spare = unitOf (moreHeld (u .held)) (withPair (pairs u) (table u) bad spare)
+mapped u bad spare =
+    let more = heldOf (initialized u) (geometry u) (cylinder u) (onePairMore (pairs u)) (holder u) in
+    unitOf more (withPair (pairs u) (table u) bad spare)
 
 -- A record that says so counts as initialized, but not "with a geometry outside the limits, or a cylinder of C or more", nor with a table that is
 -- not good (02, K5). Who holds the drive is not asked.

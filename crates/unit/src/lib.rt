@@ -14,12 +14,13 @@ ghost use Prim.Native.Nat.{_<_};
 ghost use Rattle.geometry.specs.Drive.{C};
 ghost use Rattle.geometry.specs.Sectors.{OnDrive};
 ghost use Rattle.spares.specs.Table.{Good};
+ghost use Rattle.unit.specs.declared.Holder.{Holder};
 ghost use Rattle.unit.specs.Holding.{asHolder, heldByOther, reservedBy};
 ghost use Rattle.unit.specs.Landing.{numberOn, spotAt};
-ghost use Rattle.unit.specs.Standing.{CountsAsInitialized, cylinder, freshly, geometry, headsOn, heldOf, holder, initialized, moreHeld, pairs, unitOf, withHolder};
+ghost use Rattle.unit.specs.Standing.{CountsAsInitialized, cylinder, geometry, heldOf, holder, initialized, pairs, unitOf};
 ghost use Rattle.wire.specs.Promise.{Says};
 ghost use Rattle.unit.specs.Answers.{landing, landingAt, spotted, trackLanding};
-ghost use Rattle.unit.specs.Made.{bare, nothingSaid};
+ghost use Rattle.unit.specs.Made.{bare, nothingSaid, freshly, headsOn, moreHeld, withHolder};
 ghost use Rattle.unit.specs.HolderNumbers.{holderNumber, holderOf};
 
 // One of the board's two units.
@@ -142,7 +143,7 @@ pub enum Landing {
 
 impl Record {
     pub fn new(initialized: bool, geometry: Geometry, cylinder: u16, pairs: u16) -> Record
-        ensures { λ r. ⌜ r ≡ heldOf initialized geometry cylinder pairs ⌝ }
+        ensures { λ r. ⌜ r ≡ heldOf initialized geometry cylinder pairs Holder.Nobody ⌝ }
     {
         Record {
             initialized,

@@ -1,3 +1,4 @@
+pub mod Among
 pub mod Copy
 pub mod Memory
 pub mod Promise

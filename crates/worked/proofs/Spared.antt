@@ -14,9 +14,10 @@ use Rattle.geometry.specs.declared.VolumeNumber.{VolumeNumber}
 use Rattle.geometry.specs.declared.VolumeNumber.the-variants.{Zero, One}
 use Rattle.geometry.specs.Drive.{volumeSectors}
 use Rattle.geometry.specs.Drive.Inside.{driveSectors-is, marksAt-is}
-use Rattle.geometry.specs.Sectors.{OnDrive, SectorByte, address, addressOf, placeOf}
+use Rattle.geometry.specs.SectorBytes.{SectorByte}
+use Rattle.geometry.specs.Sectors.{OnDrive, address, addressOf, placeOf}
 use Rattle.geometry.specs.Sectors.Inside.{addressOf-is, firstByte-is, markByte-is, placeOf-is}
-use Rattle.geometry.specs.Sectors.SectorByte.{data-byte, mark-byte}
+use Rattle.geometry.specs.SectorBytes.SectorByte.{data-byte, mark-byte}
 use Rattle.spares.specs.declared.Track.{Track}
 use Rattle.spares.specs.Table.{InTable, badOf, spareOf}
 use Rattle.spares.specs.Tracks.{TrackOn, standsFor, trackNumber}

@@ -3,6 +3,7 @@
 use Prim.Native.Nat.{ℕ, _+_, _*_, _≤_, _<_}
 use mathlib.Core.Path.{_≡_, refl, sym, subst, _∙_}
 use native.Mathlib.Omega.{arith}
+use Rattle.geometry.specs.Sectors.{Covers}
 use Rattle.answers.specs.declared.Refusal.{Refusal}
 use Rattle.answers.specs.declared.Refusal.the-variants.{ImageShort, ListBad, SectorOutside}
 use Rattle.answers.specs.Numbers.{refusalNumber}
@@ -12,9 +13,8 @@ use Rattle.geometry.specs.declared.VolumeNumber.the-variants.{Zero, One}
 use Rattle.geometry.specs.Drive.{volumeSectors}
 use Rattle.geometry.specs.Sectors.Inside.{firstByte-is}
 use Rattle.judge.specs.declared.Verdict.the-variants.{Refused}
-use Rattle.judge.specs.Given.{Asked, Covers}
+use Rattle.judge.specs.Given.{Asked}
 use Rattle.judge.specs.Verdict.{verdict}
-use Rattle.judge.proofs.First.{no-more}
 use Rattle.judge.proofs.Tasks.{list-18, list-done, move-on, own, piece-done, span-17, span-last, span-on}
 use Rattle.request.specs.declared.Buffer.{Buffer}
 use Rattle.request.specs.declared.Move.{Move}
@@ -43,13 +43,13 @@ module _ (n count image : ℕ) (b : Buffer) where
 
   -- It passes what it is asked of the unit; its sectors decide, and then its buffer.
   by-its-sectors : 0 < count → verdict (asking m image) ≡ fromSectors (asking m image) m
-  by-its-sectors some = own First unit image host _ no-more refl ∙ move-on First unit image host m counts present (λ none. omega arith)
+  by-its-sectors some = own First unit image host _ tt refl ∙ move-on First unit image host m counts present (λ none. omega arith)
 
   outside-is-16 : (0 < count) × (80 < n + count) → Judged m n image (answer 16)
   outside-is-16 is =
       refused-so _ SectorOutside (by-its-sectors (is .0) ∙ span-last First unit image host m n refl (is .0) (omega (arith, sectors-80)))
 
-  covered : (0 < count) × (n + count ≤ 80) → Covers unit Zero (Number.Is n) count
+  covered : (0 < count) × (n + count ≤ 80) → Covers drive Zero (Number.Is n) count
   covered is = omega (arith, sectors-80)
 
   short-is-17 : (0 < count) × (n + count ≤ 80) × (image < 7800) → Judged m n image (answer 17)

@@ -13,7 +13,7 @@ use Rattle.geometry.specs.Sectors.{OnDrive, address, firstByte}
 use Rattle.demands.specs.Tables.{ReachedByCommands}
 use Rattle.judge.specs.declared.Verdict.{Verdict}
 use Rattle.judge.specs.declared.Verdict.the-variants.{Refused, Do}
-use Rattle.judge.specs.Given.{Asked}
+use Rattle.judge.specs.Given.{Asked, on}
 use Rattle.judge.specs.Asks.{carrying, jobOf}
 use Rattle.judge.specs.Verdict.{verdict}
 use Rattle.request.specs.declared.Buffer.{Buffer}
@@ -59,7 +59,7 @@ move n count buffer =
     }
 
 abbrev pub asking : Move → ℕ → Asked
-asking m image = record { task = Task.Move m; controller = First; unit = unit; image = image; host = host }
+asking m image = on First unit image (Task.Move m) host
 
 pub data Expected : Type 0 where
   passes : Expected

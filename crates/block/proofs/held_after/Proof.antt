@@ -1,7 +1,7 @@
 -- A block that ended has the holder that its controller reserves.
 -- One that failed leaves the record as it was.
 use mathlib.Core.Path.{ap, _∙_}
-use Rattle.unit.specs.Standing.{withHolder}
+use Rattle.unit.specs.Made.{withHolder}
 use borrow.Author.Needs.{needs}
 use Rattle.block.proofs.held_after.Statement.{statement}
 use Rattle.block.proofs.held_after.Tie as tie

@@ -1,13 +1,11 @@
 -- The shut definitions of Sectors, opened by an equation each, for this crate's proofs and for the worked examples alone.
 use Prim.Native.Nat.{ℕ, _+_, _*_, _/_, _%_}
-use mathlib.Core.Logic.{ite}
 use mathlib.Core.Path.{_≡_, refl}
-use native.Mathlib.Decide.{decLt}
 use Rattle.geometry.specs.declared.Address.{Address}
 use Rattle.geometry.specs.declared.Geometry.{Geometry}
 use Rattle.geometry.specs.declared.VolumeNumber.{VolumeNumber}
-use Rattle.geometry.specs.Drive.{B, N, S, driveHeads, end, marksAt, start, volume}
-use Rattle.geometry.specs.Sectors.{address, addressOf, firstByte, markByte, next, numberOf, placeOf}
+use Rattle.geometry.specs.Drive.{B, N, S, driveHeads, marksAt, start, volume}
+use Rattle.geometry.specs.Sectors.{address, addressOf, firstByte, markByte, numberOf, placeOf}
 
 pub addressOf-is :
     (g : Geometry) (v : VolumeNumber) (n : ℕ) →
@@ -24,15 +22,6 @@ pub numberOf-is :
     (g : Geometry) (v : VolumeNumber) (c h s : ℕ) → numberOf g v c h s ≡ (c * N (volume g v) + h) * S g + s
 unfolding numberOf
 numberOf-is g v c h s = refl
-
-pub next-is :
-    (g : Geometry) (v : VolumeNumber) (a : Address) →
-    next g v a ≡
-    ite (decLt (a .sector + 1) (S g)) (address (a .cylinder) (a .head) (a .sector + 1))
-    (ite (decLt (a .head + 1) (end (volume g v))) (address (a .cylinder) (a .head + 1) 0)
-    (address (a .cylinder + 1) (start (volume g v)) 0))
-unfolding next
-next-is g v a = refl
 
 pub firstByte-is : (g : Geometry) (place : ℕ) → firstByte g place ≡ place * B g
 unfolding firstByte

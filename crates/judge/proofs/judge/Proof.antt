@@ -4,14 +4,12 @@ use mathlib.Core.Bool.{Bool, false, _&&_}
 use mathlib.Core.Path.{_≡_, sym, ap, _∙_}
 use lib.Dec.{T}
 use Rattle.request.specs.declared.Task.{Task}
-use Rattle.judge.specs.Asks.{asksHolder}
-use Rattle.judge.specs.Given.{asked}
 use Rattle.judge.specs.Verdict.{verdict}
 use Rattle.judge.proofs.Tasks.{handshake, own-if-asked, refused-as-held, unknown}
 use borrow.Author.Needs.{needs}
 use Rattle.judge.proofs.judge.Statement.{statement}
 use Rattle.judge.proofs.judge.Tie as tie
-use Rattle.judge.specs.Steps.{byItsOwn}
+use Rattle.judge.specs.Steps.{byItsOwn, asksHolder, asked}
 
 -- What was found of the task is so of what it is.
 as-task : {t : Task} (task : Task) (held : Bool) {r : Bool} → r ≡ asksHolder task && held → r ≡ false → task ≡ t → asksHolder t && held ≡ false

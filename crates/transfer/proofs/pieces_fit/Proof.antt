@@ -5,7 +5,7 @@ use mathlib.Core.Path.{_≡_}
 use native.Mathlib.Numerals.{add-one}
 use native.Mathlib.Omega.{arith}
 use lib.ListN.{getD, length}
-use Rattle.transfer.specs.Pieces.{sum}
+use Rattle.transfer.specs.Runs.{sum}
 use Rattle.wire.proofs.Decided.{all-more}
 use Rattle.wire.proofs.Promises.{denied, granted, says-eqb}
 use Rattle.transfer.proofs.pieces_fit.Statement.{statement}

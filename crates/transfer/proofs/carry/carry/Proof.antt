@@ -6,8 +6,7 @@ use native.Mathlib.Omega.{arith}
 use borrow.Author.Needs.{needs}
 use lib.ListN.{getD, length}
 use Rattle.unit.specs.Standing.{unitOf}
-use Rattle.transfer.specs.Pieces.{sum}
-use Rattle.transfer.specs.Runs.{spanBytes}
+use Rattle.transfer.specs.Runs.{spanBytes, sum}
 use Rattle.transfer.proofs.AllPieces.{Before, a-piece, before-first, piece-carried, piece-fits}
 use Rattle.transfer.proofs.carry.carry.Statement.{statement}
 use Rattle.transfer.proofs.carry.carry.Tie as tie

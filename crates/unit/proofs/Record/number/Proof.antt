@@ -1,6 +1,7 @@
 -- The number is the geometry's.
--- That is its definition today.
+-- Both are picked by the same decision.
 use borrow.Author.Needs.{needs}
+use Rattle.geometry.specs.Answers.{numbered}
 use Rattle.unit.specs.Landing.{numberOn}
 use Rattle.unit.proofs.Record.number.Statement.{statement}
 use Rattle.unit.proofs.Record.number.Tie as tie
@@ -9,7 +10,7 @@ number-requires : tie.Need-number-requires
 number-requires c κs = search needs
 
 returns : tie.Need-returns
-unfolding numberOn
+unfolding numberOn numbered
 returns c = c .number .ensures
 
 pub number-spec : {M : Type 1} → statement M
