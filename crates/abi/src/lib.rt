@@ -63,8 +63,12 @@ fn run(
     allowance: u32,
 ) -> u32
     requires { ⌜ (276 ≤ length (now record0)) × ((276 ≤ length (now record1)) × (16 ≤ length (now outcome))) ⌝ }
-    ensures { λ r. ⌜ calledOf r (lentOf (now (host .exit)) (now (image0 .exit)) (now (image1 .exit)) (now (events .exit)) (now (record0 .exit)) (now (record1 .exit)) (now (outcome .exit)))
-        ≡ made c first allowance (lentOf (now (host .entry)) (now (image0 .entry)) (now (image1 .entry)) (now (events .entry)) (now (record0 .entry)) (now (record1 .entry)) (now (outcome .entry))) ⌝ }
+    ensures { λ r. ⌜ (
+        let before = lentOf (now (host .entry)) (now (image0 .entry)) (now (image1 .entry)) (now (events .entry)) (now (record0 .entry))
+        (now (record1 .entry)) (now (outcome .entry)) in
+        let after = lentOf (now (host .exit)) (now (image0 .exit)) (now (image1 .exit)) (now (events .exit)) (now (record0 .exit))
+        (now (record1 .exit)) (now (outcome .exit)) in
+        calledOf r after ≡ made c first allowance before) ⌝ }
 {
     let zero = layouts::record(record0);
     let one = layouts::record(record1);
@@ -119,8 +123,12 @@ pub extern "C" fn vsmd_run_as(
     allowance: u32,
     controller: u32,
 ) -> u32
-    ensures { λ r. ⌜ calledOf r (lentOf (now (host .exit)) (now (image0 .exit)) (now (image1 .exit)) (now (events .exit)) (now (record0 .exit)) (now (record1 .exit)) (now (outcome .exit)))
-        ≡ calledAs controller first allowance (lentOf (now (host .entry)) (now (image0 .entry)) (now (image1 .entry)) (now (events .entry)) (now (record0 .entry)) (now (record1 .entry)) (now (outcome .entry))) ⌝ }
+    ensures { λ r. ⌜ (
+        let before = lentOf (now (host .entry)) (now (image0 .entry)) (now (image1 .entry)) (now (events .entry)) (now (record0 .entry))
+        (now (record1 .entry)) (now (outcome .entry)) in
+        let after = lentOf (now (host .exit)) (now (image0 .exit)) (now (image1 .exit)) (now (events .exit)) (now (record0 .exit))
+        (now (record1 .exit)) (now (outcome .exit)) in
+        calledOf r after ≡ calledAs controller first allowance before) ⌝ }
 {
     if record0.len() < RECORD_LEN {
         return RECORD0_SHORT;
@@ -161,8 +169,12 @@ pub extern "C" fn vsmd_run(
     first: u32,
     allowance: u32,
 ) -> u32
-    ensures { λ r. ⌜ calledOf r (lentOf (now (host .exit)) (now (image0 .exit)) (now (image1 .exit)) (now (events .exit)) (now (record0 .exit)) (now (record1 .exit)) (now (outcome .exit)))
-        ≡ called first allowance (lentOf (now (host .entry)) (now (image0 .entry)) (now (image1 .entry)) (now (events .entry)) (now (record0 .entry)) (now (record1 .entry)) (now (outcome .entry))) ⌝ }
+    ensures { λ r. ⌜ (
+        let before = lentOf (now (host .entry)) (now (image0 .entry)) (now (image1 .entry)) (now (events .entry)) (now (record0 .entry))
+        (now (record1 .entry)) (now (outcome .entry)) in
+        let after = lentOf (now (host .exit)) (now (image0 .exit)) (now (image1 .exit)) (now (events .exit)) (now (record0 .exit))
+        (now (record1 .exit)) (now (outcome .exit)) in
+        calledOf r after ≡ called first allowance before) ⌝ }
 {
     vsmd_run_as(
         host,
@@ -201,8 +213,10 @@ pub extern "C" fn vsmd_inspect(
     at: &mut usize,
     bytes: &mut usize,
 ) -> u32
-    ensures { λ r. ⌜ inspectedOf r (now (image .exit)) (now (at .exit)) (now (bytes .exit))
-        ≡ inspection (now (record0 .entry)) (now (record1 .entry)) long0 long1 unit place (now (image .entry)) (now (at .entry)) (now (bytes .entry)) ⌝ }
+    ensures { λ r. ⌜
+        inspectedOf r (now (image .exit)) (now (at .exit)) (now (bytes .exit)) ≡
+        inspection (now (record0 .entry)) (now (record1 .entry)) long0 long1 unit place
+        (now (image .entry)) (now (at .entry)) (now (bytes .entry)) ⌝ }
 {
     if record0.len() < RECORD_LEN {
         return RECORD0_SHORT;

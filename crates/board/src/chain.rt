@@ -108,7 +108,12 @@ fn work_on(
     i: usize,
 ) -> BlockTold
     requires { ⌜ BlockRoom (now host) (now events) at i × Knows known (unitIn (now held) (now map)) ⌝ }
-    ensures { λ t. ⌜ Did (blockAt (now (host .entry)) at) (effectOn c (now (host .entry)) (driveWith (unitIn (now (held .entry)) (now (map .entry))) (now (image .entry))) at i) (three (now (host .entry)) (now (image .entry)) (now (events .entry))) (three (now (host .exit)) (now (image .exit)) (now (events .exit))) (now (map .exit)) (doneWith t (unitIn (now (held .exit)) (now (map .exit)))) ⌝ }
+    ensures { λ t. ⌜ (
+        let before = three (now (host .entry)) (now (image .entry)) (now (events .entry)) in
+        let after = three (now (host .exit)) (now (image .exit)) (now (events .exit)) in
+        Did (blockAt (now (host .entry)) at) (effectOn c (now (host .entry))
+        (driveWith (unitIn (now (held .entry)) (now (map .entry))) (now (image .entry))) at i) before after (now (map .exit))
+        (doneWith t (unitIn (now (held .exit)) (now (map .exit))))) ⌝ }
 {
     let done = run_block(host, image, events, c, record_of(held), known, map, at, i);
     *held = numbers_of(done.unit);
@@ -130,8 +135,15 @@ pub(crate) fn step(
     at: usize,
     i: usize,
 ) -> Went
-    requires { ⌜ BlockRoom (now host) (now events) at i × KnowsBoth learnt (unitIn (now record0) (now map0)) (unitIn (now record1) (now map1)) ⌝ }
-    ensures { λ s. ⌜ SteppedOn (worldOf c (now (host .entry)) (now (image0 .entry)) (now (image1 .entry)) (now (events .entry)) (now (map0 .entry)) (now (map1 .entry)) (unitsIn (now (record0 .entry)) (now (record1 .entry)))) at i (worldOf c (now (host .exit)) (now (image0 .exit)) (now (image1 .exit)) (now (events .exit)) (now (map0 .exit)) (now (map1 .exit)) (unitsIn (now (record0 .exit)) (now (record1 .exit)))) s ⌝ }
+    requires { ⌜
+        BlockRoom (now host) (now events) at i × KnowsBoth learnt (unitIn (now record0) (now map0))
+        (unitIn (now record1) (now map1)) ⌝ }
+    ensures { λ s. ⌜ (
+        let before = worldOf c (now (host .entry)) (now (image0 .entry)) (now (image1 .entry)) (now (events .entry)) (now (map0 .entry))
+        (now (map1 .entry)) (unitsIn (now (record0 .entry)) (now (record1 .entry))) in
+        let after = worldOf c (now (host .exit)) (now (image0 .exit)) (now (image1 .exit)) (now (events .exit)) (now (map0 .exit))
+        (now (map1 .exit)) (unitsIn (now (record0 .exit)) (now (record1 .exit))) in
+        SteppedOn before at i after s) ⌝ }
 {
     let zero = learnt.zero;
     let one = learnt.one;
@@ -207,7 +219,12 @@ fn fetch(
     count: Count,
 ) -> End
     requires { ⌜ Spare (now events) left count × KnowsBoth learnt (unitIn (now record0) (now map0)) (unitIn (now record1) (now map1)) ⌝ }
-    ensures { λ r. ⌜ EndedIn (fetched left count at (worldOf c (now (host .entry)) (now (image0 .entry)) (now (image1 .entry)) (now (events .entry)) (now (map0 .entry)) (now (map1 .entry)) (unitsIn (now (record0 .entry)) (now (record1 .entry))))) (worldOf c (now (host .exit)) (now (image0 .exit)) (now (image1 .exit)) (now (events .exit)) (now (map0 .exit)) (now (map1 .exit)) (unitsIn (now (record0 .exit)) (now (record1 .exit)))) r ⌝ }
+    ensures { λ r. ⌜ (
+        let before = worldOf c (now (host .entry)) (now (image0 .entry)) (now (image1 .entry)) (now (events .entry)) (now (map0 .entry))
+        (now (map1 .entry)) (unitsIn (now (record0 .entry)) (now (record1 .entry))) in
+        let after = worldOf c (now (host .exit)) (now (image0 .exit)) (now (image1 .exit)) (now (events .exit)) (now (map0 .exit))
+        (now (map1 .exit)) (unitsIn (now (record0 .exit)) (now (record1 .exit))) in
+        EndedIn (fetched left count at before) after r) ⌝ }
 {
     if left == 0 {
         return ended(RunAnswer::AllowanceSpent, 0, count);
@@ -248,8 +265,15 @@ fn execute(
     left: u32,
     count: Count,
 ) -> End
-    requires { ⌜ InMemory (now host) at 28 × Spare (now events) (left + 1) count × KnowsBoth learnt (unitIn (now record0) (now map0)) (unitIn (now record1) (now map1)) ⌝ }
-    ensures { λ r. ⌜ EndedIn (executed (fetched left) count at (worldOf c (now (host .entry)) (now (image0 .entry)) (now (image1 .entry)) (now (events .entry)) (now (map0 .entry)) (now (map1 .entry)) (unitsIn (now (record0 .entry)) (now (record1 .entry))))) (worldOf c (now (host .exit)) (now (image0 .exit)) (now (image1 .exit)) (now (events .exit)) (now (map0 .exit)) (now (map1 .exit)) (unitsIn (now (record0 .exit)) (now (record1 .exit)))) r ⌝ }
+    requires { ⌜
+        InMemory (now host) at 28 × Spare (now events) (left + 1) count × KnowsBoth learnt (unitIn (now record0) (now map0))
+        (unitIn (now record1) (now map1)) ⌝ }
+    ensures { λ r. ⌜ (
+        let before = worldOf c (now (host .entry)) (now (image0 .entry)) (now (image1 .entry)) (now (events .entry)) (now (map0 .entry))
+        (now (map1 .entry)) (unitsIn (now (record0 .entry)) (now (record1 .entry))) in
+        let after = worldOf c (now (host .exit)) (now (image0 .exit)) (now (image1 .exit)) (now (events .exit)) (now (map0 .exit))
+        (now (map1 .exit)) (unitsIn (now (record0 .exit)) (now (record1 .exit))) in
+        EndedIn (executed (fetched left) count at before) after r) ⌝ }
 {
     let step = step(
         host,
@@ -433,7 +457,11 @@ pub fn run_one(
     at: u32,
     i: u32,
 ) -> Single
-    ensures { λ r. ⌜ RanOne (worldOf c (now (host .entry)) (now (image0 .entry)) (now (image1 .entry)) (now (events .entry)) (now (map0 .entry)) (now (map1 .entry)) units) at i (now (host .exit)) (now (image0 .exit)) (now (image1 .exit)) (now (events .exit)) (now (map0 .exit)) (now (map1 .exit)) r ⌝ }
+    ensures { λ r. ⌜ (
+        let before = worldOf c (now (host .entry)) (now (image0 .entry)) (now (image1 .entry)) (now (events .entry)) (now (map0 .entry))
+        (now (map1 .entry)) units in
+        RanOne before at i (now (host .exit)) (now (image0 .exit)) (now (image1 .exit)) (now (events .exit)) (now (map0 .exit))
+        (now (map1 .exit)) r) ⌝ }
 {
     if !holds_block(host, at) {
         return Single::NoRoom;

@@ -60,7 +60,8 @@ pub fn part_of(
     unit: u32,
     place: u64,
 ) -> Part
-    ensures { λ r. ⌜ r ≡ partOf (unitOf (units .zero) (now (map0 .entry))) (unitOf (units .one) (now (map1 .entry))) long0 long1 unit place ⌝ }
+    ensures { λ r. ⌜
+        r ≡ partOf (unitOf (units .zero) (now (map0 .entry))) (unitOf (units .one) (now (map1 .entry))) long0 long1 unit place ⌝ }
 {
     match unit {
         0 => sector_part(UnitNumber::Zero, units.zero, map0, long0, place),
@@ -79,12 +80,14 @@ pub fn inspect<'a>(
     unit: u32,
     place: u64,
 ) -> &'a [u8]
-    ensures bytes { λ r. ⌜ now r ≡
-        bytesOf (now (image0 .entry)) (now (image1 .entry))
-        (partOf (unitOf (units .zero) (now (map0 .entry))) (unitOf (units .one) (now (map1 .entry))) (length (now (image0 .entry))) (length (now (image1 .entry))) unit place) ⌝ }
-    ensures lies { λ r. ⌜ r .ptr ≡
-        liesAt (image0 .entry .ptr) (image1 .entry .ptr)
-        (partOf (unitOf (units .zero) (now (map0 .entry))) (unitOf (units .one) (now (map1 .entry))) (length (now (image0 .entry))) (length (now (image1 .entry))) unit place) ⌝ }
+    ensures bytes { λ r. ⌜ (
+        let part = partOf (unitOf (units .zero) (now (map0 .entry))) (unitOf (units .one) (now (map1 .entry)))
+        (length (now (image0 .entry))) (length (now (image1 .entry))) unit place in
+        now r ≡ bytesOf (now (image0 .entry)) (now (image1 .entry)) part) ⌝ }
+    ensures lies { λ r. ⌜ (
+        let part = partOf (unitOf (units .zero) (now (map0 .entry))) (unitOf (units .one) (now (map1 .entry)))
+        (length (now (image0 .entry))) (length (now (image1 .entry))) unit place in
+        r .ptr ≡ liesAt (image0 .entry .ptr) (image1 .entry .ptr) part) ⌝ }
 {
     let part = part_of(units, map0, map1, image0.len(), image1.len(), unit, place);
     let at = part.at;

@@ -105,7 +105,8 @@ impl Geometry {
 
     // Two volumes share no head where one ends before the other starts. An end of 0, an absent volume's, is before any start.
     fn volumes_are_apart(self) -> bool
-        ensures { λ r. ⌜ Says r ((end (volume self One) ≤ start (volume self Zero)) ⊎ (end (volume self Zero) ≤ start (volume self One))) ⌝ }
+        ensures { λ r. ⌜
+            Says r ((end (volume self One) ≤ start (volume self Zero)) ⊎ (end (volume self Zero) ≤ start (volume self One))) ⌝ }
     {
         if self.volume1.end() <= (self.volume0.start_head as u16) {
             return true;

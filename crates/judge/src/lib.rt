@@ -165,7 +165,8 @@ fn only(leaving: Leaving) -> Verdict
 }
 
 fn judge_shape(s: Shape) -> Verdict
-    ensures { λ v. ⌜ ((c : Controller) (u : UnitRecord) (image : ℕ) (host : List ℕ) → v ≡ byItsOwn (on c u image (Task.Initialize s) host)) ⌝ }
+    ensures { λ v. ⌜
+        ((c : Controller) (u : UnitRecord) (image : ℕ) (host : List ℕ) → v ≡ byItsOwn (on c u image (Task.Initialize s) host)) ⌝ }
 {
     match s {
         Shape::Misplaced => Verdict::Refused(Refusal::UibMisplaced),
@@ -180,7 +181,9 @@ fn judge_shape(s: Shape) -> Verdict
 }
 
 fn judge_restore(standing: Standing) -> Verdict
-    ensures { λ v. ⌜ ((ts host : List ℕ) → Says (standing .counts) (CountsAsInitialized (unitOf (standing .record) ts)) → v ≡ byItsOwn (asked Task.Restore standing ts host)) ⌝ }
+    ensures { λ v. ⌜
+        ((ts host : List ℕ) → Says (standing .counts) (CountsAsInitialized (unitOf (standing .record) ts)) → v ≡ byItsOwn
+        (asked Task.Restore standing ts host)) ⌝ }
 {
     if standing.counts {
         restored()
@@ -302,7 +305,9 @@ fn judge_data(k: Track, spot: Spot, standing: Standing, table: &[u32; 64], host:
 
 // The plan of 8C: it reports the sectors of the track, which are as many as every track has.
 fn formatted(k: Track, spot: Spot, u: Record) -> Verdict
-    ensures { λ v. ⌜ v ≡ Verdict.Do (plan (Moving.Track spot (k .buffer)) (Report.Formatted (S (geometry (bare u)))) (Leaving.HeadsAt (spot .cylinder))) ⌝ }
+    ensures { λ v. ⌜
+        v ≡ Verdict.Do (plan (Moving.Track spot (k .buffer)) (Report.Formatted (S (geometry (bare u))))
+        (Leaving.HeadsAt (spot .cylinder))) ⌝ }
 {
     Verdict::Do(Plan {
         moving: Moving::Track(spot, k.buffer),

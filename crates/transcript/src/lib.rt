@@ -68,7 +68,9 @@ fn fits(buffer: &[u8], used: usize) -> bool
 }
 
 fn has_room(host: &[u8], image0: &[u8], image1: &[u8], text: &[u8], s: State) -> bool
-    ensures { λ r. ⌜ Says r (SessionRoom s (lentOf (now (host .entry)) (now (image0 .entry)) (now (image1 .entry)) (now (text .entry)) [] [])) ⌝ }
+    ensures { λ r. ⌜ (
+        let before = lentOf (now (host .entry)) (now (image0 .entry)) (now (image1 .entry)) (now (text .entry)) [] [] in
+        Says r (SessionRoom s before)) ⌝ }
 {
     if !fits(host, s.host) {
         return false;
@@ -97,8 +99,12 @@ pub fn step(
     map1: &mut [u32; 64],
     s: State,
 ) -> Said
-    ensures { λ r. ⌜ spokenOf r (lentOf (now (host .exit)) (now (image0 .exit)) (now (image1 .exit)) (now (text .exit)) (now (map0 .exit)) (now (map1 .exit)))
-        ≡ spoken (now (field .entry)) s (lentOf (now (host .entry)) (now (image0 .entry)) (now (image1 .entry)) (now (text .entry)) (now (map0 .entry)) (now (map1 .entry))) ⌝ }
+    ensures { λ r. ⌜ (
+        let before = lentOf (now (host .entry)) (now (image0 .entry)) (now (image1 .entry)) (now (text .entry)) (now (map0 .entry))
+        (now (map1 .entry)) in
+        let after = lentOf (now (host .exit)) (now (image0 .exit)) (now (image1 .exit)) (now (text .exit)) (now (map0 .exit))
+        (now (map1 .exit)) in
+        spokenOf r after ≡ spoken (now (field .entry)) s before) ⌝ }
 {
     if !has_room(host, image0, image1, text, s) {
         return Said {

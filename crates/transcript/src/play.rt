@@ -39,9 +39,15 @@ fn run(
     s: State,
     at: u64,
 ) -> Said
-    requires { ⌜ SessionRoom s (lentOf (now host) (now image0) (now image1) (now text) (now map0) (now map1)) × ((longOf (now field) ≡ 5) × (8 ≤ length (now field))) ⌝ }
-    ensures { λ r. ⌜ spokenOf r (lentOf (now (host .exit)) (now (image0 .exit)) (now (image1 .exit)) (now (text .exit)) (now (map0 .exit)) (now (map1 .exit)))
-        ≡ went (runHeard (endingOf (heldIn s (lentOf (now (host .entry)) (now (image0 .entry)) (now (image1 .entry)) (now (text .entry)) (now (map0 .entry)) (now (map1 .entry)))) (bytesIn (now (field .entry))))) at (lentOf (now (host .entry)) (now (image0 .entry)) (now (image1 .entry)) (now (text .entry)) (now (map0 .entry)) (now (map1 .entry))) ⌝ }
+    requires { ⌜
+        SessionRoom s (lentOf (now host) (now image0) (now image1) (now text) (now map0) (now map1)) ×
+        ((longOf (now field) ≡ 5) × (8 ≤ length (now field))) ⌝ }
+    ensures { λ r. ⌜ (
+        let before = lentOf (now (host .entry)) (now (image0 .entry)) (now (image1 .entry)) (now (text .entry)) (now (map0 .entry))
+        (now (map1 .entry)) in
+        let after = lentOf (now (host .exit)) (now (image0 .exit)) (now (image1 .exit)) (now (text .exit)) (now (map0 .exit))
+        (now (map1 .exit)) in
+        spokenOf r after ≡ went (runHeard (endingOf (heldIn s before) (bytesIn (now (field .entry))))) at before) ⌝ }
 {
     let first = wire::be32(field, 3);
     let allowance = field[7] as u32;
@@ -88,8 +94,13 @@ pub(crate) fn hear(
     s: State,
 ) -> Said
     requires { ⌜ SessionRoom s (lentOf (now host) (now image0) (now image1) (now text) (now map0) (now map1)) × Field (now field) ⌝ }
-    ensures { λ r. ⌜ spokenOf r (lentOf (now (host .exit)) (now (image0 .exit)) (now (image1 .exit)) (now (text .exit)) (now (map0 .exit)) (now (map1 .exit)))
-        ≡ went (heard (heldIn s (lentOf (now (host .entry)) (now (image0 .entry)) (now (image1 .entry)) (now (text .entry)) (now (map0 .entry)) (now (map1 .entry)))) (tagOf (now (field .entry))) (bytesIn (now (field .entry)))) (s .at + (3 + longOf (now (field .entry)))) (lentOf (now (host .entry)) (now (image0 .entry)) (now (image1 .entry)) (now (text .entry)) (now (map0 .entry)) (now (map1 .entry))) ⌝ }
+    ensures { λ r. ⌜ (
+        let before = lentOf (now (host .entry)) (now (image0 .entry)) (now (image1 .entry)) (now (text .entry)) (now (map0 .entry))
+        (now (map1 .entry)) in
+        let after = lentOf (now (host .exit)) (now (image0 .exit)) (now (image1 .exit)) (now (text .exit)) (now (map0 .exit))
+        (now (map1 .exit)) in
+        spokenOf r after ≡ went (heard (heldIn s before) (tagOf (now (field .entry))) (bytesIn (now (field .entry))))
+        (s .at + (3 + longOf (now (field .entry)))) before) ⌝ }
 {
     let tag = field[0];
     let long = wire::be16(field, 1) as usize;

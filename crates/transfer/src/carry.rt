@@ -25,7 +25,8 @@ pub(crate) struct Cursor {
 fn copy_run(host: &mut [u8], h: usize, image: &mut [u8], d: usize, n: usize, to_host: bool)
     requires { ⌜ (h + n ≤ length (now host)) × (d + n ≤ length (now image)) ⌝ }
     ensures to { λ _. ⌜ now (host .exit) ≡ cond «to_host» (copied (now (image .entry)) d (now (host .entry)) h n) (now (host .entry)) ⌝ }
-    ensures from { λ _. ⌜ now (image .exit) ≡ cond «to_host» (now (image .entry)) (copied (now (host .entry)) h (now (image .entry)) d n) ⌝ }
+    ensures from { λ _. ⌜
+        now (image .exit) ≡ cond «to_host» (now (image .entry)) (copied (now (host .entry)) h (now (image .entry)) d n) ⌝ }
 {
     if to_host {
         wire::copy(image, d, host, h, n);
@@ -63,7 +64,9 @@ fn next_run(u: Record, table: &[u32; 64], span: Span, next: u16) -> Cursor
 
 // The cursor itself while it has bytes left, and then the next run's.
 fn ready(u: Record, table: &[u32; 64], span: Span, c: Cursor) -> Cursor
-    requires { ⌜ Spans (unitOf u (now table)) span × (On (unitOf u (now table)) span (behind (bare u) c) c × (behind (bare u) c < span .count * B (geometry (bare u)))) ⌝ }
+    requires { ⌜
+        Spans (unitOf u (now table)) span × (On (unitOf u (now table)) span (behind (bare u) c) c ×
+        (behind (bare u) c < span .count * B (geometry (bare u)))) ⌝ }
     ensures { λ r. ⌜ Ready (unitOf u (now (table .entry))) span (behind (bare u) c) r ⌝ }
 {
     if 0 < c.left {
@@ -105,7 +108,10 @@ fn carry_piece(
     n: usize,
 ) -> Cursor
     requires { ⌜ CarryFits (unitOf u (now table)) span from at n (now host) (now image) ⌝ }
-    ensures { λ r. ⌜ Carried (unitOf u (now (table .entry))) span «to_host» (behind (bare u) from) at n (lent (now (host .entry)) (now (image .entry))) (lent (now (host .exit)) (now (image .exit))) r ⌝ }
+    ensures { λ r. ⌜ (
+        let before = lent (now (host .entry)) (now (image .entry)) in
+        let after = lent (now (host .exit)) (now (image .exit)) in
+        Carried (unitOf u (now (table .entry))) span «to_host» (behind (bare u) from) at n before after r) ⌝ }
 {
     let mut c = from;
     let mut done = 0;
@@ -144,8 +150,13 @@ pub(crate) fn carry(
     lengths: &[u32],
     addresses: &[u32],
 )
-    requires { ⌜ Spans (unitOf u (now table)) span × (InImage (unitOf u (now table)) span (length (now image)) × PiecesFit (length (now host)) (spanBytes (bare u) span) (now lengths) (now addresses)) ⌝ }
-    ensures { λ _. ⌜ lent (now (host .exit)) (now (image .exit)) ≡ after (upTo (spanBytes (bare u) span) (spanStores (unitOf u (now (table .entry))) span «to_host» (now (lengths .entry)) (now (addresses .entry)))) (lent (now (host .entry)) (now (image .entry))) ⌝ }
+    requires { ⌜
+        Spans (unitOf u (now table)) span × (InImage (unitOf u (now table)) span (length (now image)) × PiecesFit (length (now host))
+        (spanBytes (bare u) span) (now lengths) (now addresses)) ⌝ }
+    ensures { λ _. ⌜ (
+        let before = lent (now (host .entry)) (now (image .entry)) in
+        lent (now (host .exit)) (now (image .exit)) ≡ after (upTo (spanBytes (bare u) span)
+        (spanStores (unitOf u (now (table .entry))) span «to_host» (now (lengths .entry)) (now (addresses .entry)))) before) ⌝ }
 {
     let all = span_bytes(u, span);
     let mut c = Cursor {
@@ -167,7 +178,9 @@ pub(crate) fn carry(
 // The bytes of one sector, stored in n sectors that follow one another from an index of the image on.
 pub(crate) fn fill(host: &[u8], at: usize, image: &mut [u8], first: usize, bytes: usize, n: usize)
     requires { ⌜ (at + bytes ≤ length (now host)) × (0 < n → first + n * bytes ≤ length (now image)) ⌝ }
-    ensures { λ _. ⌜ lent (now (host .entry)) (now (image .exit)) ≡ after (upTo (n * bytes) (fillStore first at bytes)) (lent (now (host .entry)) (now (image .entry))) ⌝ }
+    ensures { λ _. ⌜ (
+        let before = lent (now (host .entry)) (now (image .entry)) in
+        lent (now (host .entry)) (now (image .exit)) ≡ after (upTo (n * bytes) (fillStore first at bytes)) before) ⌝ }
 {
     let mut to = first;
     let mut i = 0;

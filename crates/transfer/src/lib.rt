@@ -147,8 +147,13 @@ pub fn move_sectors(
     lengths: &[u32],
     addresses: &[u32],
 ) -> Attempt
-    ensures result { λ r. ⌜ r ≡ sectorsResult (length (now (host .entry))) (now (image .entry)) (unitOf u (now (table .entry))) span «to_host» «past_marks» (now (lengths .entry)) (now (addresses .entry)) .attempt ⌝ }
-    ensures stores { λ _. ⌜ lent (now (host .exit)) (now (image .exit)) ≡ after (sectorsResult (length (now (host .entry))) (now (image .entry)) (unitOf u (now (table .entry))) span «to_host» «past_marks» (now (lengths .entry)) (now (addresses .entry)) .stores) (lent (now (host .entry)) (now (image .entry))) ⌝ }
+    ensures result { λ r. ⌜
+        r ≡ sectorsResult (length (now (host .entry))) (now (image .entry)) (unitOf u (now (table .entry))) span «to_host» «past_marks»
+        (now (lengths .entry)) (now (addresses .entry)) .attempt ⌝ }
+    ensures stores { λ _. ⌜ (
+        let before = lent (now (host .entry)) (now (image .entry)) in
+        lent (now (host .exit)) (now (image .exit)) ≡ after (sectorsResult (length (now (host .entry))) (now (image .entry))
+        (unitOf u (now (table .entry))) span «to_host» «past_marks» (now (lengths .entry)) (now (addresses .entry)) .stores) before) ⌝ }
 {
     if !sectors_fit(
         u,
@@ -197,7 +202,10 @@ fn track_fits(u: Record, spot: Spot, at: u32, long: u64, image: u64) -> bool
 // Writes the bytes of one sector, from an address of host memory on, to every sector of a track.
 pub fn format_track(host: &[u8], image: &mut [u8], u: Record, spot: Spot, at: u32) -> Attempt
     ensures result { λ r. ⌜ r ≡ trackResult (length (now (host .entry))) (now (image .entry)) (bare u) spot at .attempt ⌝ }
-    ensures stores { λ _. ⌜ lent (now (host .entry)) (now (image .exit)) ≡ after (trackResult (length (now (host .entry))) (now (image .entry)) (bare u) spot at .stores) (lent (now (host .entry)) (now (image .entry))) ⌝ }
+    ensures stores { λ _. ⌜ (
+        let before = lent (now (host .entry)) (now (image .entry)) in
+        lent (now (host .entry)) (now (image .exit)) ≡ after (trackResult (length (now (host .entry))) (now (image .entry)) (bare u)
+        spot at .stores) before) ⌝ }
 {
     if !track_fits(u, spot, at, host.len() as u64, image.len() as u64) {
         return Attempt::Misfit;

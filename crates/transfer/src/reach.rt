@@ -114,7 +114,9 @@ fn advance(
 // How far a span comes, run after run until one is stopped.
 pub(crate) fn survey(image: &[u8], u: Record, table: &[u32; 64], span: Span, heeds: bool) -> Moved
     requires { ⌜ Spans (unitOf u (now table)) span × (need (geometry (bare u)) ≤ length (now image)) ⌝ }
-    ensures { λ r. ⌜ r ≡ reached (progressFrom (now (image .entry)) (unitOf u (now (table .entry))) (span .volume) heeds (span .first) (span .count)) ⌝ }
+    ensures { λ r. ⌜
+        r ≡ reached (progressFrom (now (image .entry)) (unitOf u (now (table .entry))) (span .volume) heeds (span .first)
+        (span .count)) ⌝ }
 {
     let volume = span.volume;
     let mut done: u16 = 0;

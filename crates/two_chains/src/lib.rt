@@ -54,8 +54,12 @@ fn run_on_its_own(
     units: Units,
     k: Chain,
 ) -> Outcome
-    ensures { λ r. ⌜ IsRunOf (chainOf k) (lentTo (now (host1 .entry)) (now (host2 .entry)) (now (image0 .entry)) (now (image1 .entry)) (now (events .entry)) (now (map0 .entry)) (now (map1 .entry)) units)
-        (lentTo (now (host1 .exit)) (now (host2 .exit)) (now (image0 .exit)) (now (image1 .exit)) (now (events .exit)) (now (map0 .exit)) (now (map1 .exit)) (r .units)) r ⌝ }
+    ensures { λ r. ⌜ (
+        let before = lentTo (now (host1 .entry)) (now (host2 .entry)) (now (image0 .entry)) (now (image1 .entry)) (now (events .entry))
+        (now (map0 .entry)) (now (map1 .entry)) units in
+        let after = lentTo (now (host1 .exit)) (now (host2 .exit)) (now (image0 .exit)) (now (image1 .exit)) (now (events .exit))
+        (now (map0 .exit)) (now (map1 .exit)) (r .units) in
+        IsRunOf (chainOf k) before after r) ⌝ }
 {
     let c = k.controller;
     match c {
@@ -100,8 +104,12 @@ fn in_turn(
     one: Chain,
     two: Chain,
 ) -> Twice
-    ensures { λ r. ⌜ ranBothOf r (bothOf (now (host1 .exit)) (now (host2 .exit)) (now (image0 .exit)) (now (image1 .exit)) (now (events1 .exit)) (now (events2 .exit)) (now (map0 .exit)) (now (map1 .exit)) (r .units))
-        ≡ ranBoth Order.FirstThenSecond (chainOf one) (chainOf two) (bothOf (now (host1 .entry)) (now (host2 .entry)) (now (image0 .entry)) (now (image1 .entry)) (now (events1 .entry)) (now (events2 .entry)) (now (map0 .entry)) (now (map1 .entry)) units) ⌝ }
+    ensures { λ r. ⌜ (
+        let before = bothOf (now (host1 .entry)) (now (host2 .entry)) (now (image0 .entry)) (now (image1 .entry)) (now (events1 .entry))
+        (now (events2 .entry)) (now (map0 .entry)) (now (map1 .entry)) units in
+        let after = bothOf (now (host1 .exit)) (now (host2 .exit)) (now (image0 .exit)) (now (image1 .exit)) (now (events1 .exit))
+        (now (events2 .exit)) (now (map0 .exit)) (now (map1 .exit)) (r .units) in
+        ranBothOf r after ≡ ranBoth Order.FirstThenSecond (chainOf one) (chainOf two) before) ⌝ }
 {
     let first = run_on_its_own(
         host1,
@@ -149,8 +157,12 @@ pub fn run_both(
     one: Chain,
     two: Chain,
 ) -> Twice
-    ensures { λ r. ⌜ ranBothOf r (bothOf (now (host1 .exit)) (now (host2 .exit)) (now (image0 .exit)) (now (image1 .exit)) (now (events1 .exit)) (now (events2 .exit)) (now (map0 .exit)) (now (map1 .exit)) (r .units))
-        ≡ ranBoth order (chainOf one) (chainOf two) (bothOf (now (host1 .entry)) (now (host2 .entry)) (now (image0 .entry)) (now (image1 .entry)) (now (events1 .entry)) (now (events2 .entry)) (now (map0 .entry)) (now (map1 .entry)) units) ⌝ }
+    ensures { λ r. ⌜ (
+        let before = bothOf (now (host1 .entry)) (now (host2 .entry)) (now (image0 .entry)) (now (image1 .entry)) (now (events1 .entry))
+        (now (events2 .entry)) (now (map0 .entry)) (now (map1 .entry)) units in
+        let after = bothOf (now (host1 .exit)) (now (host2 .exit)) (now (image0 .exit)) (now (image1 .exit)) (now (events1 .exit))
+        (now (events2 .exit)) (now (map0 .exit)) (now (map1 .exit)) (r .units) in
+        ranBothOf r after ≡ ranBoth order (chainOf one) (chainOf two) before) ⌝ }
 {
     match order {
         Order::FirstThenSecond => in_turn(
