@@ -4,7 +4,7 @@ use Prim.Native.Nat.{ℕ, zero, suc, _+_, _-_, _≤_, _<_}
 use mathlib.Core.Bool.{Bool, true, false}
 use mathlib.Core.List.{List, [], _∷_}
 use mathlib.Core.Logic.{by-cases, if-neg, if-pos}
-use mathlib.Core.Path.{_≡_, refl, ap, _∙_}
+use mathlib.Core.Path.{_≡_, refl, sym, ap, _∙_}
 use native.Mathlib.Decide.{decLt}
 use native.Mathlib.Nat.{add-assoc, add-zero}
 use native.Mathlib.Omega.{arith}
@@ -15,10 +15,22 @@ use Rattle.wire.specs.Memory.{InMemory}
 use Rattle.answers.specs.declared.BlockAnswer.{BlockAnswer}
 use Rattle.answers.specs.declared.BlockAnswer.the-variants.{Ended, Failed}
 use Rattle.answers.specs.declared.RunAnswer.{RunAnswer}
+use Rattle.answers.specs.RunNumbers.{blockNumber}
 use Rattle.board.specs.Chain.{Ending, counted, ends, executed, fetched, follows}
-use Rattle.demands.specs.Visits.{EndsWith, Linked, ToldByBlocks, Visit, blockOf, effectOf, leadsOn, onwards, sectorsOf, visits, worldLeft}
+use Rattle.demands.specs.Visits.{EndsWith, Linked, Visit, blockOf, effectOf, lastOf, leadsOn, onwards, sectorsOf, visits, worldLeft}
 use Rattle.board.proofs.Chains.{fetched-bad, fetched-spent}
 use Rattle.board.specs.World.{World}
+
+-- What a chain comes to from any block on, where some are counted before it: its counts are theirs, the last of them ends it, and what that one
+-- leaves is what the chain leaves.
+pub record ToldByBlocks (e : Ending) (vs : List Visit) (left : ℕ) (t : Count) (first : Visit) : Type 0 where
+  pub rest : List Visit
+  pub are : vs ≡ first ∷ rest
+  pub blocks : e .tally .blocks ≡ t .blocks + length (first ∷ rest)
+  pub sectors : e .tally .sectors ≡ t .sectors + sectorsOf (first ∷ rest)
+  pub last : EndsWith (e .answer) (left - length (first ∷ rest)) (lastOf first rest)
+  pub failed : e .failed ≡ blockNumber (effectOf (lastOf first rest) .answer)
+  pub leaves : e .world ≡ worldLeft (lastOf first rest)
 
 module _ (left : ℕ) (t : Count) (at : ℕ) (w : World) where
   abbrev pub here : Visit
@@ -36,15 +48,16 @@ module _ (left : ℕ) (t : Count) (at : ℕ) (w : World) where
 
   -- A chain that ends with its first block.
   alone :
-      (answer : RunAnswer) (failed : ℕ) → EndsWith answer failed left here →
+      (answer : RunAnswer) (failed : ℕ) → EndsWith answer left here → failed ≡ blockNumber (effectOf here .answer) →
       ToldByBlocks (ends answer failed then (worldLeft here)) (here ∷ []) (suc left) t here
-  alone answer failed so =
+  alone answer failed so number =
       record {
         rest = [];
         are = refl;
         blocks = omega arith;
         sectors = rw add-zero;
         last = rw sub-one so;
+        failed = number;
         leaves = refl;
       }
     where
@@ -61,6 +74,7 @@ module _ (left : ℕ) (t : Count) (at : ℕ) (w : World) where
         blocks = omega (arith, told .blocks);
         sectors = told .sectors ∙ add-assoc (t .sectors) (effectOf here .sectors) (sectorsOf (next ∷ told .rest));
         last = rw fewer (told .last);
+        failed = told .failed;
         leaves = told .leaves;
       }
     where
@@ -85,18 +99,18 @@ module _ (left : ℕ) (t : Count) (at : ℕ) (w : World) where
       (a : BlockAnswer) (k : Bool) → effectOf here .answer ≡ a → blockOf here .options .link ≡ k → Next →
       ToldByBlocks (follows a k then (worldLeft here) (fetched left then (blockOf here .link) (worldLeft here)))
       (here ∷ onwards a k (visits left (t .blocks + 1) (blockOf here .link) (worldLeft here))) (suc left) t here
-  by-end (Failed r) k is linked next = alone RunAnswer.BlockFailed _ (r, (refl, is))
-  by-end Ended false is linked next = alone RunAnswer.Done 0 (refl, (is, linked))
+  by-end (Failed r) k is linked next = alone RunAnswer.BlockFailed _ (r, is) (ap blockNumber (sym is))
+  by-end Ended false is linked next = alone RunAnswer.Done 0 (linked, is) (ap blockNumber (sym is))
   by-end Ended true is linked next =
       by-cases (decLt 0 left)
       (λ some.
       by-cases (inMemory? (worldLeft here .host) (blockOf here .link) 28)
       (λ good. on _ _ _ (next good some))
-      (λ bad. rw (fetched-bad left then (blockOf here .link) (worldLeft here) some bad, visits-bad some bad) (alone RunAnswer.LinkBad 0 (refl, (is, (linked, (some, bad)))))))
+      (λ bad. rw (fetched-bad left then (blockOf here .link) (worldLeft here) some bad, visits-bad some bad) (alone RunAnswer.LinkBad 0 (linked, is, bad, some) (ap blockNumber (sym is)))))
       (λ none.
       let spent : left ≡ 0 = omega arith in
       rw (fetched-spent left then (blockOf here .link) (worldLeft here) spent, visits-spent spent)
-      (alone RunAnswer.AllowanceSpent 0 (refl, (is, (linked, spent)))))
+      (alone RunAnswer.AllowanceSpent 0 (linked, is, spent) (ap blockNumber (sym is))))
 
 module _ (n : ℕ) (t : Count) (at : ℕ) (w : World) (good : InMemory (w .host) at 28) where
   pub fetched-step : fetched (suc n) t at w ≡ executed (fetched n) t at w

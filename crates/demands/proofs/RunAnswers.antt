@@ -4,7 +4,7 @@ use Prim.Native.Nat.{ℕ, zero, suc, _-_, _≤_, _<_}
 use mathlib.Core.Bool.{Bool, true, false}
 use mathlib.Core.List.{List, [], _∷_}
 use mathlib.Core.Logic.{_↔_, _⊎_, Dec·and, by-cases, if-neg, if-pos, inl, inr}
-use mathlib.Core.Path.{_≡_, sym, ap, _∙_}
+use mathlib.Core.Path.{_≡_, refl, sym, ap, _∙_}
 use native.Mathlib.Decide.{decLe, decLt}
 use native.Mathlib.Nat.{zero-add}
 use native.Mathlib.Omega.{arith}
@@ -17,57 +17,44 @@ use Rattle.answers.specs.declared.BlockAnswer.the-variants.{Ended, Failed}
 use Rattle.answers.specs.declared.Refusal.{Refusal}
 use Rattle.answers.specs.declared.RunAnswer.{RunAnswer}
 use Rattle.answers.specs.declared.RunAnswer.the-variants.{Done, EventsShort, AllowanceBad, FirstBad, BlockFailed, LinkBad, AllowanceSpent}
-use Rattle.answers.specs.RunNumbers.{runNumber}
+use Rattle.answers.specs.RunNumbers.{blockNumber, runNumber}
 use Rattle.answers.specs.Numbers.{refusalNumber}
 use Rattle.board.specs.Chain.{Ending, ends, nothing, ran}
-use Rattle.demands.specs.Visits.{EndsWith, Passes, ToldByBlocks, Visit, blockOf, effectOf, fetchedBy, lastOf, passes?, sectorsOf, visits}
-use Rattle.demands.proofs.Endings.{chain-told, visits-few}
+use Rattle.demands.specs.Visits.{EndsWith, Passes, RunTold, Visit, blockOf, effectOf, fetchedBy, lastFetched, passes?, sectorsOf, visits}
+use Rattle.demands.proofs.Endings.{ToldByBlocks, chain-told, visits-few}
 use Rattle.board.proofs.Runs.{ran-allowance-bad, ran-chain, ran-events-short, ran-first-bad}
 use Rattle.board.specs.World.{World}
 
 -- ---- one answer for one last block
 
--- The answer and the failed number that a last block's end leaves.
-record Reply : Type 0 where
-  answer : RunAnswer
-  failed : ℕ
+-- The answer that a last block's end leaves.
+after-end : BlockAnswer → Bool → ℕ → RunAnswer
+after-end (Failed r) k left = BlockFailed
+after-end Ended false left = Done
+after-end Ended true zero = AllowanceSpent
+after-end Ended true (suc left) = LinkBad
 
-after-end : BlockAnswer → Bool → ℕ → Reply
-after-end (Failed r) k left = record { answer = BlockFailed; failed = refusalNumber r }
-after-end Ended false left = record { answer = Done; failed = 0 }
-after-end Ended true zero = record { answer = AllowanceSpent; failed = 0 }
-after-end Ended true (suc left) = record { answer = LinkBad; failed = 0 }
-
-leaves-one :
-    (a : RunAnswer) (f left : ℕ) (v : Visit) → EndsWith a f left v →
-    _≡_ {A = Reply} (record { answer = a; failed = f }) (after-end (effectOf v .answer) (blockOf v .options .link) left)
+leaves-one : (a : RunAnswer) (left : ℕ) (v : Visit) → EndsWith a left v → a ≡ after-end (effectOf v .answer) (blockOf v .options .link) left
 unfolding after-end
-leaves-one Done f left v (f-is, (ended, unlinked)) = rw (f-is, ended, unlinked)
-leaves-one BlockFailed f left v (r, (f-is, failed)) = rw (f-is, failed)
-leaves-one LinkBad f left v (f-is, (ended, (linked, (some, bad)))) =
+leaves-one Done left v (unlinked, ended) = rw (ended, unlinked)
+leaves-one BlockFailed left v (r, failed) = rw failed
+leaves-one LinkBad left v (linked, ended, bad, some) =
     let one : left ≡ suc (left - 1) = omega arith in
-    rw (f-is, ended, linked, one)
-leaves-one AllowanceSpent f left v (f-is, (ended, (linked, none))) = rw (f-is, ended, linked, none)
-leaves-one EventsShort f left v so = absurd so
-leaves-one AllowanceBad f left v so = absurd so
-leaves-one FirstBad f left v so = absurd so
-
--- An answer that the last block's end allows is the one that was given.
-same-reply :
-    (a b : RunAnswer) (f g left : ℕ) (v : Visit) → EndsWith a f left v → EndsWith b g left v → (a ≡ b) × (f ≡ g)
-same-reply a b f g left v p q =
-    let same = leaves-one a f left v p ∙ sym (leaves-one b g left v q) in
-    (ap (λ (x : Reply). x .answer) same, ap (λ (x : Reply). x .failed) same)
+    rw (ended, linked, one)
+leaves-one AllowanceSpent left v (linked, ended, none) = rw (ended, linked, none)
+leaves-one EventsShort left v so = absurd so
+leaves-one AllowanceBad left v so = absurd so
+leaves-one FirstBad left v so = absurd so
 
 -- None of 1, 2 and 3 is a chain's.
-no-refusal : (a : RunAnswer) (f left : ℕ) (v : Visit) → EndsWith a f left v → 1 ≤ runNumber a → runNumber a ≤ 3 → ⊥
-no-refusal Done f left v so least most = omega arith
-no-refusal BlockFailed f left v so least most = omega arith
-no-refusal LinkBad f left v so least most = omega arith
-no-refusal AllowanceSpent f left v so least most = omega arith
-no-refusal EventsShort f left v so least most = so
-no-refusal AllowanceBad f left v so least most = so
-no-refusal FirstBad f left v so least most = so
+no-refusal : (a : RunAnswer) (left : ℕ) (v : Visit) → EndsWith a left v → 1 ≤ runNumber a → runNumber a ≤ 3 → ⊥
+no-refusal Done left v so least most = omega arith
+no-refusal BlockFailed left v so least most = omega arith
+no-refusal LinkBad left v so least most = omega arith
+no-refusal AllowanceSpent left v so least most = omega arith
+no-refusal EventsShort left v so least most = so
+no-refusal AllowanceBad left v so least most = so
+no-refusal FirstBad left v so least most = so
 
 -- ---- the whole run
 
@@ -82,27 +69,38 @@ module _ (first allowance : ℕ) (w : World) where
   abbrev one : Visit
   one = record { at = first; index = 0; world = w }
 
+  fetched-past : Passes first allowance w → fetchedBy first allowance w ≡ fetches
+  unfolding fetchedBy
+  fetched-past passes = if-pos (passes? first allowance w) passes _ _
+
   -- A run that passes the checks is its chain, told by the blocks that it fetches: it begins with no block and no sector, so
   -- its two counts are the number of these blocks and the sum of their sectors.
-  pub run-told : Passes first allowance w → ToldByBlocks end fetches allowance nothing one
+  pub run-told : Passes first allowance w → RunTold first allowance w
   run-told passes =
       let some : allowance ≡ suc (allowance - 1) = omega (arith, passes .least) in
+      let told : ToldByBlocks end fetches allowance nothing one =
       rw (ran-chain first allowance w (passes .events) (passes .least, passes .most) (passes .place), some)
-      (chain-told (allowance - 1) nothing first w (passes .place))
+      (chain-told (allowance - 1) nothing first w (passes .place)) in
+      let are = fetched-past passes ∙ told .are in
+      record {
+        answer = rw are (told .last);
+        failed = rw are (told .failed);
+        blocks = rw are (told .blocks ∙ zero-add _);
+        sectors = rw are (told .sectors ∙ zero-add _);
+        leaves = rw are (told .leaves);
+      }
 
-  -- 0, 4, 5 and 6: such a run has an answer, with a failed number, exactly where its last block ends it so. What is left is the
-  -- allowance less the blocks run.
+  -- 0, 4, 5 and 6: such a run has an answer exactly where its last block ends it so. What is left is the allowance less the blocks run.
   pub answered-exactly :
-      (passes : Passes first allowance w) (a : RunAnswer) (f : ℕ) →
-      ((end .answer ≡ a) × (end .failed ≡ f)) ↔
-      EndsWith a f (allowance - length fetches) (lastOf one (run-told passes .rest))
-  answered-exactly passes a f =
-      let told = run-told passes in
-      let so : EndsWith (end .answer) (end .failed) (allowance - length fetches) (lastOf one (told .rest)) =
-      rw (told .are) (told .last) in (
-        λ given. rw (← given .0, ← given .1) so,
-        λ ends-so. same-reply _ a _ f _ _ so ends-so,
-      )
+      Passes first allowance w → (a : RunAnswer) →
+      (end .answer ≡ a) ↔ EndsWith a (allowance - length (fetchedBy first allowance w)) (lastFetched first allowance w)
+  answered-exactly passes a =
+      let so = run-told passes .answer in
+      (λ is. rw (← is) so, λ ends-so. leaves-one _ _ _ so ∙ sym (leaves-one a _ _ ends-so))
+
+  -- "with answer 4 the failed block's answer number, 10 and up (otherwise 0)"
+  pub failed-exactly : Passes first allowance w → end .failed ≡ blockNumber (effectOf (lastFetched first allowance w) .answer)
+  failed-exactly passes = run-told passes .failed
 
   -- Where a run stands with its checks: refused by the first that fails, or past them all.
   data Stands : Type 0 where
@@ -129,7 +127,7 @@ module _ (first allowance : ℕ) (w : World) where
   answer-of e is = ap (λ (x : Ending). runNumber (x .answer)) is
 
   not-refused : Passes first allowance w → 1 ≤ runNumber (end .answer) → runNumber (end .answer) ≤ 3 → ⊥
-  not-refused passes = no-refusal (end .answer) _ _ _ (run-told passes .last)
+  not-refused passes = no-refusal (end .answer) _ _ (run-told passes .answer)
 
   -- 1: "event buffer under 512 bytes"
   pub answer-1-exactly : (end .answer ≡ EventsShort) ↔ (length (w .events) < 512)
@@ -193,9 +191,7 @@ module _ (first allowance : ℕ) (w : World) where
   unfolding fetchedBy
   counts-are-the-blocks =
       by-cases (passes? first allowance w)
-      (λ passes.
-      let told = run-told passes in
-      rw (if-pos (passes? first allowance w) passes _ _, told .are) (told .blocks ∙ zero-add _, told .sectors ∙ zero-add _))
+      (λ passes. (run-told passes .blocks, run-told passes .sectors))
       (λ refused.
       let e = by-standing refused stands in
       rw (if-neg (passes? first allowance w) refused _ _) (ap (λ (t : Count). t .blocks) e, ap (λ (t : Count). t .sectors) e))
@@ -211,9 +207,7 @@ module _ (first allowance : ℕ) (w : World) where
   unfolding fetchedBy
   blocks-within-the-allowance =
       by-cases (passes? first allowance w)
-      (λ passes.
-      let told = run-told passes in
-      omega (arith, told .blocks, ap length (told .are), visits-few allowance 0 first w))
+      (λ passes. omega (arith, run-told passes .blocks, ap length (fetched-past passes), visits-few allowance 0 first w))
       (λ refused. omega (arith, counts-are-the-blocks .0, ap length (if-neg (passes? first allowance w) refused (visits allowance 0 first w) [])))
 
   -- A run that does not pass leaves the world as it was.
@@ -230,21 +224,14 @@ module _ (first allowance : ℕ) (w : World) where
   pub failed-number : (end .failed ≡ 0) ⊎ ((v : Visit) × ((r : Refusal) × ((end .failed ≡ refusalNumber r) × (effectOf v .answer ≡ Failed r))))
   failed-number = by-standing stands
     where
-      of-end :
-          (a : RunAnswer) (f left : ℕ) (v : Visit) → EndsWith a f left v →
-          (f ≡ 0) ⊎ ((v : Visit) × ((r : Refusal) × ((f ≡ refusalNumber r) × (effectOf v .answer ≡ Failed r))))
-      of-end Done f left v so = inl (so .0)
-      of-end BlockFailed f left v (r, (is, failed)) = inr (v, (r, (is, failed)))
-      of-end LinkBad f left v so = inl (so .0)
-      of-end AllowanceSpent f left v so = inl (so .0)
-      of-end EventsShort f left v so = absurd so
-      of-end AllowanceBad f left v so = absurd so
-      of-end FirstBad f left v so = absurd so
+      of-block :
+          (v : Visit) (a : BlockAnswer) → effectOf v .answer ≡ a →
+          (blockNumber a ≡ 0) ⊎ ((v : Visit) × ((r : Refusal) × ((blockNumber a ≡ refusalNumber r) × (effectOf v .answer ≡ Failed r))))
+      of-block v Ended is = inl refl
+      of-block v (Failed r) is = inr (v, (r, (refl, is)))
 
       by-standing : Stands → (end .failed ≡ 0) ⊎ ((v : Visit) × ((r : Refusal) × ((end .failed ≡ refusalNumber r) × (effectOf v .answer ≡ Failed r))))
       by-standing (short less e) = inl (ap (λ (x : Ending). x .failed) e)
       by-standing (bad long no-good e) = inl (ap (λ (x : Ending). x .failed) e)
       by-standing (misplaced long good out e) = inl (ap (λ (x : Ending). x .failed) e)
-      by-standing (past passes) =
-          let told = run-told passes in
-          of-end (end .answer) (end .failed) (allowance - length (one ∷ told .rest)) (lastOf one (told .rest)) (told .last)
+      by-standing (past passes) = rw (run-told passes .failed) (of-block (lastFetched first allowance w) _ refl)

@@ -8,13 +8,12 @@ use mathlib.Core.Path.{_≡_}
 use native.Mathlib.Decide.{decLe, map-dec}
 use lib.IntN.{ℤ}
 use lib.ListN.{length}
-use Rattle.board.specs.declared.chain.Count.{Count}
 use Rattle.answers.specs.declared.BlockAnswer.{BlockAnswer}
 use Rattle.answers.specs.declared.BlockAnswer.the-variants.{Ended, Failed}
 use Rattle.answers.specs.declared.Refusal.{Refusal}
 use Rattle.answers.specs.declared.RunAnswer.{RunAnswer}
 use Rattle.answers.specs.declared.RunAnswer.the-variants.{Done, EventsShort, AllowanceBad, FirstBad, BlockFailed, LinkBad, AllowanceSpent}
-use Rattle.answers.specs.Numbers.{refusalNumber}
+use Rattle.answers.specs.RunNumbers.{blockNumber}
 use Rattle.iopb.specs.declared.Block.{Block}
 use Rattle.iopb.specs.Layout.{blockAt}
 use Rattle.wire.proofs.Decided.{inMemory?}
@@ -22,7 +21,7 @@ use Rattle.wire.specs.Memory.{InMemory}
 use Rattle.transfer.specs.Stores.{Store, bytesFrom, eventByte}
 use Rattle.block.specs.Block.{Effect}
 use Rattle.block.specs.Events.{InRange, entry}
-use Rattle.board.specs.Chain.{Ending}
+use Rattle.board.specs.Chain.{ran}
 use Rattle.board.specs.World.{World, effectAt, worldAfter}
 
 -- A block that was fetched: its address, how many were run before it, and the world before it.
@@ -100,7 +99,7 @@ abbrev pub Linked : List Visit → Type 0
 Linked [] = Unit {0}
 Linked (v ∷ vs) = leadsOn v vs × Linked vs
 
--- The last of some blocks, of which there is at least the first.
+-- The last of some blocks after a first one.
 abbrev pub lastOf : Visit → List Visit → Visit
 lastOf v [] = v
 lastOf v (x ∷ xs) = lastOf x xs
@@ -110,32 +109,46 @@ abbrev pub sectorsOf : List Visit → ℕ
 sectorsOf [] = 0
 sectorsOf (v ∷ vs) = effectOf v .sectors + sectorsOf vs
 
--- When each answer of a chain is given (01, Answer numbers 0, 4, 5 and 6), with the failed block's number beside it: of the last
--- block run, and of how much of the allowance was left after it.
-abbrev pub EndsWith : RunAnswer → ℕ → ℕ → Visit → Type 0
--- "last block had no link and ended 80"
-EndsWith Done failed left v = (failed ≡ 0) × ((effectOf v .answer ≡ Ended) × (blockOf v .options .link ≡ false))
--- "a block ended 82"
-EndsWith BlockFailed failed left v = (r : Refusal) × ((failed ≡ refusalNumber r) × (effectOf v .answer ≡ Failed r))
--- "linked address bad as in 3", with some of the allowance left: "6 before 5"
-EndsWith LinkBad failed left v =
-    (failed ≡ 0) ×
-    ((effectOf v .answer ≡ Ended) ×
-    ((blockOf v .options .link ≡ true) × ((0 < left) × (InMemory (worldLeft v .host) (blockOf v .link) 28 → ⊥))))
--- "allowance spent, last block 80 with LK set"
-EndsWith AllowanceSpent failed left v =
-    (failed ≡ 0) × ((effectOf v .answer ≡ Ended) × ((blockOf v .options .link ≡ true) × (left ≡ 0)))
--- 1, 2 and 3 are no chain's.
-EndsWith EventsShort failed left v = ⊥
-EndsWith AllowanceBad failed left v = ⊥
-EndsWith FirstBad failed left v = ⊥
+-- Of a block that was run: it ended 80, it ended 82, LK is set or not, and its link is "bad as in 3" in the memory that it left.
+abbrev pub Ended80 : Visit → Type 0
+Ended80 v = effectOf v .answer ≡ Ended
 
--- What a chain comes to, told by the blocks that it fetches: a first one and the rest. Its counts are theirs, the last of them ends
--- it, and what that one leaves is what the chain leaves.
-pub record ToldByBlocks (e : Ending) (vs : List Visit) (left : ℕ) (t : Count) (first : Visit) : Type 0 where
-  pub rest : List Visit
-  pub are : vs ≡ first ∷ rest
-  pub blocks : e .tally .blocks ≡ t .blocks + length (first ∷ rest)
-  pub sectors : e .tally .sectors ≡ t .sectors + sectorsOf (first ∷ rest)
-  pub last : EndsWith (e .answer) (e .failed) (left - length (first ∷ rest)) (lastOf first rest)
-  pub leaves : e .world ≡ worldLeft (lastOf first rest)
+abbrev pub Ended82 : Visit → Type 0
+Ended82 v = (r : Refusal) × (effectOf v .answer ≡ Failed r)
+
+abbrev pub LinkSet : Visit → Type 0
+LinkSet v = blockOf v .options .link ≡ true
+
+abbrev pub NoLink : Visit → Type 0
+NoLink v = blockOf v .options .link ≡ false
+
+abbrev pub LinkMisplaced : Visit → Type 0
+LinkMisplaced v = InMemory (worldLeft v .host) (blockOf v .link) 28 → ⊥
+
+-- When each answer of a chain is given (01, Answer numbers 0, 4, 5 and 6): by its last block, and by how much of the allowance was left after it.
+abbrev pub EndsWith : RunAnswer → (left : ℕ) → Visit → Type 0
+-- "last block had no link and ended 80"
+EndsWith Done left v = NoLink v × Ended80 v
+-- "a block ended 82"
+EndsWith BlockFailed left v = Ended82 v
+-- "linked address bad as in 3", with some of the allowance left: "6 before 5"
+EndsWith LinkBad left v = LinkSet v × Ended80 v × LinkMisplaced v × (0 < left)
+-- "allowance spent, last block 80 with LK set"
+EndsWith AllowanceSpent left v = LinkSet v × Ended80 v × (left ≡ 0)
+-- 1, 2 and 3 are no chain's.
+EndsWith EventsShort left v = ⊥
+EndsWith AllowanceBad left v = ⊥
+EndsWith FirstBad left v = ⊥
+
+-- The last block that a run fetches: the first, where it fetches no other.
+abbrev pub lastFetched : (first allowance : ℕ) → World → Visit
+lastFetched first allowance w = lastOf (record { at = first; index = 0; world = w }) (fetchedBy first allowance w)
+
+-- What a run comes to, told by the blocks that it fetches: its answer by the last of them, "with answer 4 the failed block's answer number, 10 and up
+-- (otherwise 0)", its counts by all of them; and what the last one leaves is what the run leaves.
+pub record RunTold (first allowance : ℕ) (w : World) : Type 0 where
+  pub answer : EndsWith (ran first allowance w .answer) (allowance - length (fetchedBy first allowance w)) (lastFetched first allowance w)
+  pub failed : ran first allowance w .failed ≡ blockNumber (effectOf (lastFetched first allowance w) .answer)
+  pub blocks : ran first allowance w .tally .blocks ≡ length (fetchedBy first allowance w)
+  pub sectors : ran first allowance w .tally .sectors ≡ sectorsOf (fetchedBy first allowance w)
+  pub leaves : ran first allowance w .world ≡ worldLeft (lastFetched first allowance w)

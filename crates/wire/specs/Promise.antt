@@ -7,20 +7,24 @@ abbrev pub Says : Bool → Type 0 → Type 0
 Says true P = P
 Says false P = P → ⊥
 
--- Of a function's promise, which speaks of lifetimes, arguments, result and parameters at exit: two results that it allows
--- are equal (01, How tightly each call is described: "Two results allowed by one promise are proved equal").
+-- A function's promise is a statement about one call of it: about its arguments, what it returned, and the parameters as they are at exit, where the
+-- lent bytes are. (Lifetimes come first, because the types of the rest name them.) The promise leaves one result: whatever was asked, if it allows that
+-- the call returned the one and it allows that it returned the other, the two are the same (01, How tightly each call is described: "Two results
+-- allowed by one promise are proved equal").
 abbrev pub OneResult {ℓ₀ ℓ₁ ℓ₂ ℓ₃} :
-    {K : Type ℓ₀} {A : K → Type ℓ₁} {R : K → Type ℓ₂} {E : K → Type ℓ₃} →
-    ((κ : K) → A κ → R κ → E κ → Type 0) →
+    {Lifetimes : Type ℓ₀} {Arguments : Lifetimes → Type ℓ₁} {Result : Lifetimes → Type ℓ₂} {AtExit : Lifetimes → Type ℓ₃} →
+    ((l : Lifetimes) → Arguments l → Result l → AtExit l → Type 0) →
     Type (ℓ₀ ⊔ ℓ₁ ⊔ ℓ₂ ⊔ ℓ₃)
-OneResult {K} {A} {R} {E} Post =
-    (κ : K) (a : A κ) (x y : R κ) (e f : E κ) → Post κ a x e → Post κ a y f → x ≡ y
+OneResult {Lifetimes} {Arguments} {Result} {AtExit} Promise =
+    (l : Lifetimes) (asked : Arguments l) (one other : Result l) (left left′ : AtExit l) →
+    Promise l asked one left → Promise l asked other left′ → one ≡ other
 
--- The same of all that a caller can see of an outcome, its lent bytes among it: `seen` says what that is.
+-- It leaves one outcome: the same of all that a caller can see, its lent bytes among it. `seen` says what that is, of a result and of what is left.
 abbrev pub OneOutcome {ℓ₀ ℓ₁ ℓ₂ ℓ₃} :
-    {K : Type ℓ₀} {A : K → Type ℓ₁} {R : K → Type ℓ₂} {E : K → Type ℓ₃} {Seen : Type 0} →
-    ((κ : K) → A κ → R κ → E κ → Type 0) →
-    ((κ : K) → R κ → E κ → Seen) →
+    {Lifetimes : Type ℓ₀} {Arguments : Lifetimes → Type ℓ₁} {Result : Lifetimes → Type ℓ₂} {AtExit : Lifetimes → Type ℓ₃} {Seen : Type 0} →
+    ((l : Lifetimes) → Arguments l → Result l → AtExit l → Type 0) →
+    ((l : Lifetimes) → Result l → AtExit l → Seen) →
     Type (ℓ₀ ⊔ ℓ₁ ⊔ ℓ₂ ⊔ ℓ₃)
-OneOutcome {K} {A} {R} {E} Post seen =
-    (κ : K) (a : A κ) (x y : R κ) (e f : E κ) → Post κ a x e → Post κ a y f → seen κ x e ≡ seen κ y f
+OneOutcome {Lifetimes} {Arguments} {Result} {AtExit} Promise seen =
+    (l : Lifetimes) (asked : Arguments l) (one other : Result l) (left left′ : AtExit l) →
+    Promise l asked one left → Promise l asked other left′ → seen l one left ≡ seen l other left′
