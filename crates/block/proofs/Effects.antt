@@ -1,18 +1,24 @@
--- The stores of a block in their movements: what performing stores, and then the finish.
--- Bytes stored in a row are written into one buffer; rows follow one another.
-use Prim.Native.Nat.{ℕ, _+_, _*_}
+-- A block's effect in its movements: what acting on its verdict comes to, with the holder that is left, and then the finish.
+-- A verdict refuses or has a plan, and of both it is so by definition. Bytes stored in a row are written into one buffer; rows follow one another.
+use Prim.Native.Nat.{ℕ, _+_, _-_, _*_}
 use mathlib.Core.Bool.{Bool}
 use mathlib.Core.List.{List, [], _∷_, _++_}
-use mathlib.Core.Path.{_≡_, sym, ap, _∙_}
+use mathlib.Core.Path.{_≡_, refl, sym, ap, _∙_}
 use lib.IntN.{ℤ}
+use lib.ListN.{length}
 use Rattle.answers.specs.declared.BlockAnswer.{BlockAnswer}
 use Rattle.answers.specs.Numbers.{statusOf}
+use Rattle.judge.specs.declared.Report.{Report}
+use Rattle.judge.specs.declared.Report.the-variants.{Nothing as Silent, Identity, Formatted}
 use Rattle.judge.specs.declared.Verdict.{Verdict}
+use Rattle.judge.specs.declared.Verdict.the-variants.{Refused, Do}
+use Rattle.judge.specs.Given.{on}
 use Rattle.judge.specs.Verdict.{verdict}
 use Rattle.iopb.specs.Ask.{taskOf}
 use Rattle.iopb.specs.Layout.{blockAt}
 use Rattle.iopb.specs.declared.Block.{Block}
 use Rattle.iopb.specs.Errors.{errorByte}
+use Rattle.iopb.specs.Identity.{identityBytes}
 use Rattle.unit.specs.Standing.{CountsAsInitialized, byValue}
 use Rattle.unit.proofs.Decided.{counts?}
 use Rattle.wire.specs.Promise.{Says}
@@ -22,9 +28,9 @@ use Rattle.transfer.proofs.Stays.{event-bytes-stored, host-bytes-stored}
 use Rattle.transfer.proofs.Stores.{after-append}
 use Rattle.block.specs.declared.Done.{Done}
 use Rattle.unit.specs.declared.Controller.{Controller}
-use Rattle.block.specs.Block.{Drive, Effect, asking, effectOn, finish, finished, holding, judged}
+use Rattle.block.specs.Block.{Drive, Effect, effectOn, finish, judged, reported}
 use Rattle.block.specs.Events.{entry}
-use Rattle.block.specs.Steps.{doneOf, three}
+use Rattle.block.specs.Steps.{Stores, actedOn, doneOf, finished, three}
 use Rattle.wire.specs.Storing.{written}
 
 pub host-written :
@@ -38,6 +44,11 @@ pub events-written :
     after (bytesFrom eventByte at ns) (three host image events) ≡ three host image (written events at ns)
 unfolding written
 events-written ns host image events at = event-bytes-stored ns at (three host image events)
+
+-- Bytes that were written into host memory, whatever lies beside it.
+pub row-made :
+    (ns host host′ : List ℕ) (at : ℕ) → host′ ≡ written host at ns → (image : List ℕ) → Stores (bytesFrom hostByte at ns) host image host′ image
+row-made ns host host′ at is image events = ap (λ (h : List ℕ). three h image events) is ∙ sym (host-written ns host image events at)
 
 module _ (b : Block) (at i : ℕ) (answer : BlockAnswer) (travel : ℤ) where
   -- The finish writes word 1 and the event entry.
@@ -61,13 +72,32 @@ module _ (b : Block) (at i : ℕ) (answer : BlockAnswer) (travel : ℤ) where
       three host′ image events′ ≡ after (finish b at i answer travel) (three host image events)
   finish-made host image events host′ events′ h e = (λ t. three (h t) image (e t)) ∙ sym (finish-leaves host image events)
 
--- The effect of a block whose verdict is known.
+-- The words that are reported, whatever they are, are bytes of host memory in a row.
+pub reported-row : (at : ℕ) (r : Report) → (from : ℕ) × ((ns : List ℕ) × (reported at r ≡ bytesFrom hostByte from ns))
+unfolding bytesFrom
+reported-row at Silent = (at, ([], refl))
+reported-row at Identity = (at + 4, (identityBytes, refl))
+reported-row at (Formatted n) = (at + 7, ((n - 1) ∷ 0x00 ∷ n ∷ [], refl))
+
+module _ (c : Controller) (host : List ℕ) (d : Drive) (at i : ℕ) where
+  -- What a block comes to by its verdict is what acting on that comes to, held and finished.
+  abbrev pub finishedBy : Verdict → Effect
+  finishedBy v = finished c (blockAt host at) at i v (actedOn host d at v)
+
+  judged-finished : (v : Verdict) → judged c host d at i v ≡ finishedBy v
+  judged-finished (Refused r) = refl
+  judged-finished (Do plan) = refl
+
+  pub effect-finished : effectOn c host d at i ≡ finishedBy (verdict (on c (d .unit) (length (d .image)) (taskOf host (blockAt host at)) host))
+  unfolding effectOn
+  effect-finished = judged-finished (verdict (on c (d .unit) (length (d .image)) (taskOf host (blockAt host at)) host))
+
+-- The effect of a block that was read, and whose verdict is known.
 pub effect-judged :
     (c : Controller) (host : List ℕ) (d : Drive) (at i : ℕ) (b : Block) (v : Verdict) → b ≡ blockAt host at →
-    verdict (asking c (taskOf host b) d host) ≡ v →
-    effectOn c host d at i ≡ finished b at i (holding c (b .options .reserve) v (judged host d at v))
-unfolding effectOn
-effect-judged c host d at i b v is judgement = rw (← judgement, is)
+    verdict (on c (d .unit) (length (d .image)) (taskOf host b) host) ≡ v →
+    effectOn c host d at i ≡ finished c b at i v (actedOn host d at v)
+effect-judged c host d at i b v is judgement = effect-finished c host d at i ∙ rw (← judgement, is)
 
 -- Two rows of stores, made one after the other.
 pub then-made :

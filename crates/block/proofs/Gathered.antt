@@ -30,8 +30,8 @@ use Rattle.transfer.proofs.Joined.{joined-one, joined-same, sum-same}
 use Rattle.transfer.proofs.Progress.{progress-most}
 use Rattle.transfer.proofs.Stores.{upTo-same}
 use Rattle.transfer.specs.Whole.{SectorsFit, TrackFits}
-use Rattle.block.specs.Block.{begun, dataByte, transferWith}
-use Rattle.block.specs.Steps.{Made, three}
+use Rattle.block.specs.Block.{begun, dataByte}
+use Rattle.block.specs.Steps.{Made, three, transferWith}
 
 -- Two ways to say where the data of a job lies that agree on all its bytes are one transfer.
 module _ (image : List ℕ) (u : UnitRecord) (j : Job) (f g : ℕ → ℕ) (same : (k : ℕ) → k < j .span .count * B (geometry u) → f k ≡ g k) where

@@ -11,8 +11,8 @@ use Rattle.unit.specs.declared.Holder.{Holder}
 use Rattle.unit.specs.Standing.{CountsAsInitialized, UnitRecord, byValue, heldBy, table}
 use Rattle.wire.specs.Promise.{Says}
 use Rattle.block.specs.declared.Performed.{Performed}
-use Rattle.block.specs.Block.{Performance, heldAfter, holderLeft}
-use Rattle.block.specs.Steps.{performedOf}
+use Rattle.block.specs.Block.{heldAfter, holderLeft}
+use Rattle.block.specs.Steps.{Performance, performedOf}
 use Rattle.unit.specs.Made.{bare}
 
 -- What was performed, with another record.

@@ -3,7 +3,7 @@
 -- The judge asks whether an image is long enough, what is moved stands on the drive, and no other store reaches the image.
 use Prim.Native.Nat.{ℕ, _+_, _*_}
 use mathlib.Core.List.{List, [], _∷_, _++_}
-use mathlib.Core.Path.{_≡_, refl, ap, _∙_}
+use mathlib.Core.Path.{_≡_, refl, sym, ap, _∙_}
 use native.Mathlib.Omega.{arith}
 use lib.ListN.{length}
 use lib.IntN.{ℤ}
@@ -20,6 +20,7 @@ use Rattle.judge.specs.declared.Plan.{Plan}
 use Rattle.judge.specs.declared.Verdict.{Verdict}
 use Rattle.judge.specs.declared.Verdict.the-variants.{Refused, Do}
 use Rattle.judge.specs.Fits.{MovingFits}
+use Rattle.judge.specs.Given.{on}
 use Rattle.judge.specs.Verdict.{verdict}
 use Rattle.judge.proofs.LetThrough.{plan-fits}
 use Rattle.judge.proofs.LongEnough.{long-enough-alike}
@@ -30,9 +31,10 @@ use Rattle.transfer.proofs.Marks.{StandsOnDrive, formatting-on-drive, moving-on
 use Rattle.transfer.proofs.PastMarks.{Below, below-both, comes-alike, data-alike, data-below, events-below, host-below, leave-alike}
 use Rattle.unit.specs.declared.Controller.{Controller}
 use Rattle.unit.specs.Standing.{UnitRecord, cylinder, geometry}
-use Rattle.block.specs.Block.{Performance, asking, begun, dataByte, effectOn, finish, finished, holding, judged, leftBy, reported, transferOf, travelled, wordsOf}
+use Rattle.block.specs.Block.{begun, dataByte, effectOn, finish, leftBy, reported, transferOf, travelled}
 use Rattle.block.specs.Events.{entry}
-use Rattle.block.specs.Steps.{driveWith, three}
+use Rattle.block.specs.Steps.{actedOn, driveWith, finished, three}
+use Rattle.block.proofs.Effects.{effect-finished, finishedBy, reported-row}
 
 -- The end of a block reaches word 1 and its entry.
 finish-below : (n : ℕ) (b : Block) (at i : ℕ) (answer : BlockAnswer) (travel : ℤ) → Below n (finish b at i answer travel)
@@ -55,7 +57,7 @@ moving-geometry u host (Track spot at) = refl
 module _
     (c : Controller) (host : List ℕ) (u : UnitRecord) (image other : List ℕ) (alike : SameSectors (geometry u) image other) (at i : ℕ) where
   verdict-on : List ℕ → Verdict
-  verdict-on im = verdict (asking c (taskOf host (blockAt host at)) (driveWith u im) host)
+  verdict-on im = verdict (on c u (length im) (taskOf host (blockAt host at)) host)
 
   one-verdict : verdict-on image ≡ verdict-on other
   unfolding verdict-on
@@ -68,7 +70,7 @@ module _
   same-sectors : (m : Moving) → SameSectors (transferOf host u m .geometry) image other
   same-sectors m = rw (moving-geometry u host m) alike
 
-  one-performance : (v : Verdict) → verdict-on image ≡ v → judged host (driveWith u image) at v ≡ judged host (driveWith u other) at v
+  one-performance : (v : Verdict) → verdict-on image ≡ v → actedOn host (driveWith u image) at v ≡ actedOn host (driveWith u other) at v
   one-performance (Refused r) is = refl
   one-performance (Do p) is =
       let t = transferOf host u (p .moving) in
@@ -83,31 +85,33 @@ module _
       }
 
   pub one-effect : effectOn c host (driveWith u image) at i ≡ effectOn c host (driveWith u other) at i
-  unfolding effectOn verdict-on
+  unfolding verdict-on
   one-effect =
-      let b = blockAt host at in
-      ap (λ (p : Performance). finished b at i (holding c (b .options .reserve) (verdict-on image) p)) (one-performance (verdict-on image) refl)
-      ∙ ap (λ (v : Verdict). finished b at i (holding c (b .options .reserve) v (judged host (driveWith u other) at v))) one-verdict
+      effect-finished c host (driveWith u image) at i
+      ∙ ap (finished c (blockAt host at) at i (verdict-on image)) (one-performance (verdict-on image) refl)
+      ∙ ap (finishedBy c host (driveWith u other) at i) one-verdict
+      ∙ sym (effect-finished c host (driveWith u other) at i)
 
   -- No store of the block reaches a byte after the marks, or takes one from there.
-  stores-below : (v : Verdict) → verdict-on image ≡ v → Below (need (geometry u)) (judged host (driveWith u image) at v .stores)
+  stores-below : (v : Verdict) → verdict-on image ≡ v → Below (need (geometry u)) (actedOn host (driveWith u image) at v .stores)
   stores-below (Refused r) is = tt
   stores-below (Do p) is =
       let t = transferOf host u (p .moving) in
       let moved : Below (need (geometry u)) (dataOn image t) = rw (moving-geometry u host (p .moving)) at (data-below image t (stands p is)) in
       let n = need (geometry u) in
-      let words = reported at (p .report) in
-      below-both n (begun at ++ dataOn image t) words
+      let words = reported-row at (p .report) in
+      below-both n (begun at ++ dataOn image t) (reported at (p .report))
       (below-both n (begun at) (dataOn image t) (host-below n (at + 2) (0x81 ∷ 0x00 ∷ [])) moved)
-      (host-below n (at + wordsOf (p .report) .from) (wordsOf (p .report) .bytes))
+      (rw (words .1 .1) (host-below n (words .0) (words .1 .0)))
 
   pub left-alike :
       (events : List ℕ) → let stores = effectOn c host (driveWith u image) at i .stores in
       SameButPast (geometry u) (after stores (three host image events)) (after stores (three host other events))
-  unfolding effectOn verdict-on
+  unfolding verdict-on
   left-alike events =
-      let p = judged host (driveWith u image) at (verdict-on image) in
-      leave-alike (geometry u) _ (three host image events) (three host other events)
+      let p = actedOn host (driveWith u image) at (verdict-on image) in
+      rw (effect-finished c host (driveWith u image) at i)
+      (leave-alike (geometry u) _ (three host image events) (three host other events)
       (below-both (need (geometry u)) (p .stores) (finish (blockAt host at) at i (p .answer) (p .travel)) (stores-below (verdict-on image) refl)
       (finish-below (need (geometry u)) (blockAt host at) at i (p .answer) (p .travel)))
-      (record { host = refl; events = refl; image = alike })
+      (record { host = refl; events = refl; image = alike }))

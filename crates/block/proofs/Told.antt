@@ -2,7 +2,7 @@
 -- They are stored last, and each byte of a row stands where it was stored.
 use Prim.Native.Nat.{ℕ, _+_, _*_, _≤_, _<_}
 use mathlib.Core.List.{List, [], _∷_, _++_}
-use mathlib.Core.Path.{_≡_, sym, ap, subst, _∙_}
+use mathlib.Core.Path.{_≡_, refl, sym, ap, _∙_}
 use native.Mathlib.Omega.{arith}
 use lib.IntN.{ℤ, pos}
 use lib.ListN.{getD, length, length-append, take, List·getD-append}
@@ -16,16 +16,17 @@ use Rattle.iopb.specs.Errors.{errorByte}
 use Rattle.iopb.specs.Layout.{blockAt}
 use Rattle.judge.specs.declared.Verdict.{Verdict}
 use Rattle.judge.specs.declared.Verdict.the-variants.{Refused}
+use Rattle.judge.specs.Given.{on}
 use Rattle.judge.specs.Verdict.{verdict}
 use Rattle.transfer.specs.Stores.{Buffers, after}
 use Rattle.transfer.proofs.Stays.{lengths-stay}
 use Rattle.transfer.proofs.Stores.{after-append}
 use Rattle.unit.specs.declared.Controller.{Controller}
-use Rattle.block.specs.Block.{Drive, Performance, asking, effectOn, finish, finished, holding, judged}
+use Rattle.block.specs.Block.{Drive, effectOn, finish}
 use Rattle.block.specs.Events.{entry, twosComplement}
-use Rattle.block.specs.Steps.{BlockRoom, three}
+use Rattle.block.specs.Steps.{BlockRoom, Performance, actedOn, three}
 use Rattle.block.specs.Tells.{Tells}
-use Rattle.block.proofs.Effects.{finish-leaves}
+use Rattle.block.proofs.Effects.{effect-finished, effect-judged, finish-leaves}
 use Rattle.wire.specs.Words.{fourBytes}
 use Rattle.wire.specs.Storing.{written}
 
@@ -78,25 +79,19 @@ module _ (host : List ℕ) (d : Drive) (at i : ℕ) (events : List ℕ) (room : 
   module _ (c : Controller) where
     -- How the block was judged, what performing it came to, and what is left.
     abbrev judgement : Verdict
-    judgement = verdict (asking c (taskOf host (blockAt host at)) d host)
+    judgement = verdict (on c (d .unit) (length (d .image)) (taskOf host (blockAt host at)) host)
 
     abbrev performance : Performance
-    performance = judged host d at judgement
+    performance = actedOn host d at judgement
 
     abbrev left : Buffers
     left = after (effectOn c host d at i .stores) (three host (d .image) events)
 
     -- Whatever the block did: its word 1 and its entry have the status and the error of its own answer.
     pub its-answer-is-told : Tells (blockAt host at) at i (effectOn c host d at i .answer) (performance .travel) left
-    unfolding effectOn
-    its-answer-is-told = finished-tells performance
+    its-answer-is-told = rw (effect-finished c host d at i) (finished-tells performance)
 
     -- Of a block refused before transfer: its answer is that of the refusal, and travel is zero.
     pub refusal-is-told : (r : Refusal) → judgement ≡ Refused r → Tells (blockAt host at) at i (BlockAnswer.Failed r) (pos 0) left
-    unfolding effectOn
     refusal-is-told r refused =
-        subst
-        (λ (v : Verdict).
-        Tells (blockAt host at) at i (BlockAnswer.Failed r) (pos 0)
-        (after (finished (blockAt host at) at i (holding c (blockAt host at .options .reserve) v (judged host d at v)) .stores) (three host (d .image) events)))
-        (sym refused) (finished-tells (judged host d at (Refused r)))
+        rw (effect-judged c host d at i (blockAt host at) (Refused r) refl refused) (finished-tells (actedOn host d at (Refused r)))

@@ -11,8 +11,8 @@ use Rattle.transfer.specs.Runs.{lent}
 use Rattle.transfer.specs.Stores.{Buffers, Store, after, upTo}
 use Rattle.transfer.proofs.Stores.{after-more}
 use Rattle.judge.specs.declared.Moving.{Moving}
-use Rattle.block.specs.Block.{begun, transferWith}
-use Rattle.block.specs.Steps.{Stores, three}
+use Rattle.block.specs.Block.{begun}
+use Rattle.block.specs.Steps.{Stores, three, transferWith}
 use Rattle.block.proofs.Effects.{host-written, then-made}
 use Rattle.unit.specs.Standing.{UnitRecord}
 use Rattle.wire.specs.Storing.{written}

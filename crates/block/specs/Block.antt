@@ -1,5 +1,4 @@
--- What one block does (01, One run), in three movements: it is judged, performed and finished. Its stores in order, and what becomes of its
--- unit's record.
+-- What one block does (01, One run): it is judged, and then refused or performed. Its stores in order, and what becomes of its unit's record.
 use Prim.Native.Nat.{ℕ, _+_, _-_, _*_}
 use mathlib.Core.Bool.{Bool, false}
 use mathlib.Core.List.{List, [], _∷_, _++_}
@@ -12,7 +11,6 @@ use Rattle.answers.specs.Numbers.{statusOf}
 use Rattle.geometry.specs.declared.VolumeNumber.{VolumeNumber}
 use Rattle.request.specs.declared.Buffer.{Buffer}
 use Rattle.request.specs.declared.Buffer.the-variants.{Piece, List as Elements}
-use Rattle.request.specs.declared.Task.{Task}
 use Rattle.unit.specs.declared.Controller.{Controller}
 use Rattle.unit.specs.Holding.{reservedBy}
 use Rattle.unit.specs.Landing.{spotOf}
@@ -36,63 +34,37 @@ use Rattle.judge.specs.declared.Report.{Report}
 use Rattle.judge.specs.declared.Report.the-variants.{Nothing as Silent, Identity, Formatted}
 use Rattle.judge.specs.declared.Verdict.{Verdict}
 use Rattle.judge.specs.declared.Verdict.the-variants.{Refused, Do}
-use Rattle.judge.specs.Given.{Asked}
+use Rattle.judge.specs.Given.{on}
 use Rattle.judge.specs.Verdict.{verdict}
 use Rattle.block.specs.Events.{entry, travelTo}
-
--- ---- judged
 
 -- A unit's drive: its record and its image.
 pub record Drive : Type 0 where
   pub unit : UnitRecord
   pub image : List ℕ
 
--- What is judged of a task that a controller asks on a drive.
-abbrev pub asking : Controller → Task → Drive → List ℕ → Asked
-asking c task d host = record { task = task; controller = c; unit = d .unit; image = length (d .image); host = host }
-
--- ---- performed
-
--- What performing a block comes to: its stores so far, its unit's record afterwards, its answer, the sectors moved, and how far the heads
--- went.
-pub record Performance : Type 0 where
+-- What a block comes to: its stores, its unit's record afterwards, its answer, and the sectors it moved.
+pub record Effect : Type 0 where
   pub stores : List Store
   pub unit : UnitRecord
   pub answer : BlockAnswer
   pub sectors : ℕ
-  pub travel : ℤ
+
+-- ---- what is moved
 
 -- Where in host memory byte k of the data lies: in one piece, or in the elements of a list, as they stood when it was read.
 abbrev pub dataByte : List ℕ → Buffer → ℕ → ℕ
 dataByte host (Piece at) k = at + k
 dataByte host (Elements at n) k = joined (λ i. elementOf host at i .bytes) (λ i. elementOf host at i .address) n 0 k
 
--- The transfer that is made, with byte k of a job's data at an index of host memory. To move nothing is a transfer of no sectors.
-abbrev pub transferWith : UnitRecord → Moving → (ℕ → ℕ) → Transfer
-transferWith u Nothing data-byte = moving u false false VolumeNumber.Zero 0 0 (λ k. 0)
-transferWith u (Sectors j) data-byte =
-    moving u (j .«to_host») (j .«past_marks») (j .span .volume) (j .span .first) (j .span .count) data-byte
-transferWith u (Track spot at) data-byte = formatting u spot at
-
-abbrev pub bufferOf : Moving → Buffer
-bufferOf Nothing = Piece 0
-bufferOf (Sectors j) = j .buffer
-bufferOf (Track spot at) = Piece at
-
+-- The transfer that is made. To move nothing is a transfer of no sectors.
 abbrev pub transferOf : List ℕ → UnitRecord → Moving → Transfer
-transferOf host u m = transferWith u m (dataByte host (bufferOf m))
+transferOf host u Nothing = moving u false false VolumeNumber.Zero 0 0 (λ k. 0)
+transferOf host u (Sectors j) =
+    moving u (j .«to_host») (j .«past_marks») (j .span .volume) (j .span .first) (j .span .count) (dataByte host (j .buffer))
+transferOf host u (Track spot at) = formatting u spot at
 
--- The words that are reported: from which byte of the block on, and their bytes. 86 "writes words 2 to 7 with this board's own identity"; of
--- 8C the "lower byte of word 3 is the last sector formatted, word 4 the number of sectors formatted" (02, K1). That is at most 255, so that the
--- upper byte of word 4 is 00.
-pub record Words : Type 0 where
-  pub from : ℕ
-  pub bytes : List ℕ
-
-abbrev pub wordsOf : Report → Words
-wordsOf Silent = record { from = 4; bytes = [] }
-wordsOf Identity = record { from = 4; bytes = identityBytes }
-wordsOf (Formatted n) = record { from = 7; bytes = (n - 1) ∷ 0x00 ∷ n ∷ [] }
+-- ---- what becomes of the record
 
 -- The record afterwards, of so many sectors moved. "After 81, 82, A1 or A2 the heads stand on the cylinder of the last sector tried"; "87
 -- replaces the unit record; the heads are at cylinder 0"; 85 adds its pair (02, K5).
@@ -112,35 +84,6 @@ travelled old (HeadsAtLastTried s) new = travelTo old new
 travelled old (Fresh g) new = pos 0
 travelled old (Mapped bad spare) new = pos 0
 
--- "status 81 and error 00 are stored in the block; then the transfer happens"; the words that are reported come after it.
-abbrev pub begun : ℕ → List Store
-begun at = bytesFrom hostByte (at + 2) (0x81 ∷ 0x00 ∷ [])
-
-abbrev pub reported : ℕ → Report → List Store
-reported at r = bytesFrom hostByte (at + wordsOf r .from) (wordsOf r .bytes)
-
-abbrev pub performed : List ℕ → Drive → ℕ → Plan → Performance
-performed host d at plan =
-    let t = transferOf host (d .unit) (plan .moving) in
-    let p = progressOn (d .image) t in
-    let unit = leftBy (d .unit) (p .sectors) (plan .leaving) in
-    record {
-      stores = begun at ++ dataOn (d .image) t ++ reported at (plan .report);
-      unit = unit;
-      answer = p .answer;
-      sectors = p .sectors;
-      travel = travelled (cylinder (d .unit)) (plan .leaving) (cylinder unit);
-    }
-
--- "For 10 to 19", and for 22 to 24 (02, K5 and K10), "only the block's word 1 and its event entry change"; travel is "zero for .. a block refused
--- before transfer".
-abbrev pub refused : Drive → Refusal → Performance
-refused d r = record { stores = []; unit = d .unit; answer = BlockAnswer.Failed r; sectors = 0; travel = pos 0 }
-
-abbrev pub judged : List ℕ → Drive → ℕ → Verdict → Performance
-judged host d at (Refused r) = refused d r
-judged host d at (Do plan) = performed host d at plan
-
 -- Who holds the drive afterwards: "RV on a successful block takes or keeps the drive; a successful block without RV gives it up .. A failed block leaves
 -- the holder as it was" (02, K10).
 abbrev pub heldAfter : Controller → (reserve : Bool) → BlockAnswer → UnitRecord → UnitRecord
@@ -155,28 +98,18 @@ holderLeft c reserve (HeadsAtLastTried s) answer u = heldAfter c reserve answer 
 holderLeft c reserve (Fresh g) answer u = heldAfter c reserve answer u
 holderLeft c reserve (Mapped bad spare) answer u = heldAfter c reserve answer u
 
-abbrev pub heldUnit : Controller → (reserve : Bool) → Verdict → BlockAnswer → UnitRecord → UnitRecord
-heldUnit c reserve (Refused r) answer u = u
-heldUnit c reserve (Do plan) answer u = holderLeft c reserve (plan .leaving) answer u
+-- ---- what is stored
 
-abbrev pub holding : Controller → (reserve : Bool) → Verdict → Performance → Performance
-holding c reserve v p =
-    record {
-      stores = p .stores;
-      unit = heldUnit c reserve v (p .answer) (p .unit);
-      answer = p .answer;
-      sectors = p .sectors;
-      travel = p .travel;
-    }
+-- In the block at an address: "status 81 and error 00 are stored in the block; then the transfer happens";
+abbrev pub begun : ℕ → List Store
+begun at = bytesFrom hostByte (at + 2) (0x81 ∷ 0x00 ∷ [])
 
--- ---- finished
-
--- What a block comes to: its stores, its unit's record afterwards, its answer, and the sectors it moved.
-pub record Effect : Type 0 where
-  pub stores : List Store
-  pub unit : UnitRecord
-  pub answer : BlockAnswer
-  pub sectors : ℕ
+-- the words that are reported come after it. 86 "writes words 2 to 7 with this board's own identity"; of 8C the "lower byte of word 3 is the last
+-- sector formatted, word 4 the number of sectors formatted" (02, K1). That is at most 255, so that the upper byte of word 4 is 00.
+abbrev pub reported : ℕ → Report → List Store
+reported at Silent = []
+reported at Identity = bytesFrom hostByte (at + 4) identityBytes
+reported at (Formatted n) = bytesFrom hostByte (at + 7) ((n - 1) ∷ 0x00 ∷ n ∷ [])
 
 -- A block at an address, run after i others: "the final status and error" in word 1, and "The event entry for the k-th block, k from 1, is
 -- the 8 bytes at 8(k - 1)".
@@ -185,21 +118,35 @@ finish b at i answer travel =
     bytesFrom hostByte (at + 2) (statusOf answer ∷ errorByte answer ∷ []) ++
     bytesFrom eventByte (8 * i) (entry b answer travel)
 
-abbrev pub finished : Block → ℕ → ℕ → Performance → Effect
-finished b at i p =
-    record {
-      stores = p .stores ++ finish b at i (p .answer) (p .travel);
-      unit = p .unit;
-      answer = p .answer;
-      sectors = p .sectors;
-    }
-
 -- ---- a block
 
--- What the block at an address, of a controller's chain, does on a unit's drive, run after i others: "The 28 bytes are copied out, then judged." The
--- holder changes with the record.
+-- The block at an address, of a controller's chain, on its unit's drive, run after i others.
+module _ (c : Controller) (host : List ℕ) (d : Drive) (at i : ℕ) where
+  -- "For 10 to 19", and for 22 to 24 (02, K5 and K10), "only the block's word 1 and its event entry change"; travel is "zero for .. a block refused
+  -- before transfer".
+  abbrev pub refused : Refusal → Effect
+  refused r = record { stores = finish (blockAt host at) at i (Failed r) (pos 0); unit = d .unit; answer = Failed r; sectors = 0 }
+
+  -- The holder changes with the record.
+  abbrev pub performed : Plan → Effect
+  performed plan =
+      let b = blockAt host at in
+      let t = transferOf host (d .unit) (plan .moving) in
+      let p = progressOn (d .image) t in
+      let unit = leftBy (d .unit) (p .sectors) (plan .leaving) in
+      let travel = travelled (cylinder (d .unit)) (plan .leaving) (cylinder unit) in
+      record {
+        stores = begun at ++ dataOn (d .image) t ++ reported at (plan .report) ++ finish b at i (p .answer) travel;
+        unit = holderLeft c (b .options .reserve) (plan .leaving) (p .answer) unit;
+        answer = p .answer;
+        sectors = p .sectors;
+      }
+
+  abbrev pub judged : Verdict → Effect
+  judged (Refused r) = refused r
+  judged (Do plan) = performed plan
+
+-- What it does: "The 28 bytes are copied out, then judged."
 unfoldable pub effectOn : Controller → List ℕ → Drive → ℕ → ℕ → Effect
 effectOn c host d at i =
-    let b = blockAt host at in
-    let v = verdict (asking c (taskOf host b) d host) in
-    finished b at i (holding c (b .options .reserve) v (judged host d at v))
+    judged c host d at i (verdict (on c (d .unit) (length (d .image)) (taskOf host (blockAt host at)) host))

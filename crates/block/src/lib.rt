@@ -32,8 +32,8 @@ ghost use Rattle.judge.specs.declared.Report.{Report};
 ghost use Rattle.judge.specs.Fits.{JobGood, LeavingFits, MovingFits, PlanFits, ReportFits, SpanGood};
 ghost use Rattle.answers.specs.declared.BlockAnswer.{BlockAnswer};
 ghost use Rattle.request.specs.declared.Buffer.{Buffer};
-ghost use Rattle.block.specs.Block.{effectOn, finish, heldAfter, holderLeft, leftBy, performed, refused, transferOf, transferWith, travelled, wordsOf};
-ghost use Rattle.block.specs.Steps.{Carries, Did, Knows, Made, Performs, Ready, BlockRoom, driveWith, performedOf, tableBy, three};
+ghost use Rattle.block.specs.Block.{effectOn, finish, heldAfter, holderLeft, leftBy, reported, transferOf, travelled};
+ghost use Rattle.block.specs.Steps.{Carries, Did, Knows, Made, Performs, Ready, BlockRoom, Stores, carriedOut, driveWith, performedOf, tableBy, three, transferWith, turnedDown};
 ghost use Rattle.transfer.specs.declared.Attempt.{Attempt};
 ghost use Rattle.transfer.specs.declared.Moved.{Moved};
 ghost use Rattle.transfer.specs.Progress.{lastTried};
@@ -102,7 +102,7 @@ fn put_formatted(host: &mut [u8], at: usize, sectors: u16)
 // The words that a block reports.
 fn put_report(host: &mut [u8], at: usize, report: Report)
     requires { ⌜ (at + 28 ≤ length (now host)) × ReportFits report ⌝ }
-    ensures { λ _. ⌜ now (host .exit) ≡ written (now (host .entry)) (at + wordsOf report .from) (wordsOf report .bytes) ⌝ }
+    ensures { λ _. ⌜ ((image : List ℕ) → Stores (reported at report) (now (host .entry)) image (now (host .exit)) image) ⌝ }
 {
     match report {
         Report::Nothing => {}
@@ -142,8 +142,12 @@ fn begin(
     lengths: &[u32],
     addresses: &[u32],
 ) -> Moved
-    requires { ⌜ (at + 28 ≤ length (now host)) × Ready (unitOf u (now table)) moving (now lengths) (now addresses) (length (now host)) (length (now image)) ⌝ }
-    ensures { λ m. ⌜ Made (transferWith (unitOf u (now (table .entry))) moving (pieceByte (now (lengths .entry)) (now (addresses .entry)))) at (now (host .entry)) (now (image .entry)) (now (host .exit)) (now (image .exit)) m ⌝ }
+    requires { ⌜
+        (at + 28 ≤ length (now host)) × Ready (unitOf u (now table)) moving (now lengths) (now addresses) (length (now host))
+        (length (now image)) ⌝ }
+    ensures { λ m. ⌜
+        Made (transferWith (unitOf u (now (table .entry))) moving (pieceByte (now (lengths .entry)) (now (addresses .entry)))) at
+        (now (host .entry)) (now (image .entry)) (now (host .exit)) (now (image .exit)) m ⌝ }
 {
     put_status(host, at, 0x81, 0x00);
     match moving {
@@ -191,8 +195,12 @@ fn in_one_piece(
     job: Job,
     address: u32,
 ) -> Moved
-    requires { ⌜ (at + 28 ≤ length (now host)) × ((job .buffer ≡ Buffer.Piece address) × JobGood (unitOf u (now table)) (length (now image)) (now host) job) ⌝ }
-    ensures { λ m. ⌜ Made (transferOf (now (host .entry)) (unitOf u (now (table .entry))) (Moving.Sectors job)) at (now (host .entry)) (now (image .entry)) (now (host .exit)) (now (image .exit)) m ⌝ }
+    requires { ⌜
+        (at + 28 ≤ length (now host)) × ((job .buffer ≡ Buffer.Piece address) × JobGood (unitOf u (now table)) (length (now image))
+        (now host) job) ⌝ }
+    ensures { λ m. ⌜
+        Made (transferOf (now (host .entry)) (unitOf u (now (table .entry))) (Moving.Sectors job)) at (now (host .entry))
+        (now (image .entry)) (now (host .exit)) (now (image .exit)) m ⌝ }
 {
     let span = job.span;
     let lengths = [job_bytes(u, span)];
@@ -220,8 +228,12 @@ fn through_list(
     address: u32,
     elements: u8,
 ) -> Moved
-    requires { ⌜ (at + 28 ≤ length (now host)) × ((job .buffer ≡ Buffer.List address elements) × JobGood (unitOf u (now table)) (length (now image)) (now host) job) ⌝ }
-    ensures { λ m. ⌜ Made (transferOf (now (host .entry)) (unitOf u (now (table .entry))) (Moving.Sectors job)) at (now (host .entry)) (now (image .entry)) (now (host .exit)) (now (image .exit)) m ⌝ }
+    requires { ⌜
+        (at + 28 ≤ length (now host)) × ((job .buffer ≡ Buffer.List address elements) × JobGood (unitOf u (now table))
+        (length (now image)) (now host) job) ⌝ }
+    ensures { λ m. ⌜
+        Made (transferOf (now (host .entry)) (unitOf u (now (table .entry))) (Moving.Sectors job)) at (now (host .entry))
+        (now (image .entry)) (now (host .exit)) (now (image .exit)) m ⌝ }
 {
     let pieces = memory::copy_out(host, address, elements);
     let n = elements as usize;
@@ -248,7 +260,9 @@ fn carry_job(
     job: Job,
 ) -> Moved
     requires { ⌜ (at + 28 ≤ length (now host)) × JobGood (unitOf u (now table)) (length (now image)) (now host) job ⌝ }
-    ensures { λ m. ⌜ Made (transferOf (now (host .entry)) (unitOf u (now (table .entry))) (Moving.Sectors job)) at (now (host .entry)) (now (image .entry)) (now (host .exit)) (now (image .exit)) m ⌝ }
+    ensures { λ m. ⌜
+        Made (transferOf (now (host .entry)) (unitOf u (now (table .entry))) (Moving.Sectors job)) at (now (host .entry))
+        (now (image .entry)) (now (host .exit)) (now (image .exit)) m ⌝ }
 {
     let buffer = job.buffer;
     match buffer {
@@ -275,8 +289,12 @@ fn without_pieces(
     at: usize,
     moving: Moving,
 ) -> Moved
-    requires { ⌜ (at + 28 ≤ length (now host)) × Ready (unitOf u (now table)) moving (0 ∷ []) (0 ∷ []) (length (now host)) (length (now image)) ⌝ }
-    ensures { λ m. ⌜ Made (transferWith (unitOf u (now (table .entry))) moving (pieceByte (0 ∷ []) (0 ∷ []))) at (now (host .entry)) (now (image .entry)) (now (host .exit)) (now (image .exit)) m ⌝ }
+    requires { ⌜
+        (at + 28 ≤ length (now host)) × Ready (unitOf u (now table)) moving (0 ∷ []) (0 ∷ []) (length (now host))
+        (length (now image)) ⌝ }
+    ensures { λ m. ⌜
+        Made (transferWith (unitOf u (now (table .entry))) moving (pieceByte (0 ∷ []) (0 ∷ []))) at (now (host .entry))
+        (now (image .entry)) (now (host .exit)) (now (image .exit)) m ⌝ }
 {
     let none = [0u32];
     begin(host, image, u, table, at, moving, &none, &none)
@@ -292,7 +310,9 @@ fn carry(
     moving: Moving,
 ) -> Moved
     requires { ⌜ (at + 28 ≤ length (now host)) × MovingFits (unitOf u (now table)) (length (now image)) (now host) moving ⌝ }
-    ensures { λ m. ⌜ Made (transferOf (now (host .entry)) (unitOf u (now (table .entry))) moving) at (now (host .entry)) (now (image .entry)) (now (host .exit)) (now (image .exit)) m ⌝ }
+    ensures { λ m. ⌜
+        Made (transferOf (now (host .entry)) (unitOf u (now (table .entry))) moving) at (now (host .entry)) (now (image .entry))
+        (now (host .exit)) (now (image .exit)) m ⌝ }
 {
     match moving {
         Moving::Nothing => without_pieces(host, image, u, table, at, moving),
@@ -351,7 +371,9 @@ fn leave_table(u: Record, table: &mut [u32; 64], leaving: Leaving)
 
 // Whether the unit counts as initialized then, told without a look at its table.
 fn counts_then(counts: bool, leaving: Leaving) -> bool
-    ensures { λ r. ⌜ ((u : UnitRecord) (moved : ℕ) → Says counts (CountsAsInitialized u) → LeavingFits u leaving → Says r (CountsAsInitialized (leftBy u moved leaving))) ⌝ }
+    ensures { λ r. ⌜
+        ((u : UnitRecord) (moved : ℕ) → Says counts (CountsAsInitialized u) → LeavingFits u leaving → Says r
+        (CountsAsInitialized (leftBy u moved leaving))) ⌝ }
 {
     match leaving {
         Leaving::AsItWas => counts,
@@ -385,7 +407,9 @@ fn carry_and_report(
     plan: Plan,
 ) -> Moved
     requires { ⌜ (at + 28 ≤ length (now host)) × PlanFits (unitOf u (now table)) (length (now image)) (now host) plan ⌝ }
-    ensures { λ m. ⌜ Carries (now (host .entry)) (driveWith (unitOf u (now (table .entry))) (now (image .entry))) at plan (now (host .exit)) (now (image .exit)) m ⌝ }
+    ensures { λ m. ⌜
+        Carries (now (host .entry)) (driveWith (unitOf u (now (table .entry))) (now (image .entry))) at plan (now (host .exit))
+        (now (image .exit)) m ⌝ }
 {
     let moving = plan.moving;
     let report = plan.report;
@@ -404,7 +428,9 @@ fn perform(
     plan: Plan,
 ) -> Performed
     requires { ⌜ (at + 28 ≤ length (now host)) × PlanFits (unitOf u (now table)) (length (now image)) (now host) plan ⌝ }
-    ensures { λ p. ⌜ Performs (performed (now (host .entry)) (driveWith (unitOf u (now (table .entry))) (now (image .entry))) at plan) (now (host .entry)) (now (image .entry)) (now (host .exit)) (now (image .exit)) (now (table .exit)) p ⌝ }
+    ensures { λ p. ⌜
+        Performs (carriedOut (now (host .entry)) (driveWith (unitOf u (now (table .entry))) (now (image .entry))) at plan)
+        (now (host .entry)) (now (image .entry)) (now (host .exit)) (now (image .exit)) (now (table .exit)) p ⌝ }
 {
     let leaving = plan.leaving;
     let m = carry_and_report(host, image, u, table, at, plan);
@@ -450,7 +476,13 @@ fn holder_left(
 
 // What was performed, with the holder that it leaves.
 fn hold(p: Performed, c: Controller, reserve: bool, leaving: Leaving) -> Performed
-    ensures { λ r. ⌜ r ≡ record { unit = byValue (holderLeft c reserve leaving (p .answer) (bare (p .unit))); answer = p .answer; sectors = p .sectors; travel = p .travel } ⌝ }
+    ensures { λ r. ⌜
+        r ≡ record {
+          unit = byValue (holderLeft c reserve leaving (p .answer) (bare (p .unit)));
+          answer = p .answer;
+          sectors = p .sectors;
+          travel = p .travel;
+        } ⌝ }
 {
     let answer = p.answer;
     let left = p.unit;
@@ -465,7 +497,7 @@ fn hold(p: Performed, c: Controller, reserve: bool, leaving: Leaving) -> Perform
 
 // A block that is refused before a transfer.
 fn refuse(u: Record, r: Refusal) -> Performed
-    ensures { λ p. ⌜ p ≡ performedOf (refused (driveWith (bare u) []) r) ⌝ }
+    ensures { λ p. ⌜ p ≡ performedOf (turnedDown (driveWith (bare u) []) r) ⌝ }
 {
     Performed {
         unit: u,
@@ -486,8 +518,18 @@ fn finish(
     counts: bool,
 ) -> Done
     requires { ⌜ BlockRoom (now host) (now events) at i ⌝ }
-    ensures result { λ d. ⌜ d ≡ record { unit = p .unit; counts = counts; answer = p .answer; sectors = p .sectors; linked = b .options .link; link = b .link } ⌝ }
-    ensures stored { λ _. ⌜ ((image : List ℕ) → three (now (host .exit)) image (now (events .exit)) ≡ after (finish b at i (p .answer) (p .travel)) (three (now (host .entry)) image (now (events .entry)))) ⌝ }
+    ensures result { λ d. ⌜
+        d ≡ record {
+          unit = p .unit;
+          counts = counts;
+          answer = p .answer;
+          sectors = p .sectors;
+          linked = b .options .link;
+          link = b .link;
+        } ⌝ }
+    ensures stored { λ _. ⌜
+        ((image : List ℕ) → three (now (host .exit)) image (now (events .exit)) ≡ after (finish b at i (p .answer) (p .travel))
+        (three (now (host .entry)) image (now (events .entry)))) ⌝ }
 {
     let answer = p.answer;
     let unit = p.unit;
@@ -528,7 +570,11 @@ pub fn run_block(
     i: usize,
 ) -> Done
     requires { ⌜ BlockRoom (now host) (now events) at i × Knows known (unitOf u (now table)) ⌝ }
-    ensures { λ d. ⌜ Did (blockAt (now (host .entry)) at) (effectOn c (now (host .entry)) (driveWith (unitOf u (now (table .entry))) (now (image .entry))) at i) (three (now (host .entry)) (now (image .entry)) (now (events .entry))) (three (now (host .exit)) (now (image .exit)) (now (events .exit))) (now (table .exit)) d ⌝ }
+    ensures { λ d. ⌜ (
+        let before = three (now (host .entry)) (now (image .entry)) (now (events .entry)) in
+        let after = three (now (host .exit)) (now (image .exit)) (now (events .exit)) in
+        let drive = driveWith (unitOf u (now (table .entry))) (now (image .entry)) in
+        Did (blockAt (now (host .entry)) at) (effectOn c (now (host .entry)) drive at i) before after (now (table .exit)) d) ⌝ }
 {
     let b = Block::read(host, at);
     let options = b.options;

@@ -111,9 +111,9 @@ fn work_on(
     ensures { λ t. ⌜ (
         let before = three (now (host .entry)) (now (image .entry)) (now (events .entry)) in
         let after = three (now (host .exit)) (now (image .exit)) (now (events .exit)) in
-        Did (blockAt (now (host .entry)) at) (effectOn c (now (host .entry))
-        (driveWith (unitIn (now (held .entry)) (now (map .entry))) (now (image .entry))) at i) before after (now (map .exit))
-        (doneWith t (unitIn (now (held .exit)) (now (map .exit))))) ⌝ }
+        let drive = driveWith (unitIn (now (held .entry)) (now (map .entry))) (now (image .entry)) in
+        let done = doneWith t (unitIn (now (held .exit)) (now (map .exit))) in
+        Did (blockAt (now (host .entry)) at) (effectOn c (now (host .entry)) drive at i) before after (now (map .exit)) done) ⌝ }
 {
     let done = run_block(host, image, events, c, record_of(held), known, map, at, i);
     *held = numbers_of(done.unit);

@@ -7,7 +7,7 @@ use mathlib.Core.Path.{_≡_, refl, sym, ap, subst, _∙_}
 use native.Mathlib.Omega.{arith}
 use native.Mathlib.Nat.{zero-mul}
 use lib.Dec.{T, T-not}
-use lib.ListN.{getD, length}
+use lib.ListN.{getD}
 use Rattle.wire.specs.Among.{Among}
 use Rattle.wire.specs.Memory.{InMemory}
 use Rattle.answers.specs.declared.BlockAnswer.{BlockAnswer}
@@ -24,8 +24,9 @@ use Rattle.transfer.specs.Progress.{Progress}
 use Rattle.transfer.specs.Stores.{imageByte}
 use Rattle.transfer.proofs.Marks.{no-mark-stored}
 use Rattle.transfer.proofs.Stops.{stopped-with, stops-before-the-first, unreadable-exactly}
-use Rattle.block.specs.Block.{Effect, judged, transferOf, wordsOf}
-use Rattle.demands.specs.Footprint.{FirstUnreadable, Unreadable, WritesHost, WritesImage, askedOf, changes, comes, leavingOf, movingOf, namedDrive, names, reportOf, transferBy, verdictOf}
+use Rattle.block.specs.Block.{Effect, transferOf}
+use Rattle.block.specs.Steps.{actedOn}
+use Rattle.demands.specs.Footprint.{FirstUnreadable, InReport, Unreadable, WritesHost, WritesImage, askedOf, changes, comes, leavingOf, movingOf, namedDrive, names, reportOf, transferBy, verdictOf}
 use Rattle.demands.specs.Footprint.HostWritten.{moved, report, status-word}
 use Rattle.demands.specs.Visits.{Visit, blockOf, effectOf, worldLeft}
 use Rattle.demands.proofs.Fits.{drives-geometry, on-drive}
@@ -44,10 +45,7 @@ module _ (v : Visit) where
 
     only-word-1 : (x : ℕ) → WritesHost v x → Among (v .at + 2) 2 x
     only-word-1 x (status-word word) = word
-    only-word-1 x (report among) = absurd (nothing (verdictOf v) refused among)
-      where
-        nothing : (verd : Verdict) → verd ≡ Refused r → Among (v .at + wordsOf (reportOf verd) .from) (length (wordsOf (reportOf verd) .bytes)) x → ⊥
-        nothing verd is among = let a = rw is at among in omega arith
+    only-word-1 x (report among) = absurd (subst (λ (verd : Verdict). InReport (v .at) (reportOf verd) x) refused among)
     only-word-1 x (moved d) = absurd (omega (arith, d .moved, none-at-all))
       where
         none-at-all : comes (askedOf v) (namedDrive v) .sectors * B (transferBy (askedOf v) .geometry) ≡ 0
@@ -112,7 +110,7 @@ module _ (v : Visit) where
     where
       by-verdict :
           (verd : Verdict) → verdictOf v ≡ verd →
-          judged (v .world .host) (namedDrive v) (v .at) (verdictOf v) .answer ≡ BlockAnswer.Failed r → Fails r
+          actedOn (v .world .host) (namedDrive v) (v .at) (verdictOf v) .answer ≡ BlockAnswer.Failed r → Fails r
       by-verdict (Refused s) is answer = refused (is ∙ ap Verdict.Refused (cc (rw is at answer)))
       by-verdict (Do plan) is answer = stopped (rw is (rw is at answer))
 
@@ -178,7 +176,7 @@ module _ (v : Visit) where
       -- a refused block makes a transfer of no sectors, which no mark stops
       answers :
           (verd : Verdict) → verdictOf v ≡ verd → (j : ℕ) → j < transferBy (askedOf v) .count →
-          judged (v .world .host) (namedDrive v) (v .at) (verdictOf v) .answer ≡ comes (askedOf v) (namedDrive v) .answer
+          actedOn (v .world .host) (namedDrive v) (v .at) (verdictOf v) .answer ≡ comes (askedOf v) (namedDrive v) .answer
       answers (Refused r) is j there =
           absurd (omega (arith, subst (λ (x : Verdict). j < transferOf (v .world .host) (namedDrive v .unit) (movingOf x) .count) is there))
       answers (Do plan) is j there = rw is

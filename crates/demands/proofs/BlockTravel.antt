@@ -18,8 +18,9 @@ use Rattle.transfer.specs.Stores.{Store, bytesFrom, eventByte, hostByte}
 use Rattle.unit.specs.Landing.{spotOf}
 use Rattle.unit.specs.Standing.{CountsAsInitialized, UnitRecord, cylinder, geometry}
 use Rattle.unit.proofs.Laws.{spot-inside}
-use Rattle.block.specs.Block.{Effect, judged, leftBy, travelled}
+use Rattle.block.specs.Block.{Effect, leftBy, travelled}
 use Rattle.block.specs.Events.{InRange, entry, travelTo}
+use Rattle.block.specs.Steps.{actedOn}
 use Rattle.block.proofs.Travel.{travel-in-range}
 use Rattle.demands.specs.Footprint.{askedOf, namedDrive, verdictOf}
 use Rattle.demands.specs.Visits.{Travelled, Visit, blockOf}
@@ -53,7 +54,7 @@ module _ (v : Visit) where
   by-verdict (Refused r) is = rw is nowhere
   by-verdict (Do plan) is =
       rw is
-      (in-range (namedDrive v .unit) (judged (v .world .host) (namedDrive v) (v .at) (Do plan) .sectors) (plan .leaving)
+      (in-range (namedDrive v .unit) (actedOn (v .world .host) (namedDrive v) (v .at) (Do plan) .sectors) (plan .leaving)
       (rw is at (leaving-fits (askedOf v))))
 
   pub every-travel-in-range : Travelled v

@@ -23,7 +23,8 @@ use Rattle.transfer.specs.Progress.{progress}
 use Rattle.unit.specs.Holding.{reservedBy}
 use Rattle.unit.specs.Standing.{UnitRecord, holder}
 use Rattle.wire.proofs.Promises.{never}
-use Rattle.block.specs.Block.{Effect, judged}
+use Rattle.block.specs.Block.{Effect}
+use Rattle.block.specs.Steps.{actedOn}
 use Rattle.demands.specs.Footprint.{askedOf, leavingOf, namedDrive, verdictOf}
 use Rattle.demands.specs.Visits.{Visit, blockOf, effectOf}
 use Rattle.demands.proofs.Keeps.{leftThen, unit-left}
@@ -38,9 +39,9 @@ module _ (v : Visit) where
   left-holder l is =
       ap (λ (u : UnitRecord). holder u) (unit-left v ∙ ap (leftThen v (effectOf v .answer) (effectOf v .sectors)) is)
 
-  answered : (x : Verdict) → verdictOf v ≡ x → effectOf v .answer ≡ judged (v .world .host) (namedDrive v) (v .at) x .answer
+  answered : (x : Verdict) → verdictOf v ≡ x → effectOf v .answer ≡ actedOn (v .world .host) (namedDrive v) (v .at) x .answer
   answered x is =
-      ap (λ (e : Effect). e .answer) (effect-is v) ∙ ap (λ (x : Verdict). judged (v .world .host) (namedDrive v) (v .at) x .answer) is
+      ap (λ (e : Effect). e .answer) (effect-is v) ∙ ap (λ (x : Verdict). actedOn (v .world .host) (namedDrive v) (v .at) x .answer) is
 
   as-task : (t : Task) → askedOf v .task ≡ t → verdictOf v ≡ verdict (on (v .world .controller) u (askedOf v .image) t (v .world .host))
   as-task t is = ap (λ (t : Task). verdict (on (v .world .controller) u (askedOf v .image) t (v .world .host))) is

@@ -15,7 +15,8 @@ use Rattle.unit.specs.declared.UnitNumber.the-variants.{Zero, One}
 use Rattle.transfer.specs.Stores.{Buffers, Cell, after, eventByte, held, hostByte, imageByte}
 use Rattle.transfer.proofs.Stays.{lengths-stay, unstored-stays}
 use Rattle.wire.proofs.Decided.{inMemory?}
-use Rattle.block.specs.Block.{Drive, Effect, heldUnit, holderLeft, judged, leftBy}
+use Rattle.block.specs.Block.{Drive, Effect, holderLeft, leftBy}
+use Rattle.block.specs.Steps.{actedOn, heldUnit}
 use Rattle.block.proofs.Held.{holder-keeps}
 use Rattle.board.specs.Chain.{Ending, fetched, follows, nothing, ran}
 use Rattle.demands.specs.Footprint.{Renews, RunNames, RunWrites, RunWritesEvents, RunWritesImage, RunWritesRecord, Some, WritesEvents, WritesHost, WritesImage, WritesRecord, askedOf, changes, leavingOf, namedDrive, names, verdictOf}
@@ -228,7 +229,7 @@ module _ (v : Visit) where
     where
       by-verdict :
           (verd : Verdict) →
-          let p = judged (v .world .host) (namedDrive v) (v .at) verd in
+          let p = actedOn (v .world .host) (namedDrive v) (v .at) verd in
           heldUnit (v .world .controller) (blockOf v .options .reserve) verd (p .answer) (p .unit) ≡ leftThen (p .answer) (p .sectors) (leavingOf verd)
       by-verdict (Refused r) = refl
       by-verdict (Do plan) = refl

@@ -6,7 +6,6 @@ use mathlib.Core.Logic.{_⊎_, inl, inr}
 use mathlib.Core.Path.{_≡_, refl, sym, ap, subst, _∙_}
 use native.Mathlib.Nat.{zero-mul}
 use native.Mathlib.Omega.{arith}
-use lib.ListN.{length}
 use Rattle.wire.specs.Among.{Among}
 use Rattle.wire.proofs.Promises.{never}
 use Rattle.geometry.specs.Drive.{B}
@@ -27,8 +26,8 @@ use Rattle.judge.proofs.LetThrough.{format-reports, handshake-reports, mover-le
 use Rattle.transfer.specs.Data.{progressOn}
 use Rattle.transfer.specs.Progress.{progress}
 use Rattle.unit.specs.Standing.{geometry}
-use Rattle.block.specs.Block.{Drive, transferOf, wordsOf}
-use Rattle.demands.specs.Footprint.{HostData, HostWritten, movingOf, reportOf, transferBy}
+use Rattle.block.specs.Block.{Drive, transferOf}
+use Rattle.demands.specs.Footprint.{HostData, HostWritten, InReport, movingOf, reportOf, transferBy}
 use Rattle.demands.specs.Footprint.HostWritten.{moved, report, status-word}
 
 -- A read or a write, by the way that its data goes.
@@ -39,32 +38,28 @@ MovesData a to-host = (m : Move) × ((a .task ≡ Moves m) × (m .«to_host» �
 abbrev pub Formats : Asked → Type 0
 Formats a = ((k : Tracks) × (a .task ≡ Format k)) × ((p : Plan) × (verdict a ≡ Do p))
 
--- Byte x is among the words that a report stores in the block at an address.
-abbrev Reported : ℕ → ℕ → Report → Type 0
-Reported at x r = Among (at + wordsOf r .from) (length (wordsOf r .bytes)) x
-
 module _ (a : Asked) where
   -- Words are reported for an 86, where they are words 2 to 7, and for an 8C that is let through, where they are the lower byte of word 3 and
   -- word 4.
   abbrev pub ReportedFor : ℕ → ℕ → Type 0
   ReportedFor at x = ((a .task ≡ Handshake) × Among (at + 4) 12 x) ⊎ (Formats a × Among (at + 7) 3 x)
 
-  reported-for : (at x : ℕ) → Reported at x (reportOf (verdict a)) → ReportedFor at x
+  reported-for : (at x : ℕ) → InReport at (reportOf (verdict a)) x → ReportedFor at x
   reported-for at x = by-verdict (verdict a) refl
     where
-      by-report : (p : Plan) → verdict a ≡ Do p → (r : Report) → ReportKnown a r → Reported at x r → ReportedFor at x
-      by-report p is Silent known among = absurd (omega (arith, among))
+      by-report : (p : Plan) → verdict a ≡ Do p → (r : Report) → ReportKnown a r → InReport at r x → ReportedFor at x
+      by-report p is Silent known none = absurd none
       by-report p is Identity known among = inl (known, among)
       by-report p is (Formatted n) known among = inr ((known .0, (p, is)), among)
 
-      by-verdict : (v : Verdict) → verdict a ≡ v → Reported at x (reportOf v) → ReportedFor at x
-      by-verdict (Refused r) is among = absurd (omega (arith, among))
+      by-verdict : (v : Verdict) → verdict a ≡ v → InReport at (reportOf v) x → ReportedFor at x
+      by-verdict (Refused r) is none = absurd none
       by-verdict (Do p) is among = by-report p is (p .report) (report-let-through a p is) among
 
-  for-reported : (at x : ℕ) → ReportedFor at x → Reported at x (reportOf (verdict a))
+  for-reported : (at x : ℕ) → ReportedFor at x → InReport at (reportOf (verdict a)) x
   for-reported at x (inl (is, among)) = rw (handshake-reports a is) among
   for-reported at x (inr (((k, is), (p, do-so)), among)) =
-      subst (Reported at x) (sym (ap reportOf do-so ∙ format-reports a k p is do-so)) among
+      subst (λ (r : Report). InReport at r x) (sym (ap reportOf do-so ∙ format-reports a k p is do-so)) among
 
   known : MoverKnown (a .task) (movingOf (verdict a))
   known = by-verdict (verdict a) refl

@@ -2,9 +2,9 @@
 -- Nothing is stored after the words but word 1, which lies elsewhere, and the entry; the data is taken before them.
 use Prim.Native.Nat.{ℕ, _+_, _-_, _*_, _%_, _≤_, _<_}
 use mathlib.Core.Bool.{false}
-use mathlib.Core.List.{List, _++_}
+use mathlib.Core.List.{List, [], _∷_, _++_}
 use mathlib.Core.Logic.{inl, inr}
-use mathlib.Core.Path.{_≡_, ap, _∙_}
+use mathlib.Core.Path.{_≡_, refl, ap, _∙_}
 use native.Mathlib.Omega.{arith}
 use lib.ListN.{getD, length}
 use Rattle.wire.specs.Words.{be16, word}
@@ -12,6 +12,7 @@ use Rattle.wire.proofs.Promises.{never}
 use Rattle.answers.specs.declared.BlockAnswer.the-variants.{Ended}
 use Rattle.geometry.specs.declared.Geometry.{Geometry}
 use Rattle.geometry.specs.Drive.{B, S}
+use Rattle.iopb.specs.Identity.{identityBytes}
 use Rattle.judge.specs.declared.Report.{Report}
 use Rattle.judge.specs.declared.Report.the-variants.{Nothing as Silent, Identity, Formatted}
 use Rattle.judge.specs.declared.Plan.{Plan}
@@ -22,12 +23,12 @@ use Rattle.judge.proofs.LetThrough.{own-plan}
 use Rattle.request.specs.declared.Task.the-variants.{Format}
 use Rattle.request.specs.declared.Track.{Track}
 use Rattle.transfer.specs.Data.{Transfer, dataOn, diskByte, formatting}
-use Rattle.transfer.specs.Stores.{Buffers, Store, after}
+use Rattle.transfer.specs.Stores.{Buffers, Store, after, bytesFrom, hostByte}
 use Rattle.transfer.proofs.Stays.{host-bytes-stored, lengths-stay}
 use Rattle.transfer.proofs.Stores.{after-append}
 use Rattle.unit.specs.Landing.{trackOf}
 use Rattle.unit.specs.Standing.{geometry}
-use Rattle.block.specs.Block.{begun, reported, transferOf, wordsOf}
+use Rattle.block.specs.Block.{begun, reported, transferOf}
 use Rattle.block.proofs.Told.{row-stands}
 use Rattle.demands.specs.Footprint.{WritesHost, askedOf, movingOf, namedDrive, names, transferBy, verdictOf}
 use Rattle.demands.specs.Visits.{Visit, effectOf, worldLeft}
@@ -37,33 +38,40 @@ use Rattle.demands.proofs.Whole.{disk-has-the-hosts-bytes, markedHost, 
 use Rattle.demands.proofs.Written.{closing-keeps-host, host-written-exactly, performance, performed-then-closed}
 use Rattle.board.specs.World.{buffersOf, driveOf}
 
--- The words of a report lie in the block, and not in word 1.
-words-lie : (r : Report) → (4 ≤ wordsOf r .from) × (wordsOf r .from + length (wordsOf r .bytes) ≤ 28)
-words-lie Silent = omega arith
-words-lie Identity = omega arith
-words-lie (Formatted n) = omega arith
+-- The words of a report stand in a block at an address: those of an 86 are its own identity, and those of a format the last of so many sectors and how
+-- many they are.
+abbrev pub Stands : List ℕ → ℕ → Report → Type 0
+Stands host at Silent = Unit {0}
+Stands host at Identity = (k : ℕ) → k < 12 → getD host (at + 4 + k) 0 ≡ getD identityBytes k 0
+Stands host at (Formatted n) = (k : ℕ) → k < 3 → getD host (at + 7 + k) 0 ≡ getD ((n - 1) ∷ 0x00 ∷ n ∷ []) k 0
 
 module _ (v : Visit) (room : v .at + 28 ≤ length (v .world .host)) where
   abbrev at : ℕ
   at = v .at
 
-  -- The words of a plan that was let through.
-  pub report-stands :
-      (p : Plan) → verdictOf v ≡ Do p → (k : ℕ) → k < length (wordsOf (p .report) .bytes) →
-      getD (worldLeft v .host) (at + wordsOf (p .report) .from + k) 0 ≡ getD (wordsOf (p .report) .bytes) k 0
-  report-stands p is k less =
-      let words = wordsOf (p .report) in
-      let lies = words-lie (p .report) in
-      let b = buffersOf (v .world) (names v) in
-      let x = at + words .from + k in
-      let early = begun at ++ dataOn (namedDrive v .image) (transferOf (v .world .host) (namedDrive v .unit) (p .moving)) in
-      let row = reported at (p .report) in
-      let performed-so : performance v .stores ≡ early ++ row = rw is in
-      ap (λ (m : Buffers). getD (m .host) x 0) (buffers-left v ∙ performed-then-closed v b)
-      ∙ closing-keeps-host v x (after (performance v .stores) b) (λ word. omega arith)
-      ∙ ap (λ (ss : List Store). getD (after ss b .host) x 0) performed-so
-      ∙ ap (λ (m : Buffers). getD (m .host) x 0) (after-append early row b ∙ host-bytes-stored (words .bytes) (at + words .from) (after early b))
-      ∙ row-stands (words .bytes) (after early b .host) (at + words .from) k (omega (arith, lengths-stay early b .0)) less
+  -- The words of a plan that was let through, in a row that lies in the block and not in word 1.
+  module _ (p : Plan) (is : verdictOf v ≡ Do p) where
+    row-left :
+        (from : ℕ) (ns : List ℕ) → reported at (p .report) ≡ bytesFrom hostByte (at + from) ns → 4 ≤ from → from + length ns ≤ 28 →
+        (k : ℕ) → k < length ns → getD (worldLeft v .host) (at + from + k) 0 ≡ getD ns k 0
+    row-left from ns row low high k less =
+        let b = buffersOf (v .world) (names v) in
+        let x = at + from + k in
+        let early = begun at ++ dataOn (namedDrive v .image) (transferOf (v .world .host) (namedDrive v .unit) (p .moving)) in
+        let performed-so : performance v .stores ≡ early ++ reported at (p .report) = rw is in
+        ap (λ (m : Buffers). getD (m .host) x 0) (buffers-left v ∙ performed-then-closed v b)
+        ∙ closing-keeps-host v x (after (performance v .stores) b) (λ word. omega arith)
+        ∙ ap (λ (ss : List Store). getD (after ss b .host) x 0) (performed-so ∙ ap (λ (ss : List Store). early ++ ss) row)
+        ∙ ap (λ (m : Buffers). getD (m .host) x 0) (after-append early (bytesFrom hostByte (at + from) ns) b ∙ host-bytes-stored ns (at + from) (after early b))
+        ∙ row-stands ns (after early b .host) (at + from) k (omega (arith, lengths-stay early b .0)) less
+
+    pub report-stands : Stands (worldLeft v .host) at (p .report)
+    report-stands = by-report (p .report) refl
+      where
+        by-report : (r : Report) → p .report ≡ r → Stands (worldLeft v .host) at r
+        by-report Silent so = tt
+        by-report Identity so = row-left 4 identityBytes (ap (reported at) so) (omega arith) (omega arith)
+        by-report (Formatted n) so = row-left 7 ((n - 1) ∷ 0x00 ∷ n ∷ []) (ap (reported at) so) (omega arith) (omega arith)
 
 -- ---- a format that is let through
 
@@ -86,7 +94,7 @@ module _ (v : Visit) (room : v .at + 28 ≤ length (v .world .host)) (formats : 
   is-plan =
       formats .1 .1 ∙ ap Do (own-plan (askedOf v) p (formats .1 .1) ∙ ap (planOf (namedDrive v .unit)) (formats .0 .1))
 
-  stands : (x k : ℕ) → x ≡ v .at + 7 + k → k < 3 → getD (worldLeft v .host) x 0 ≡ getD (wordsOf (Formatted (S g)) .bytes) k 0
+  stands : (x k : ℕ) → x ≡ v .at + 7 + k → k < 3 → getD (worldLeft v .host) x 0 ≡ getD ((S g - 1) ∷ 0x00 ∷ S g ∷ []) k 0
   stands x k here less = rw here (report-stands v room _ is-plan k less)
 
   -- Its transfer is that of the track, a write: nothing stops it.

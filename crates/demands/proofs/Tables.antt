@@ -40,7 +40,9 @@ use Rattle.unit.specs.declared.UnitNumber.{UnitNumber}
 use Rattle.transfer.specs.Data.{dataOn, moveAt}
 use Rattle.transfer.specs.Progress.{progress}
 use Rattle.transfer.specs.Stores.{Store, bytesFrom, upTo}
-use Rattle.block.specs.Block.{Drive, Effect, Performance, begun, finish, finished, holding, judged, leftBy, reported, transferOf}
+use Rattle.block.specs.Block.{Drive, Effect, begun, finish, leftBy, reported, transferOf}
+use Rattle.block.specs.Steps.{actedOn}
+use Rattle.block.proofs.Effects.{finishedBy}
 use Rattle.block.proofs.Held.{held-counts}
 use Rattle.block.proofs.Kept.{still-blank, still-counts}
 use Rattle.board.specs.Chain.{ran}
@@ -61,10 +63,9 @@ nothing-stored : (image host : List ℕ) (u : UnitRecord) → dataOn image (tran
 unfolding dataOn progress upTo
 nothing-stored image host u = ap (λ (n : ℕ). upTo n (moveAt (transferOf host u Nothing))) (zero-mul (B (geometry u)))
 
--- What a block comes to before it is finished, by the verdict on it.
-abbrev comesTo : Visit → Verdict → Performance
-comesTo v x =
-    holding (v .world .controller) (blockOf v .options .reserve) x (judged (v .world .host) (namedDrive v) (v .at) x)
+-- What a block comes to, by the verdict on it.
+abbrev comesTo : Visit → Verdict → Effect
+comesTo v x = finishedBy (v .world .controller) (v .world .host) (namedDrive v) (v .at) (v .index) x
 
 -- An 85 that is let through adds its pair, and nothing else changes but the holder.
 pub adds-its-pair : (v : Visit) (p : Plan) → blockOf v .command ≡ 0x85 → verdictOf v ≡ Do p → AddsItsPair v (pairOf (blockOf v))
@@ -72,8 +73,8 @@ unfolding taskOf progress bytesFrom
 adds-its-pair v p is accepted =
     let task : askedOf v .task ≡ Map (pairOf (blockOf v)) = rw is in
     let plan : p ≡ planOf (namedDrive v .unit) (Map (pairOf (blockOf v))) = own-plan (askedOf v) p accepted ∙ ap (planOf (namedDrive v .unit)) task in
-    let effect : effectOf v ≡ finished (blockOf v) (v .at) (v .index) (comesTo v (Do (planOf (namedDrive v .unit) (Map (pairOf (blockOf v)))))) =
-    effect-is v ∙ ap (λ (x : Verdict). finished (blockOf v) (v .at) (v .index) (comesTo v x)) (accepted ∙ ap Verdict.Do plan) in
+    let effect : effectOf v ≡ comesTo v (Do (planOf (namedDrive v .unit) (Map (pairOf (blockOf v))))) =
+    effect-is v ∙ ap (comesTo v) (accepted ∙ ap Verdict.Do plan) in
     record {
       ended = ap (λ (e : Effect). e .answer) effect;
       sectors = ap (λ (e : Effect). e .sectors) effect;
@@ -171,7 +172,7 @@ module _ (v : Visit) (is : blockOf v .command ≡ 0x87) (ended : effectOf v .ans
   not-refused : (r : Refusal) → verdictOf v ≡ Refused r → ⊥
   not-refused r so =
       let failed : effectOf v .answer ≡ Failed r =
-      ap (λ (e : Effect). e .answer) (effect-is v) ∙ ap (λ (x : Verdict). judged (v .world .host) (namedDrive v) (v .at) x .answer) so in
+      ap (λ (e : Effect). e .answer) (effect-is v) ∙ ap (λ (x : Verdict). actedOn (v .world .host) (namedDrive v) (v .at) x .answer) so in
       never (cc (ended, failed))
 
   renews : (g : Geometry) × ((shape ≡ Given g) × (leavingOf (verdictOf v) ≡ Fresh g))

@@ -4,7 +4,7 @@
 use Prim.Native.Nat.{ℕ, _+_, _*_, _<_}
 use mathlib.Core.Bool.{true, false≢true}
 use mathlib.Core.List.{List, [], _∷_, _++_, append-nil}
-use mathlib.Core.Path.{_≡_, refl, sym, ap, _∙_}
+use mathlib.Core.Path.{_≡_, refl, sym, ap, subst, _∙_}
 use native.Mathlib.Omega.{arith}
 use lib.ListN.{getD, length}
 use Rattle.wire.specs.Among.{Among}
@@ -21,8 +21,9 @@ use Rattle.transfer.specs.Stores.{Buffers, Store, after, bytesFrom}
 use Rattle.transfer.proofs.Earlier.{host-has-byte}
 use Rattle.transfer.proofs.Stays.{host-bytes-stored, lengths-stay}
 use Rattle.transfer.proofs.Stores.{after-append}
-use Rattle.block.specs.Block.{begun, judged, reported, transferOf, wordsOf}
-use Rattle.demands.specs.Footprint.{HostData, WritesHost, askedOf, comes, movingOf, namedDrive, names, reportOf, transferBy, verdictOf, wordsBy}
+use Rattle.block.specs.Block.{begun, reported, transferOf}
+use Rattle.block.specs.Steps.{actedOn}
+use Rattle.demands.specs.Footprint.{HostData, InReport, WritesHost, askedOf, comes, movingOf, namedDrive, names, reportOf, transferBy, verdictOf}
 use Rattle.demands.specs.Footprint.HostWritten.{moved, report, status-word}
 use Rattle.demands.specs.Visits.{Visit, effectOf, worldLeft}
 use Rattle.demands.proofs.Keeps.{block-keeps-host, buffers-left}
@@ -53,9 +54,8 @@ module _ (v : Visit) (reads : transferBy (askedOf v) .to-host ≡ true) where
       by-verdict (Refused r) is = absurd (false≢true (rw is at reads))
       by-verdict (Do plan) is = record { plan = plan; judged-so = is; silent = by-moving plan is (plan .moving) refl (rw is at reads) }
 
-  no-words : wordsBy (askedOf v) .bytes ≡ []
-  no-words =
-      ap (λ (verd : Verdict). wordsOf (reportOf verd) .bytes) (accepted .judged-so) ∙ ap (λ (r : Report). wordsOf r .bytes) (accepted .silent)
+  no-words : (x : ℕ) → InReport (v .at) (reportOf (verdictOf v)) x → ⊥
+  no-words x = subst (λ (r : Report). InReport (v .at) r x) (ap reportOf (accepted .judged-so) ∙ accepted .silent)
 
   -- The count says how many sectors came.
   pub count-says : effectOf v .sectors ≡ comes (askedOf v) (namedDrive v) .sectors
@@ -69,7 +69,7 @@ module _ (v : Visit) (reads : transferBy (askedOf v) .to-host ≡ true) where
     where
       none : WritesHost v x → ⊥
       none (status-word word) = outside word
-      none (report among) = let a = rw no-words at among in omega arith
+      none (report among) = no-words x among
       none (moved here) = other here
 
   -- The disk's bytes for the sectors that came: byte k of them stands in host memory at its place in the pieces, where no later
@@ -85,7 +85,7 @@ module _ (v : Visit) (reads : transferBy (askedOf v) .to-host ≡ true) where
     stores-are : performance v .stores ≡ begun (v .at) ++ dataOn (namedDrive v .image) t
     unfolding bytesFrom
     stores-are =
-        ap (λ (verd : Verdict). judged (v .world .host) (namedDrive v) (v .at) verd .stores) (accepted .judged-so)
+        ap (λ (verd : Verdict). actedOn (v .world .host) (namedDrive v) (v .at) verd .stores) (accepted .judged-so)
         ∙ ap (λ (r : Report). begun (v .at) ++ dataOn (namedDrive v .image) (transferOf (v .world .host) (namedDrive v .unit) (accepted .plan .moving)) ++ reported (v .at) r) (accepted .silent)
         ∙ append-nil _
         ∙ ap (λ (verd : Verdict). begun (v .at) ++ dataOn (namedDrive v .image) (transferOf (v .world .host) (namedDrive v .unit) (movingOf verd))) (sym (accepted .judged-so))

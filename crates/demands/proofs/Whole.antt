@@ -26,7 +26,9 @@ use Rattle.transfer.proofs.Earlier.{afterwards, image-has-all}
 use Rattle.transfer.proofs.Stays.{host-bytes-stored}
 use Rattle.transfer.proofs.Stops.{whole-unheeding}
 use Rattle.transfer.proofs.Stores.{after-append}
-use Rattle.block.specs.Block.{Effect, begun, judged, reported, transferOf, wordsOf}
+use Rattle.block.specs.Block.{Effect, begun, reported, transferOf}
+use Rattle.block.specs.Steps.{actedOn}
+use Rattle.block.proofs.Effects.{reported-row}
 use Rattle.demands.specs.Footprint.{askedOf, movingOf, namedDrive, names, transferBy, verdictOf}
 use Rattle.unit.specs.Standing.{geometry}
 use Rattle.demands.specs.Visits.{Visit, blockOf, effectOf, worldLeft}
@@ -57,8 +59,8 @@ module _ (v : Visit) (plan : Plan) (accepted : verdictOf v ≡ Do plan) (writes 
   pub write-ends-whole : (effectOf v .answer ≡ Ended) × (effectOf v .sectors ≡ t .count)
   write-ends-whole =
       let whole = whole-unheeding (namedDrive v .image) t ignores in
-      let judged-so : judged (v .world .host) (namedDrive v) (v .at) (verdictOf v) .answer ≡ Ended =
-      ap (λ (verd : Verdict). judged (v .world .host) (namedDrive v) (v .at) verd .answer) accepted
+      let judged-so : actedOn (v .world .host) (namedDrive v) (v .at) (verdictOf v) .answer ≡ Ended =
+      ap (λ (verd : Verdict). actedOn (v .world .host) (namedDrive v) (v .at) verd .answer) accepted
       ∙ ap (λ (verd : Verdict). progressOn (namedDrive v .image) (transferOf (v .world .host) (namedDrive v .unit) (movingOf verd)) .answer) (sym accepted)
       ∙ ap (λ (p : Progress). p .answer) whole in
       (ap (λ (e : Effect). e .answer) (effect-is v) ∙ judged-so, sym (sectors-come v) ∙ ap (λ (p : Progress). p .sectors) whole)
@@ -72,12 +74,13 @@ module _ (v : Visit) (plan : Plan) (accepted : verdictOf v ≡ Do plan) (writes 
       let data-stores = dataOn (namedDrive v .image) t in
       let early = begun (v .at) ++ data-stores in
       let row = reported (v .at) (plan .report) in
+      let words = reported-row (v .at) (plan .report) in
       let performed-so : performance v .stores ≡ early ++ row = rw accepted in
       ap (λ (m : Buffers). m .image) (buffers-left v ∙ performed-then-closed v b)
       ∙ closing-keeps-image v (after (performance v .stores) b)
       ∙ ap (λ (ss : List Store). after ss b .image) performed-so
       ∙ ap (λ (m : Buffers). m .image)
-      (after-append early row b ∙ host-bytes-stored (wordsOf (plan .report) .bytes) (v .at + wordsOf (plan .report) .from) (after early b))
+      (after-append early row b ∙ ap (λ (ss : List Store). after ss (after early b)) (words .1 .1) ∙ host-bytes-stored (words .1 .0) (words .0) (after early b))
       ∙ ap (λ (m : Buffers). m .image) (after-append (begun (v .at)) data-stores b)
       ∙ ap (λ (m : Buffers). after data-stores m .image) (host-bytes-stored (0x81 ∷ 0x00 ∷ []) (v .at + 2) b)
 

@@ -1,6 +1,6 @@
 -- The footprint is exact: a byte is written, in the paper's words, exactly where some store of the block has it as its target.
 -- The stores are taken apart by movement: what performing stores, the 81 00, the data and the words reported, and then the finish.
-use Prim.Native.Nat.{ℕ, _+_, _*_, _<_}
+use Prim.Native.Nat.{ℕ, _+_, _-_, _*_, _<_}
 use mathlib.Core.Bool.{Bool, true, false}
 use mathlib.Core.List.{List, [], _∷_, _++_}
 use mathlib.Core.Logic.{_⊎_, _↔_, inl, inr, ⊎-elim}
@@ -16,6 +16,9 @@ use Rattle.answers.specs.Numbers.{statusOf}
 use Rattle.geometry.specs.Drive.{B}
 use Rattle.iopb.specs.declared.Block.{Block}
 use Rattle.iopb.specs.Errors.{errorByte}
+use Rattle.iopb.specs.Identity.{identityBytes}
+use Rattle.judge.specs.declared.Report.{Report}
+use Rattle.judge.specs.declared.Report.the-variants.{Nothing as Silent, Identity, Formatted}
 use Rattle.judge.specs.declared.Verdict.{Verdict}
 use Rattle.judge.specs.declared.Verdict.the-variants.{Refused, Do}
 use Rattle.transfer.specs.Data.{Transfer, dataOn, diskByte, moveAt, progressOn}
@@ -23,9 +26,11 @@ use Rattle.transfer.specs.Progress.{progress}
 use Rattle.transfer.specs.Stores.{Buffers, Cell, Store, after, bytesFrom, eventByte, hostByte, imageByte, upTo}
 use Rattle.transfer.proofs.Stays.{append-stored, bytes-stored, image-stays, stored-of-append, stored-of-bytes, stored-of-upTo, unstored-stays, upTo-stored}
 use Rattle.transfer.proofs.Stores.{after-append}
-use Rattle.block.specs.Block.{Drive, Effect, Performance, Words, begun, effectOn, finish, finished, holding, judged, reported, transferOf, wordsOf}
+use Rattle.block.specs.Block.{Drive, Effect, begun, finish, reported, transferOf}
 use Rattle.block.specs.Events.{entry}
-use Rattle.demands.specs.Footprint.{WritesEvents, WritesHost, WritesImage, askedOf, comes, movingOf, namedDrive, reportOf, transferBy, verdictOf, wordsBy}
+use Rattle.block.specs.Steps.{Performance, actedOn, finished}
+use Rattle.block.proofs.Effects.{effect-finished, reported-row}
+use Rattle.demands.specs.Footprint.{InReport, WritesEvents, WritesHost, WritesImage, askedOf, comes, movingOf, namedDrive, reportOf, transferBy, verdictOf}
 use Rattle.demands.specs.Footprint.HostWritten.{moved, report, status-word}
 use Rattle.demands.specs.Visits.{Visit, blockOf, effectOf}
 use Rattle.board.specs.World.{effectAt}
@@ -73,6 +78,26 @@ other-kind : (cell : ℕ → Cell) (at : ℕ) (ns : List ℕ) (c : Cell) → ((x
 other-kind cell at ns c apart there =
     let y = stored-of-bytes cell at ns c there in
     apart (y .0) (one-kind c (cell (y .0)) (y .1 .1))
+
+-- ---- the words that are reported
+
+-- They lie where the papers say,
+of-report : (at : ℕ) (r : Report) (x : ℕ) → Stored (reported at r) (hostByte x) → InReport at r x
+unfolding Stored
+of-report at Silent x none = none
+of-report at Identity x there = of-host-row (at + 4) identityBytes x there
+of-report at (Formatted n) x there = of-host-row (at + 7) ((n - 1) ∷ 0x00 ∷ n ∷ []) x there
+
+in-report : (at : ℕ) (r : Report) (x : ℕ) → InReport at r x → Stored (reported at r) (hostByte x)
+in-report at Silent x none = absurd none
+in-report at Identity x among = in-row hostByte (at + 4) identityBytes x among
+in-report at (Formatted n) x among = in-row hostByte (at + 7) ((n - 1) ∷ 0x00 ∷ n ∷ []) x among
+
+-- and nowhere but in host memory.
+none-elsewhere : (at : ℕ) (r : Report) (c : Cell) → ((x : ℕ) → kind c ≡ kind (hostByte x) → ⊥) → Stored (reported at r) c → ⊥
+none-elsewhere at r c apart there =
+    let row = reported-row at r in
+    other-kind hostByte (row .0) (row .1 .0) c apart (subst (λ (ss : List Store). Stored ss c) (row .1 .1) there)
 
 -- ---- the data
 
@@ -179,14 +204,11 @@ module _ (host : List ℕ) (d : Drive) (at : ℕ) where
   abbrev dataStores : Verdict → List Store
   dataStores verd = dataOn (d .image) (transferred verd)
 
-  abbrev words : Verdict → Words
-  words verd = wordsOf (reportOf verd)
-
   abbrev stores : Verdict → List Store
-  stores verd = judged host d at verd .stores
+  stores verd = actedOn host d at verd .stores
 
   -- How far a block's transfer comes is what the block says: of a refused one, not at all.
-  pub comes-to : (verd : Verdict) → progressOn (d .image) (transferred verd) .sectors ≡ judged host d at verd .sectors
+  pub comes-to : (verd : Verdict) → progressOn (d .image) (transferred verd) .sectors ≡ actedOn host d at verd .sectors
   unfolding progress
   comes-to (Refused r) = refl
   comes-to (Do plan) = refl
@@ -204,14 +226,14 @@ module _ (host : List ℕ) (d : Drive) (at : ℕ) where
   module _ (x : ℕ) where
     Lines : Verdict → Type 0
     Lines verd =
-        Among (at + 2) 2 x ⊎ (Stored (dataStores verd) (hostByte x) ⊎ Among (at + words verd .from) (length (words verd .bytes)) x)
+        Among (at + 2) 2 x ⊎ (Stored (dataStores verd) (hostByte x) ⊎ InReport at (reportOf verd) x)
 
     performs-host : (verd : Verdict) → Stored (stores verd) (hostByte x) → Lines verd
     unfolding Lines Stored
     performs-host (Refused r) there = absurd there
     performs-host (Do plan) there =
         ⊎-elim (λ word. inl (of-host-row (at + 2) (0x81 ∷ 0x00 ∷ []) x word))
-        (λ rest. inr (⊎-elim (λ d. inl d) (λ w. inr (of-host-row _ _ x w)) rest))
+        (λ rest. inr (⊎-elim (λ d. inl d) (λ w. inr (of-report at (plan .report) x w)) rest))
         (of-three (begun at) (dataStores (Do plan)) (reported at (plan .report)) (hostByte x) there)
 
     -- What is moved and what is reported are stored by performing; a refused block has neither.
@@ -221,18 +243,17 @@ module _ (host : List ℕ) (d : Drive) (at : ℕ) where
     host-data-performed (Do plan) there =
         three-of (begun at) (dataStores (Do plan)) (reported at (plan .report)) (hostByte x) (inr (inl there))
 
-    words-performed : (verd : Verdict) → Among (at + words verd .from) (length (words verd .bytes)) x → Stored (stores verd) (hostByte x)
-    words-performed (Refused r) among = absurd (omega arith)
+    words-performed : (verd : Verdict) → InReport at (reportOf verd) x → Stored (stores verd) (hostByte x)
+    words-performed (Refused r) none = absurd none
     words-performed (Do plan) among =
-        three-of (begun at) (dataStores (Do plan)) (reported at (plan .report)) (hostByte x)
-        (inr (inr (in-row hostByte (at + words (Do plan) .from) (words (Do plan) .bytes) x among)))
+        three-of (begun at) (dataStores (Do plan)) (reported at (plan .report)) (hostByte x) (inr (inr (in-report at (plan .report) x among)))
 
     performs-image : (verd : Verdict) → Stored (stores verd) (imageByte x) → Stored (dataStores verd) (imageByte x)
     unfolding Stored kind
     performs-image (Refused r) there = absurd there
     performs-image (Do plan) there =
         ⊎-elim (λ word. absurd (other-kind hostByte (at + 2) (0x81 ∷ 0x00 ∷ []) (imageByte x) (λ y e. omega arith) word))
-        (λ rest. ⊎-elim (λ d. d) (λ w. absurd (other-kind hostByte _ _ (imageByte x) (λ y e. omega arith) w)) rest)
+        (λ rest. ⊎-elim (λ d. d) (λ w. absurd (none-elsewhere at (plan .report) (imageByte x) (λ y e. omega arith) w)) rest)
         (of-three (begun at) (dataStores (Do plan)) (reported at (plan .report)) (imageByte x) there)
 
     image-data-performed : (verd : Verdict) → Stored (dataStores verd) (imageByte x) → Stored (stores verd) (imageByte x)
@@ -247,22 +268,22 @@ module _ (host : List ℕ) (d : Drive) (at : ℕ) where
     performs-no-event (Do plan) there =
         ⊎-elim (λ word. other-kind hostByte (at + 2) (0x81 ∷ 0x00 ∷ []) (eventByte x) (λ y e. omega arith) word)
         (λ rest.
-        ⊎-elim (λ m. no-event (d .image) (transferred (Do plan)) x m) (λ w. other-kind hostByte _ _ (eventByte x) (λ y e. omega arith) w) rest)
+        ⊎-elim (λ m. no-event (d .image) (transferred (Do plan)) x m) (λ w. none-elsewhere at (plan .report) (eventByte x) (λ y e. omega arith) w) rest)
         (of-three (begun at) (dataStores (Do plan)) (reported at (plan .report)) (eventByte x) there)
 
 -- ---- a block
 
 module _ (v : Visit) where
   abbrev pub performance : Performance
-  performance = holding (v .world .controller) (blockOf v .options .reserve) (verdictOf v) (judged (v .world .host) (namedDrive v) (v .at) (verdictOf v))
+  performance = actedOn (v .world .host) (namedDrive v) (v .at) (verdictOf v)
 
   abbrev pub closing : List Store
   closing = finish (blockOf v) (v .at) (v .index) (performance .answer) (performance .travel)
 
   -- A block is performed as it is judged, and then finished.
-  pub effect-is : effectOf v ≡ finished (blockOf v) (v .at) (v .index) performance
-  unfolding effectAt effectOn
-  effect-is = refl
+  pub effect-is : effectOf v ≡ finished (v .world .controller) (blockOf v) (v .at) (v .index) (verdictOf v) performance
+  unfolding effectAt
+  effect-is = effect-finished (v .world .controller) (v .world .host) (namedDrive v) (v .at) (v .index)
 
   -- So what it leaves of any buffers are those that performing leaves, once it is finished.
   pub performed-then-closed : (b : Buffers) → after (effectOf v .stores) b ≡ after closing (after (performance .stores) b)
@@ -302,7 +323,7 @@ module _ (v : Visit) where
     finish-counts late =
         status-word (finish-host (blockOf v) (v .at) (v .index) (performance .answer) (performance .travel) x late)
 
-    report-counts : Among (v .at + wordsBy (askedOf v) .from) (length (wordsBy (askedOf v) .bytes)) x → WritesHost v x
+    report-counts : InReport (v .at) (reportOf (verdictOf v)) x → WritesHost v x
     report-counts among = report among
 
     -- A host byte is written exactly where 01 says.

@@ -15,15 +15,16 @@ use Rattle.judge.specs.declared.Leaving.{Leaving}
 use Rattle.judge.specs.declared.Leaving.the-variants.{AsItWas, HeadsAt, HeadsAtLastTried, Fresh, Mapped}
 use Rattle.judge.specs.declared.Moving.{Moving}
 use Rattle.judge.specs.declared.Report.{Report}
+use Rattle.judge.specs.declared.Report.the-variants.{Nothing as Silent, Identity, Formatted}
 use Rattle.judge.specs.declared.Verdict.{Verdict}
 use Rattle.judge.specs.declared.Verdict.the-variants.{Refused, Do}
-use Rattle.judge.specs.Given.{Asked}
+use Rattle.judge.specs.Given.{Asked, on}
 use Rattle.judge.specs.Verdict.{verdict}
 use Rattle.unit.specs.declared.UnitNumber.{UnitNumber}
 use Rattle.transfer.specs.Data.{Transfer, diskByte, progressOn}
 use Rattle.transfer.specs.Progress.{Progress}
 use Rattle.transfer.specs.Unreadable.{MeetsUnreadable, StopsBefore}
-use Rattle.block.specs.Block.{Drive, Words, asking, transferOf, wordsOf}
+use Rattle.block.specs.Block.{Drive, transferOf}
 use Rattle.demands.specs.Visits.{Visit, blockOf, fetchedBy}
 use Rattle.board.specs.World.{World, driveOf, unitAt}
 
@@ -33,7 +34,7 @@ movingOf (Refused r) = Moving.Nothing
 movingOf (Do plan) = plan .moving
 
 abbrev pub reportOf : Verdict → Report
-reportOf (Refused r) = Report.Nothing
+reportOf (Refused r) = Silent
 reportOf (Do plan) = plan .report
 
 abbrev pub leavingOf : Verdict → Leaving
@@ -42,15 +43,12 @@ leavingOf (Do plan) = plan .leaving
 
 -- ---- of what is judged, on a drive
 
--- The transfer that is made, how far it comes, and the words that are reported.
+-- The transfer that is made, and how far it comes.
 abbrev pub transferBy : Asked → Transfer
 transferBy a = transferOf (a .host) (a .unit) (movingOf (verdict a))
 
 abbrev pub comes : Asked → Drive → Progress
 comes a d = progressOn (d .image) (transferBy a)
-
-abbrev pub wordsBy : Asked → Words
-wordsBy a = wordsOf (reportOf (verdict a))
 
 -- Byte x is where the transfer has one of the bytes that it moved: in host memory, going this way; or in the image.
 pub record HostData (a : Asked) (d : Drive) (to-host : Bool) (x : ℕ) : Type 0 where
@@ -65,12 +63,19 @@ pub record DiskData (a : Asked) (d : Drive) (to-host : Bool) (x : ℕ) : Type 0 
   pub moved : byte < comes a d .sectors * B (transferBy a .geometry)
   pub here : diskByte (transferBy a .geometry) (transferBy a .place) byte ≡ x
 
+-- Byte x is among the words that a block at an address reports: "words 2 to 7 for 86", and for an accepted 8C the lower byte of word 3, and word 4
+-- (02, K1).
+abbrev pub InReport : (at : ℕ) → Report → (x : ℕ) → Type 0
+InReport at Silent x = ⊥
+InReport at Identity x = Among (at + 4) 12 x
+InReport at (Formatted n) x = Among (at + 7) 3 x
+
 -- What a block at an address of host memory writes there.
 pub data HostWritten (at : ℕ) (a : Asked) (d : Drive) (x : ℕ) : Type 0 where
   -- "word 1 of each fetched block"
   status-word : Among (at + 2) 2 x → HostWritten at a d x
-  -- "words 2 to 7 for 86", and for an accepted 8C the lower byte of word 3, and word 4 (02, K1): the words that it reports
-  report : Among (at + wordsBy a .from) (length (wordsBy a .bytes)) x → HostWritten at a d x
+  -- the words that it reports
+  report : InReport at (reportOf (verdict a)) x → HostWritten at a d x
   -- "the data bytes that 81 and A1 moved"
   moved : HostData a d true x → HostWritten at a d x
 
@@ -113,7 +118,7 @@ abbrev pub namedDrive : Visit → Drive
 namedDrive v = driveOf (v .world) (names v)
 
 abbrev pub askedOf : Visit → Asked
-askedOf v = asking (v .world .controller) (taskOf (v .world .host) (blockOf v)) (namedDrive v) (v .world .host)
+askedOf v = on (v .world .controller) (namedDrive v .unit) (length (namedDrive v .image)) (taskOf (v .world .host) (blockOf v)) (v .world .host)
 
 abbrev pub verdictOf : Visit → Verdict
 verdictOf v = verdict (askedOf v)

@@ -23,14 +23,15 @@ use Rattle.judge.specs.declared.Moving.{Moving}
 use Rattle.judge.specs.declared.Moving.the-variants.{Nothing, Sectors, Track}
 use Rattle.judge.specs.declared.Verdict.{Verdict}
 use Rattle.judge.specs.declared.Verdict.the-variants.{Refused, Do}
-use Rattle.judge.specs.Given.{Asked}
+use Rattle.judge.specs.Given.{Asked, on}
 use Rattle.judge.specs.Reads.{InList, InUib}
 use Rattle.judge.specs.Verdict.{verdict}
 use Rattle.judge.proofs.LetThrough.{list-let-through}
 use Rattle.judge.proofs.Locality.{block-local}
 use Rattle.transfer.specs.Data.{Transfer, dataOn, progressOn}
 use Rattle.transfer.proofs.Joined.{joined-same}
-use Rattle.block.specs.Block.{Drive, Performance, asking, begun, bufferOf, dataByte, finished, holding, judged, leftBy, reported, transferOf, transferWith, travelled}
+use Rattle.block.specs.Block.{Drive, begun, dataByte, leftBy, reported, transferOf, travelled}
+use Rattle.block.specs.Steps.{actedOn, finished, transferWith}
 use Rattle.unit.specs.Standing.{cylinder}
 use Rattle.demands.specs.Footprint.{askedOf, movingOf, namedDrive, names, transferBy, verdictOf}
 use Rattle.demands.specs.Visits.{Visit, blockOf, effectOf}
@@ -107,7 +108,7 @@ module _
 
     -- What is judged of the same block and drive in the other memory.
     abbrev judged-there : Block → Drive → Asked
-    judged-there b d = asking (v .world .controller) (taskOf (k .host) b) d (k .host)
+    judged-there b d = on (v .world .controller) (d .unit) (length (d .image)) (taskOf (k .host) b) (k .host)
 
     verdict-there : verdictOf v ≡ verdict (judged-there (blockOf v) (namedDrive v))
     verdict-there =
@@ -116,11 +117,13 @@ module _
 
     verdict-alike : verdictOf v ≡ verdictOf there
     verdict-alike =
-        verdict-there ∙ (λ i. verdict (asking (run-by i) (taskOf (k .host) (block-alike i)) (drive-alike i) (k .host)))
+        verdict-there ∙ (λ i. verdict (on (run-by i) (drive-alike i .unit) (length (drive-alike i .image)) (taskOf (k .host) (block-alike i)) (k .host)))
 
-    -- Where the data of the block lies.
-    data-alike :
-        (verd : Verdict) → verdictOf v ≡ verd → dataByte h (bufferOf (movingOf verd)) ≡ dataByte (k .host) (bufferOf (movingOf verd))
+    -- The transfer that is made: where the data of the block lies.
+    abbrev made-in : List ℕ → Moving → Transfer
+    made-in host m = transferOf host (namedDrive v .unit) m
+
+    data-alike : (verd : Verdict) → verdictOf v ≡ verd → made-in h (movingOf verd) ≡ made-in (k .host) (movingOf verd)
     data-alike (Refused r) is = refl
     data-alike (Do p) is = by-moving (p .moving) refl
       where
@@ -133,16 +136,16 @@ module _
             (λ i. elementOf (k .host) at i .address) n 0 y
             (λ t less. rw zero-add (ap (λ e. e .bytes) (same t less), ap (λ e. e .address) (same t less)))
 
-        by-moving : (m : Moving) → p .moving ≡ m → dataByte h (bufferOf m) ≡ dataByte (k .host) (bufferOf m)
+        by-moving : (m : Moving) → p .moving ≡ m → made-in h m ≡ made-in (k .host) m
         by-moving Nothing moves = refl
         by-moving (Track spot at) moves = refl
-        by-moving (Sectors j) moves = fun-ext (of-buffer j moves (j .buffer) refl)
+        by-moving (Sectors j) moves = ap (transferWith (namedDrive v .unit) (Sectors j)) (fun-ext (of-buffer j moves (j .buffer) refl))
 
     -- So what is done is the same.
-    judged-alike :
-        (verd : Verdict) → verdictOf v ≡ verd → judged h (namedDrive v) (v .at) verd ≡ judged (k .host) (namedDrive v) (v .at) verd
-    judged-alike (Refused r) is = refl
-    judged-alike (Do p) is =
+    performed-alike :
+        (verd : Verdict) → verdictOf v ≡ verd → actedOn h (namedDrive v) (v .at) verd ≡ actedOn (k .host) (namedDrive v) (v .at) verd
+    performed-alike (Refused r) is = refl
+    performed-alike (Do p) is =
         let d = namedDrive v in
         ap
         (λ (t : Transfer).
@@ -155,24 +158,19 @@ module _
           sectors = q .sectors;
           travel = travelled (cylinder (d .unit)) (p .leaving) (cylinder unit);
         })
-        (ap (transferWith (d .unit) (p .moving)) (data-alike (Do p) is))
+        (data-alike (Do p) is)
 
     pub effect-alike : effectOf v ≡ effectOf there
     effect-alike =
         effect-is v
-        ∙ ap
-        (λ (p : Performance). finished (blockOf v) (v .at) (v .index) (holding (v .world .controller) (blockOf v .options .reserve) (verdictOf v) p))
-        (judged-alike (verdictOf v) refl)
-        ∙ (λ i.
-        finished (block-alike i) (v .at) (v .index)
-        (holding (run-by i) (block-alike i .options .reserve) (verdict-alike i) (judged (k .host) (drive-alike i) (v .at) (verdict-alike i))))
+        ∙ ap (finished (v .world .controller) (blockOf v) (v .at) (v .index) (verdictOf v)) (performed-alike (verdictOf v) refl)
+        ∙ (λ i. finished (run-by i) (block-alike i) (v .at) (v .index) (verdict-alike i) (actedOn (k .host) (drive-alike i) (v .at) (verdict-alike i)))
         ∙ sym (effect-is there)
 
     -- It reads the same bytes there.
     transfer-there : transferBy (askedOf v) ≡ transferBy (judged-there (blockOf v) (namedDrive v))
     transfer-there =
-        ap (transferWith (namedDrive v .unit) (movingOf (verdictOf v))) (data-alike (verdictOf v) refl) ∙
-        ap (λ verd. transferOf (k .host) (namedDrive v .unit) (movingOf verd)) verdict-there
+        data-alike (verdictOf v) refl ∙ ap (λ verd. made-in (k .host) (movingOf verd)) verdict-there
 
     pub reads-alike : (x : ℕ) → ReadsHost v x ↔ ReadsHost there x
     reads-alike x =
@@ -180,11 +178,12 @@ module _
         let d = namedDrive v in
         let moved-along : HostRead (v .at) (b .address) (judged-there b d) d x ≡ ReadsHost there x =
         λ i.
-        HostRead (v .at) (block-alike i .address) (asking (run-by i) (taskOf (k .host) (block-alike i)) (drive-alike i) (k .host)) (drive-alike i) x in
+        HostRead (v .at) (block-alike i .address)
+        (on (run-by i) (drive-alike i .unit) (length (drive-alike i .image)) (taskOf (k .host) (block-alike i)) (k .host)) (drive-alike i) x in
         Iff·trans (
-          read-too (v .at) (b .address) (askedOf v) (judged-there b d) d (uib-read-alike (v .world .controller) h (k .host) long d b)
-              (list-read-alike (v .world .controller) h (k .host) long d b) transfer-there x,
-          read-too (v .at) (b .address) (judged-there b d) (askedOf v) d (uib-read-alike (v .world .controller) (k .host) h (sym long) d b)
-              (list-read-alike (v .world .controller) (k .host) h (sym long) d b) (sym transfer-there) x,
+          read-too (v .at) (b .address) (askedOf v) (judged-there b d) d (uib-read-alike (v .world .controller) h (k .host) long (d .unit) (length (d .image)) b)
+              (list-read-alike (v .world .controller) h (k .host) long (d .unit) (length (d .image)) b) transfer-there x,
+          read-too (v .at) (b .address) (judged-there b d) (askedOf v) d (uib-read-alike (v .world .controller) (k .host) h (sym long) (d .unit) (length (d .image)) b)
+              (list-read-alike (v .world .controller) (k .host) h (sym long) (d .unit) (length (d .image)) b) (sym transfer-there) x,
         )
         (transport moved-along, transport⁻¹ moved-along)

@@ -33,7 +33,7 @@ use Rattle.request.specs.declared.Buffer.{Buffer}
 use Rattle.request.specs.declared.Move.{Move}
 use Rattle.request.specs.declared.Shape.{Shape}
 use Rattle.request.specs.declared.Task.{Task}
-use Rattle.demands.specs.Footprint.{HostData, RunNames, RunWrites, WritesHost, askedOf, comes, movingOf, namedDrive, names, reportOf, transferBy, verdictOf, wordsBy}
+use Rattle.demands.specs.Footprint.{HostData, InReport, RunNames, RunWrites, WritesHost, askedOf, comes, movingOf, namedDrive, names, reportOf, transferBy, verdictOf}
 use Rattle.demands.specs.Visits.{Passes, Visit, blockOf, effectOf}
 use Rattle.demands.proofs.Fits.{drives-geometry}
 use Rattle.demands.proofs.BlockLaws.{refusal-moves-nothing}
@@ -116,7 +116,7 @@ module _ (w : World) (at : ℕ) (passes : Passes at 1 w) where
     pub alone :
         ((x : ℕ) → InUib (askedOf v) (blockOf v .address) 18 x ⊎ InList (askedOf v) x → In rs x) →
         ((x : ℕ) → HostData (askedOf v) (namedDrive v) false x → In rs x) →
-        ((x : ℕ) → Among (v .at + wordsBy (askedOf v) .from) (length (wordsBy (askedOf v) .bytes)) x → In ws x) →
+        ((x : ℕ) → InReport (v .at) (reportOf (verdictOf v)) x → In ws x) →
         ((x : ℕ) → HostData (askedOf v) (namedDrive v) true x → In ws x) →
         Alone at w (names v) ((at, 28) ∷ rs) ((at + 2, 2) ∷ ws)
     alone judged from reported to =
@@ -134,7 +134,7 @@ module _ (w : World) (at : ℕ) (passes : Passes at 1 w) where
 
   pub silent :
       (verd : Verdict) → verdictOf v ≡ verd → reportOf verd ≡ Report.Nothing → (x : ℕ) →
-      Among (v .at + wordsBy (askedOf v) .from) (length (wordsBy (askedOf v) .bytes)) x → ⊥
+      InReport (v .at) (reportOf (verdictOf v)) x → ⊥
   silent verd is says x among = no-words v x (ap reportOf is ∙ says) among
 
 -- Only an initialize has a UIB that is read, and only a transfer a list.

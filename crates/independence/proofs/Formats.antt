@@ -6,7 +6,6 @@ use mathlib.Core.List.{[], _∷_}
 use mathlib.Core.Logic.{inl, ⊎-elim}
 use mathlib.Core.Path.{_≡_, sym, subst}
 use native.Mathlib.Omega.{arith}
-use lib.ListN.{length}
 use Rattle.wire.specs.Among.{Among}
 use Rattle.wire.proofs.Promises.{never as impossible}
 use Rattle.geometry.specs.Drive.{B, S}
@@ -14,9 +13,8 @@ use Rattle.iopb.specs.Ask.{taskOf}
 use Rattle.unit.specs.Standing.{geometry}
 use Rattle.judge.specs.declared.Verdict.{Verdict}
 use Rattle.judge.specs.Asks.{planOf}
-use Rattle.block.specs.Block.{wordsOf}
 use Rattle.request.specs.declared.Task.{Task}
-use Rattle.demands.specs.Footprint.{HostData, RunWrites, WritesHost, askedOf, namedDrive, names, reportOf, verdictOf}
+use Rattle.demands.specs.Footprint.{HostData, InReport, RunWrites, WritesHost, askedOf, namedDrive, names, reportOf, verdictOf}
 use Rattle.demands.specs.Footprint.HostWritten.{report}
 use Rattle.demands.specs.Visits.{Passes, Visit, blockOf}
 use Rattle.demands.proofs.Fits.{drives-geometry}
@@ -51,7 +49,7 @@ module _
         alone w 0 passes ((buffer, 64) ∷ []) ((7, 3) ∷ [])
         (λ x j. ⊎-elim (λ uib. absurd (no-uib _ _ _ x (λ s is. impossible (cc (task, is))) uib)) (λ list. absurd (no-list _ x (λ m is. impossible (cc (task, is))) list)) j)
         (λ x d. inl (data-lies x d))
-        (λ x among. inl (subst (λ (verd : Verdict). Among (0 + wordsOf (reportOf verd) .from) (length (wordsOf (reportOf verd) .bytes)) x) judged among))
+        (λ x among. inl (subst (λ (verd : Verdict). InReport 0 (reportOf verd) x) judged among))
         (λ x d. absurd (not-stored x d))
 
     pub format-comes : FormatTold b

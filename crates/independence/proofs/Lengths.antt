@@ -21,23 +21,23 @@ use Rattle.iopb.specs.Ask.{shapeAt, taskOf}
 use Rattle.iopb.proofs.Answers.{shapeAt-inside, shapeAt-outside}
 use Rattle.iopb.proofs.Locality.{asked-by-87, task-apart}
 use Rattle.judge.specs.Asks.{checks}
-use Rattle.judge.specs.Given.{Asked}
+use Rattle.judge.specs.Given.{Asked, on}
 use Rattle.judge.proofs.Locality.{placed-uib-read, read-uib-placed}
 use Rattle.geometry.specs.declared.Geometry.{Geometry}
 use Rattle.iopb.specs.Layout.{uibAt}
 use Rattle.judge.specs.Reads.{InList, InUib}
 use Rattle.unit.specs.declared.Controller.{Controller}
-use Rattle.block.specs.Block.{Drive, asking}
+use Rattle.unit.specs.Standing.{UnitRecord}
 use Rattle.judge.specs.Passed.{None, before}
 
 no-shape-moves : {s : Shape} {m : Move} → Initialize s ≡ Moves m → ⊥
 no-shape-moves e = never cc
 
-module _ (by : Controller) (h k : List ℕ) (long : length h ≡ length k) (d : Drive) where
+module _ (by : Controller) (h k : List ℕ) (long : length h ≡ length k) (u : UnitRecord) (image : ℕ) where
   -- The checks before 18, of the same task.
   before-list-alike :
-      (t : Task) (m : Move) (at n : ℕ) → t ≡ Moves m → m .buffer ≡ Elements at n → None (before ListBad (checks (asking by t d h))) →
-      None (before ListBad (checks (asking by t d k)))
+      (t : Task) (m : Move) (at n : ℕ) → t ≡ Moves m → m .buffer ≡ Elements at n → None (before ListBad (checks (on by u image t h))) →
+      None (before ListBad (checks (on by u image t k)))
   before-list-alike t m at n asks buffer passed = rw (asks, buffer) (rw (asks, buffer) at passed)
 
   -- A UIB that is where it can be read in one memory is so in the other.
@@ -48,10 +48,10 @@ module _ (by : Controller) (h k : List ℕ) (long : length h ≡ length k) (d : 
 
   module _ (b : Block) where
     abbrev in-h : Asked
-    in-h = asking by (taskOf h b) d h
+    in-h = on by u image (taskOf h b) h
 
     abbrev in-k : Asked
-    in-k = asking by (taskOf k b) d k
+    in-k = on by u image (taskOf k b) k
 
     pub list-read-alike : (x : ℕ) → InList in-h x → InList in-k x
     list-read-alike x l =
@@ -63,7 +63,7 @@ module _ (by : Controller) (h k : List ℕ) (long : length h ≡ length k) (d : 
           elements = l .elements;
           buffer = l .buffer;
           passed =
-              subst (λ t. None (before ListBad (checks (asking by t d k)))) same
+              subst (λ t. None (before ListBad (checks (on by u image t k)))) same
               (before-list-alike (taskOf h b) (l .move) (l .at) (l .elements) (l .asks) (l .buffer) (l .passed));
           some = l .some;
           most = l .most;
@@ -72,11 +72,11 @@ module _ (by : Controller) (h k : List ℕ) (long : length h ≡ length k) (d : 
         }
 
     pub uib-read-alike : (x : ℕ) → InUib in-h (b .address) 18 x → InUib in-k (b .address) 18 x
-    uib-read-alike x u =
-        let read = read-uib-placed in-h (b .address) 18 x u in
+    uib-read-alike x uib =
+        let read = read-uib-placed in-h (b .address) 18 x uib in
         by-cases (ℕ-discrete (b .command) 0x87)
         (λ is.
         let given : shapeAt h (b .address) ≡ Shape.Given (read .0 .0) = cc (asked-by-87 h b is, read .0 .1) in
-        placed-uib-read in-k (b .address) 18 x _ _ (asked-by-87 k b is) (placed-alike (b .address) _ given) (read .1) (u .among))
+        placed-uib-read in-k (b .address) 18 x _ _ (asked-by-87 k b is) (placed-alike (b .address) _ given) (read .1) (uib .among))
         (λ other.
-        placed-uib-read in-k (b .address) 18 x _ _ (sym (task-apart h k b other) ∙ read .0 .1) refl (read .1) (u .among))
+        placed-uib-read in-k (b .address) 18 x _ _ (sym (task-apart h k b other) ∙ read .0 .1) refl (read .1) (uib .among))

@@ -7,7 +7,6 @@ use mathlib.Core.Logic.{_⊎_, inl, inr, if-neg, if-pos}
 use mathlib.Core.Path.{_≡_, refl, sym, ap, subst, _∙_}
 use native.Mathlib.Nat.{zero-mul}
 use native.Mathlib.Omega.{arith}
-use lib.ListN.{length}
 use Rattle.board.specs.declared.chain.Count.{Count}
 use Rattle.wire.specs.Among.{Among}
 use Rattle.answers.specs.declared.BlockAnswer.{BlockAnswer}
@@ -21,10 +20,10 @@ use Rattle.judge.specs.declared.Report.{Report}
 use Rattle.judge.specs.Reads.{InList, InUib}
 use Rattle.transfer.specs.Data.{progressOn}
 use Rattle.transfer.specs.Progress.{progress}
-use Rattle.block.specs.Block.{transferOf, wordsOf}
+use Rattle.block.specs.Block.{transferOf}
 use Rattle.board.specs.Chain.{Ending, ends, follows, nothing, ran}
 use Rattle.board.proofs.Runs.{ran-chain}
-use Rattle.demands.specs.Footprint.{HostData, Some, WritesHost, askedOf, movingOf, namedDrive, reportOf, verdictOf, wordsBy}
+use Rattle.demands.specs.Footprint.{HostData, InReport, Some, WritesHost, askedOf, movingOf, namedDrive, reportOf, verdictOf}
 use Rattle.demands.specs.Footprint.HostWritten.{moved as given, report, status-word}
 use Rattle.demands.specs.Visits.{Passes, Visit, blockOf, effectOf, fetchedBy, onwards, passes?, visits, worldLeft}
 use Rattle.demands.proofs.Endings.{fetched-step, visits-step}
@@ -100,7 +99,7 @@ In (r ∷ rs) x = Among (r .0) (r .1) x ⊎ In rs x
 module _ (v : Visit) (rs : List (ℕ × ℕ)) (x : ℕ) where
   -- Beside word 1 a block writes what it reports and the data that it moves to host memory.
   pub writes-in :
-      (Among (v .at + wordsBy (askedOf v) .from) (length (wordsBy (askedOf v) .bytes)) x → In rs x) →
+      (InReport (v .at) (reportOf (verdictOf v)) x → In rs x) →
       (HostData (askedOf v) (namedDrive v) true x → In rs x) → WritesHost v x → In ((v .at + 2, 2) ∷ rs) x
   writes-in reported carried (status-word word) = inl word
   writes-in reported carried (report among) = inr (reported among)
@@ -129,10 +128,8 @@ module _ (v : Visit) (x : ℕ) where
       omega (arith, less, none)
 
   pub no-words :
-      reportOf (verdictOf v) ≡ Report.Nothing → Among (v .at + wordsBy (askedOf v) .from) (length (wordsBy (askedOf v) .bytes)) x → ⊥
-  no-words is among =
-      let none = subst (λ (r : Report). Among (v .at + wordsOf r .from) (length (wordsOf r .bytes)) x) is among in
-      omega (arith, none)
+      reportOf (verdictOf v) ≡ Report.Nothing → InReport (v .at) (reportOf (verdictOf v)) x → ⊥
+  no-words is among = subst (λ (r : Report). InReport (v .at) r x) is among
 
 -- Ranges that have no byte in common, two by two.
 abbrev Clear : ℕ × ℕ → List (ℕ × ℕ) → Type 0

@@ -17,8 +17,10 @@ use Rattle.judge.specs.declared.Verdict.{Verdict}
 use Rattle.judge.specs.declared.Verdict.the-variants.{Refused, Do}
 use Rattle.transfer.specs.Data.{Transfer, dataOn, moveAt, progressOn}
 use Rattle.transfer.specs.Stores.{Cell, Store, bytesFrom, copyOf, eventByte, hostByte, imageByte, upTo}
-use Rattle.block.specs.Block.{Drive, Effect, begun, finish, judged, reported, transferOf, wordsOf}
+use Rattle.block.specs.Block.{Drive, Effect, begun, finish, reported, transferOf}
 use Rattle.block.specs.Events.{entry}
+use Rattle.block.specs.Steps.{actedOn}
+use Rattle.block.proofs.Effects.{reported-row}
 use Rattle.demands.specs.Footprint.{askedOf, movingOf, namedDrive, transferBy, verdictOf}
 use Rattle.demands.specs.Visits.{Visit, blockOf, effectOf}
 use Rattle.demands.proofs.Written.{effect-is, performance}
@@ -85,7 +87,7 @@ finish-has-none b at i answer travel x there =
 
 -- Of what performing stores only the data has a source.
 performed-sources :
-    (host : List ℕ) (d : Drive) (at : ℕ) (verd : Verdict) (x : ℕ) → Sourced (judged host d at verd .stores) x →
+    (host : List ℕ) (d : Drive) (at : ℕ) (verd : Verdict) (x : ℕ) → Sourced (actedOn host d at verd .stores) x →
     Sourced (dataOn (d .image) (transferOf host (d .unit) (movingOf verd))) x
 unfolding Sourced
 performed-sources host d at (Refused r) x there = absurd there
@@ -94,7 +96,9 @@ performed-sources host d at (Do p) x there =
     (λ earlier.
     ⊎-elim (λ mark. absurd (numbers-have-none hostByte (at + 2) (0x81 ∷ 0x00 ∷ []) x mark)) (λ middle. middle)
     (of-append (begun at) (dataOn (d .image) (transferOf host (d .unit) (p .moving))) x earlier))
-    (λ words. absurd (numbers-have-none hostByte (at + wordsOf (p .report) .from) (wordsOf (p .report) .bytes) x words))
+    (λ words.
+    let row = reported-row at (p .report) in
+    absurd (numbers-have-none hostByte (row .0) (row .1 .0) x (subst (λ (ss : List Store). Sourced ss x) (row .1 .1) words)))
     (of-append (begun at ++ dataOn (d .image) (transferOf host (d .unit) (p .moving))) (reported at (p .report)) x there)
 
 module _ (v : Visit) (x : ℕ) where

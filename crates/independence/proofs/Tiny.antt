@@ -10,7 +10,7 @@ use lib.ListN.{getD, length}
 use Rattle.wire.specs.Memory.{InMemory}
 use Rattle.answers.specs.declared.BlockAnswer.{BlockAnswer}
 use Rattle.answers.specs.declared.Refusal.{Refusal}
-use Rattle.block.specs.Block.{transferWith}
+use Rattle.block.specs.Steps.{transferWith}
 use Rattle.geometry.specs.declared.Geometry.{Geometry}
 use Rattle.geometry.specs.declared.VolumeNumber.the-variants.{Zero, One}
 use Rattle.geometry.specs.Drive.{driveHeads, marksAt, need, volume, volumeSectors}

@@ -33,10 +33,10 @@ use Rattle.transfer.specs.Data.{dataOn}
 use Rattle.transfer.specs.Progress.{progress, stopsAt}
 use Rattle.transfer.specs.Stores.{after, bytesFrom, upTo}
 use Rattle.transfer.specs.Stores as Stores
-use Rattle.block.specs.Block.{begun, finish, transferOf, wordsOf}
+use Rattle.block.specs.Block.{begun, finish, transferOf}
 use Rattle.iopb.specs.Identity.{identityBytes}
 use lib.IntN.{pos}
-use Rattle.demands.specs.Footprint.{RunWrites, WritesHost, askedOf, namedDrive, names, reportOf, transferBy, verdictOf}
+use Rattle.demands.specs.Footprint.{InReport, RunWrites, WritesHost, askedOf, namedDrive, names, reportOf, transferBy, verdictOf}
 use Rattle.demands.specs.Footprint.HostWritten.{moved as given, report, status-word}
 use Rattle.demands.specs.Visits.{Passes, Visit, worldLeft}
 use Rattle.demands.proofs.Reports.{FormatTold}
@@ -418,7 +418,7 @@ read-first =
     alone (firstIn readByOther) 0 (read-pass .0) [] ((4, 12) ∷ [])
     (λ x j. ⊎-elim (λ uib. absurd (no-uib _ _ _ x (λ s is. impossible cc) uib)) (λ list. absurd (no-list _ x (λ m is. impossible cc) list)) j)
     (still (firstIn readByOther) 0 (read-pass .0) _ read-report refl false)
-    (λ x among. inl (subst (λ (verd : Verdict). Among (0 + wordsOf (reportOf verd) .from) (length (wordsOf (reportOf verd) .bytes)) x) read-report among))
+    (λ x among. inl (subst (λ (verd : Verdict). InReport 0 (reportOf verd) x) read-report among))
     (λ x d. absurd (still (firstIn readByOther) 0 (read-pass .0) _ read-report refl true x d))
 
 read-second : Alone 28 (secondIn readByOther) One ((28, 28) ∷ (4, 18) ∷ []) ((30, 2) ∷ [])

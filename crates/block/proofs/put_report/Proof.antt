@@ -1,9 +1,10 @@
 -- Nothing reported stores nothing.
 -- The identity, and what a format reports, are each stored by a function of its own.
+use Rattle.transfer.specs.Stores.{after}
+use Rattle.block.proofs.Effects.{row-made}
 use borrow.Author.Needs.{needs}
 use Rattle.block.proofs.put_report.Statement.{statement}
 use Rattle.block.proofs.put_report.Tie as tie
-use Rattle.wire.specs.Storing.{written}
 
 enum-told : tie.Need-enum-told
 enum-told c = search needs
@@ -23,20 +24,20 @@ put-formatted-requires c κs =
     (start .pre .0, rw (c .before .before .report .given .1) at (start .pre .1))
 
 returns : tie.Need-returns
-unfolding written
-returns c = rw (c .enum-told .given .1)
+unfolding after
+returns c = λ image events. rw (c .enum-told .given .1)
 
 same-length : tie.Need-same-length
 same-length c = search needs
 
 returns-2 : tie.Need-returns-2
-returns-2 c = rw (c .before .before .before .before .enum-told2 .given .1) (c .before .before .put-identity .ensures)
+returns-2 c = rw (c .before .before .before .before .enum-told2 .given .1) (row-made _ _ _ _ (c .before .before .put-identity .ensures))
 
 same-length-2 : tie.Need-same-length-2
 same-length-2 c = search needs
 
 returns-3 : tie.Need-returns-3
-returns-3 c = rw (c .before .before .before .before .before .report .given .1) (c .before .before .put-formatted .ensures)
+returns-3 c = rw (c .before .before .before .before .before .report .given .1) (row-made _ _ _ _ (c .before .before .put-formatted .ensures))
 
 pub put-report-spec : {M : Type 1} → statement M
 put-report-spec =

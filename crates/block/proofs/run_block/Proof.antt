@@ -1,15 +1,17 @@
 -- The verdict is that on the block's task. A refused block is only finished; an accepted one is performed first.
 use mathlib.Core.Path.{_≡_, refl, sym, ap, _∙_}
 use native.Mathlib.Omega.{arith}
+use lib.ListN.{length}
 use Rattle.unit.specs.Standing.{CountsAsInitialized, UnitRecord, unitOf}
 use Rattle.wire.specs.Promise.{Says}
 use Rattle.iopb.specs.Ask.{taskOf}
 use Rattle.judge.specs.declared.Verdict.{Verdict}
+use Rattle.judge.specs.Given.{Asked, on}
 use Rattle.judge.specs.Verdict.{verdict}
 use Rattle.judge.proofs.LetThrough.{plan-fits}
-use Rattle.block.specs.Block.{Drive, asking, finish, finished, holding, judged}
+use Rattle.block.specs.Block.{Drive, finish}
 use Rattle.iopb.specs.declared.Block.{Block}
-use Rattle.block.specs.Steps.{doneOf, driveWith}
+use Rattle.block.specs.Steps.{actedOn, doneOf, driveWith, finished}
 use Rattle.block.proofs.Effects.{effect-judged, then-made, told-of-it}
 use Rattle.block.proofs.Held.{held-table, held-told, holder-keeps, performed-held}
 use borrow.Author.Needs.{needs}
@@ -61,9 +63,12 @@ block : tie.After-judge → Block
 block c = reads c .read .result
 
 -- The verdict is that on the block's task.
-judgement :
-    (c : tie.After-judge) →
-    c .judge .result ≡ verdict (asking (begins c .args .c) (taskOf (begins c .args .host .now) (block c)) (drive c) (begins c .args .host .now))
+abbrev asks : tie.After-judge → Asked
+asks c =
+    let host = begins c .args .host .now in
+    on (begins c .args .c) (drive c .unit) (length (drive c .image)) (taskOf host (block c)) host
+
+judgement : (c : tie.After-judge) → c .judge .result ≡ verdict (asks c)
 unfolding begins drive block
 judgement c = rw (c .before .before .before .task .ensures) at (c .judge .ensures)
 
@@ -81,8 +86,7 @@ perform-requires : tie.Need-perform-requires
 unfolding begins drive block
 perform-requires c κs =
     let j = planned c in
-    let host = begins j .args .host .now in
-    (begins j .pre .0 .block, plan-fits (asking (begins j .args .c) (taskOf host (block j)) (drive j) host) _ (sym (judgement j) ∙ c .before .before .before .before .before .plan .given .1))
+    (begins j .pre .0 .block, plan-fits (asks j) _ (sym (judgement j) ∙ c .before .before .before .before .before .plan .given .1))
 
 hold-requires : tie.Need-hold-requires
 hold-requires c κs = search needs
@@ -110,11 +114,11 @@ returns c =
     let a = begins j .args in
     let read = reads j .read .ensures in
     let met = told .r .given in
-    let p = holding (a .c) (block j .options .reserve) (Verdict.Refused (met .0 .0)) (judged (a .host .now) (drive j) (a .at) (Verdict.Refused (met .0 .0))) in
-    let e = finished (block j) (a .at) (a .i) p in
+    let x = Verdict.Refused (met .0 .0) in
+    let e = finished (a .c) (block j) (a .at) (a .i) x (actedOn (a .host .now) (drive j) (a .at) x) in
     let f = c .before .before .before .before .finish in
     let is = refused .refuse .ensures in
-    rw (effect-judged (a .c) (a .host .now) (drive j) (a .at) (a .i) (block j) (Verdict.Refused (met .0 .0)) read (sym (judgement j) ∙ met .1))
+    rw (effect-judged (a .c) (a .host .now) (drive j) (a .at) (a .i) (block j) x read (sym (judgement j) ∙ met .1))
     (record {
       result =
           told-of-it (block j) e _ _ (rw is at (f .ensures .0)) (settles j .settled .ensures)
@@ -145,9 +149,8 @@ returns-2 c =
     let met = ready .before .before .before .before .before .plan .given in
     let d = drive j in
     let reserve = block j .options .reserve in
-    let made = judged (a .host .now) d (a .at) (Verdict.Do (met .0 .0)) in
-    let q = holding (a .c) reserve (Verdict.Do (met .0 .0)) made in
-    let e = finished (block j) (a .at) (a .i) q in
+    let made = actedOn (a .host .now) d (a .at) (Verdict.Do (met .0 .0)) in
+    let e = finished (a .c) (block j) (a .at) (a .i) (Verdict.Do (met .0 .0)) made in
     let is-plan = sym (judgement j) ∙ met .1 in
     let f = c .before .before .before .before .finish2 in
     let p = done .perform in
@@ -159,11 +162,11 @@ returns-2 c =
           told-of-it (block j) e _ _ (rw is at (f .ensures .0))
           (holder-keeps (a .c) reserve (λ (u : UnitRecord). Says (then .result) (CountsAsInitialized u)) (held-told (then .result)) (met .0 .0 .leaving) (made .answer) (made .unit)
           (then .ensures (d .unit) (made .sectors) (settles j .settled .ensures)
-          (plan-fits (asking (a .c) (taskOf (a .host .now) (block j)) d (a .host .now)) (met .0 .0) is-plan .leaving)))
+          (plan-fits (asks j) (met .0 .0) is-plan .leaving)))
           ∙ ap (λ (x : Block). doneOf x e) read;
       table = p .ensures .table ∙ held-table (a .c) reserve (met .0 .0 .leaving) (made .answer) (made .unit);
       stored =
-          then-made (q .stores) (finish (block j) (a .at) (a .i) (q .answer) (q .travel)) _ _ _ (p .ensures .stored (a .events .now))
+          then-made (made .stores) (finish (block j) (a .at) (a .i) (made .answer) (made .travel)) _ _ _ (p .ensures .stored (a .events .now))
           (rw is at (f .ensures .1 (p .last .1 .0)));
     })
 
