@@ -21,10 +21,10 @@ use Rattle.request.specs.declared.Buffer.{Buffer}
 use Rattle.unit.specs.declared.Spot.{Spot}
 use Rattle.unit.specs.Standing.{UnitRecord, geometry}
 use Rattle.transfer.specs.declared.Moved.{Moved}
-use Rattle.transfer.specs.Data.{Transfer, dataOn, moveAt, placeFrom, progressOn}
+use Rattle.transfer.specs.Data.{Transfer, dataOn, moveAt, progressOn}
 use Rattle.transfer.specs.Pieces.{joined}
 use Rattle.transfer.specs.Progress.{stopsAt}
-use Rattle.transfer.specs.Runs.{PiecesFit, pieceByte, sum}
+use Rattle.transfer.specs.Runs.{PiecesFit, pieceByte, sum, placeFrom}
 use Rattle.transfer.specs.Stores.{Store, after}
 use Rattle.transfer.proofs.Joined.{joined-one, joined-same, sum-same}
 use Rattle.transfer.proofs.Progress.{progress-most}

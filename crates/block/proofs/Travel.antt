@@ -11,7 +11,8 @@ use lib.Dec.{le→leb, leb→le}
 use lib.IntN.{ℤ, pos, negsuc, natAbs}
 use mir.Syntax.{w32}
 use mir.Val.{SFits}
-use Rattle.block.specs.Events.{InRange, travelTo, twosComplement}
+use Rattle.block.specs.Tells.{InRange}
+use Rattle.block.specs.Events.{travelTo, twosComplement}
 use Rattle.block.proofs.Complement.{complements-differ}
 
 upwards : (old new : ℕ) → old ≤ new → travelTo old new ≡ pos (new - old)

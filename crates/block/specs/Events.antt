@@ -3,7 +3,6 @@ use Prim.Native.Nat.{ℕ, _+_, _-_, _^_}
 use mathlib.Core.Bool.{cond}
 use mathlib.Core.List.{List, _∷_}
 use lib.IntN.{ℤ, pos, negsuc, _-ℤ_}
-use lib.Signed.{_≤ℤ_}
 use Rattle.answers.specs.declared.BlockAnswer.{BlockAnswer}
 use Rattle.answers.specs.declared.BlockAnswer.the-variants.{Ended, Failed}
 use Rattle.answers.specs.Numbers.{statusOf}
@@ -14,10 +13,6 @@ use Rattle.wire.specs.Words.{fourBytes}
 -- "Travel is the new cylinder minus the old one"
 abbrev pub travelTo : ℕ → ℕ → ℤ
 travelTo old new = pos new -ℤ pos old
-
--- "i32 difference from −4,095 to 4,095" (01, Which places take which form)
-abbrev pub InRange : ℤ → Type 0
-InRange travel = (negsuc 4094 ≤ℤ travel) × (travel ≤ℤ pos 4095)
 
 -- "a big-endian 32-bit two's complement number": -1 is FFFFFFFF.
 abbrev pub twosComplement : ℤ → ℕ

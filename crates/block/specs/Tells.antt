@@ -1,7 +1,8 @@
--- What a block has left of its answer when it has ended (01, One run): in its own word 1, and in its event entry, byte by byte.
+-- What a block has left of its answer when it has ended (01, One run): in its own word 1, and in its event entry, byte by byte; and the range of a travel.
 use Prim.Native.Nat.{ℕ, _+_, _*_, _<_}
 use mathlib.Core.Path.{_≡_}
-use lib.IntN.{ℤ}
+use lib.IntN.{ℤ, pos, negsuc}
+use lib.Signed.{_≤ℤ_}
 use lib.ListN.{getD}
 use Rattle.answers.specs.declared.BlockAnswer.{BlockAnswer}
 use Rattle.answers.specs.Numbers.{statusOf}
@@ -22,3 +23,7 @@ pub record Tells (b : Block) (at i : ℕ) (answer : BlockAnswer) (travel : ℤ) 
   pub entry-level : getD (m .events) (8 * i + 2) 0 ≡ levelOf b
   pub entry-vector : getD (m .events) (8 * i + 3) 0 ≡ vectorOf b answer
   pub entry-travel : (k : ℕ) → k < 4 → getD (m .events) (8 * i + 4 + k) 0 ≡ getD (fourBytes (twosComplement travel)) k 0
+
+-- "i32 difference from −4,095 to 4,095" (01, Which places take which form)
+abbrev pub InRange : ℤ → Type 0
+InRange travel = (negsuc 4094 ≤ℤ travel) × (travel ≤ℤ pos 4095)

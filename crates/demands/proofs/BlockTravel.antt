@@ -19,7 +19,8 @@ use Rattle.unit.specs.Landing.{spotOf}
 use Rattle.unit.specs.Standing.{CountsAsInitialized, UnitRecord, cylinder, geometry}
 use Rattle.unit.proofs.Laws.{spot-inside}
 use Rattle.block.specs.Block.{Effect, leftBy, travelled}
-use Rattle.block.specs.Events.{InRange, entry, travelTo}
+use Rattle.block.specs.Tells.{InRange}
+use Rattle.block.specs.Events.{entry, travelTo}
 use Rattle.block.specs.Steps.{actedOn}
 use Rattle.block.proofs.Travel.{travel-in-range}
 use Rattle.demands.specs.Footprint.{askedOf, namedDrive, verdictOf}

@@ -34,7 +34,7 @@ use Rattle.judge.specs.declared.Verdict.{Verdict}
 use Rattle.judge.specs.declared.Verdict.the-variants.{Refused, Do}
 use Rattle.judge.specs.Asks.{numberThere, planOf}
 use Rattle.judge.specs.Fits.{MovingFits}
-use Rattle.judge.specs.Given.{Asked, beginsAt, on}
+use Rattle.judge.specs.Given.{Asked, on}
 use Rattle.judge.specs.Verdict.{verdict}
 use Rattle.judge.proofs.LetThrough.{own-plan, plan-fits}
 use Rattle.judge.proofs.Tasks.{format-16, move-14, move-on, own-unless-held, start-nowhere}
@@ -55,7 +55,7 @@ use Rattle.demands.proofs.Keeps.{block-keeps-image}
 use Rattle.demands.proofs.Tables.{reached-counts}
 use Rattle.demands.proofs.Written.{image-written-exactly}
 use Rattle.board.specs.World.{driveOf}
-use Rattle.judge.specs.Steps.{byItsOwn, asksHolder}
+use Rattle.judge.specs.Steps.{byItsOwn, asksHolder, beginsAt}
 use Rattle.unit.specs.Bytes.{Bad, Meets, NoTwoInOnePlace, Reaches, TrackByte}
 
 -- A place where an address that a block names lands, on a unit that counts as initialized.

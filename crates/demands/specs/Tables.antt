@@ -18,7 +18,7 @@ use Rattle.request.specs.declared.Task.{Task}
 use Rattle.request.specs.declared.Track.{Track}
 use Rattle.judge.specs.declared.Leaving.the-variants.{Mapped}
 use Rattle.judge.specs.Fits.{PairFits}
-use Rattle.judge.specs.Given.{Asked, badNumber, beginsAt, spareNumber}
+use Rattle.judge.specs.Given.{Asked, badNumber, spareNumber, startNumber}
 use Rattle.judge.specs.Verdict.{verdict}
 use Rattle.unit.specs.declared.Holder.{Holder}
 use Rattle.unit.specs.Holding.{reservedBy}
@@ -54,7 +54,7 @@ pub data ReachedByCommands : UnitRecord → Type 0 where
 -- counts; of a format those of its track. Commands that move no data name none here, though 8A has an address and 85 two tracks.
 pub data NamesSector (a : Asked) : Address → Type 0 where
   by-number :
-      (m : Move) → a .task ≡ Task.Move m → (n : ℕ) → beginsAt (a .unit) (m .target) ≡ Number.Is n → (j : ℕ) → j < m .count →
+      (m : Move) → a .task ≡ Task.Move m → (n : ℕ) → startNumber (geometry (a .unit)) (m .target .volume) (m .target .start) ≡ Number.Is n → (j : ℕ) → j < m .count →
       NamesSector a (addressOf (geometry (a .unit)) (m .target .volume) (n + j))
   on-its-track :
       (k : Track) → a .task ≡ Task.Format k → (j : ℕ) → j < S (geometry (a .unit)) → NamesSector a (address (k .cylinder) (k .head) j)

@@ -20,7 +20,8 @@ use Rattle.wire.proofs.Decided.{inMemory?}
 use Rattle.wire.specs.Memory.{InMemory}
 use Rattle.transfer.specs.Stores.{Store, bytesFrom, eventByte}
 use Rattle.block.specs.Block.{Effect}
-use Rattle.block.specs.Events.{InRange, entry}
+use Rattle.block.specs.Tells.{InRange}
+use Rattle.block.specs.Events.{entry}
 use Rattle.board.specs.Chain.{ran}
 use Rattle.board.specs.World.{World, effectAt, worldAfter}
 

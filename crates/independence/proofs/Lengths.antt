@@ -20,7 +20,6 @@ use Rattle.iopb.specs.declared.Block.{Block}
 use Rattle.iopb.specs.Ask.{shapeAt, taskOf}
 use Rattle.iopb.proofs.Answers.{shapeAt-inside, shapeAt-outside}
 use Rattle.iopb.proofs.Locality.{asked-by-87, task-apart}
-use Rattle.judge.specs.Asks.{checks}
 use Rattle.judge.specs.Given.{Asked, on}
 use Rattle.judge.proofs.Locality.{placed-uib-read, read-uib-placed}
 use Rattle.geometry.specs.declared.Geometry.{Geometry}
@@ -28,7 +27,7 @@ use Rattle.iopb.specs.Layout.{uibAt}
 use Rattle.judge.specs.Reads.{InList, InUib}
 use Rattle.unit.specs.declared.Controller.{Controller}
 use Rattle.unit.specs.Standing.{UnitRecord}
-use Rattle.judge.specs.Passed.{None, before}
+use Rattle.judge.specs.Passed.{None, before, checks}
 
 no-shape-moves : {s : Shape} {m : Move} → Initialize s ≡ Moves m → ⊥
 no-shape-moves e = never cc

@@ -28,11 +28,11 @@ use Rattle.unit.proofs.Laws.{track-inside, track-whole}
 use Rattle.wire.proofs.Decided.{inMemory?}
 use Rattle.judge.specs.declared.Leaving.{Leaving}
 use Rattle.judge.specs.declared.Verdict.{Verdict}
-use Rattle.judge.specs.Steps.{asksHolder, beforeBuffer, byItsOwn, bytesOf, ownChecks}
+use Rattle.judge.specs.Steps.{asksHolder, beforeBuffer, byItsOwn, bytesOf, ownChecks, beginsAt}
 use Rattle.judge.specs.Asks.{checksOf, driveHeld, numberThere, imageShort, jobOf, notInitialized, ofBuffer, planOf, trackOutside}
 use Rattle.judge.specs.Checks.{first}
 use Rattle.judge.specs.Fits.{SpanGood}
-use Rattle.judge.specs.Given.{Asked, badNumber, beginsAt, on, spareNumber}
+use Rattle.judge.specs.Given.{Asked, badNumber, on, spareNumber}
 use Rattle.judge.specs.Reads.{InList}
 use Rattle.judge.specs.Table.{oneOf}
 use Rattle.judge.specs.Verdict.{verdict}

@@ -22,7 +22,7 @@ use Rattle.wire.specs.Among.{Among}
 use Rattle.wire.proofs.Decided.{test?}
 use Rattle.wire.proofs.Promises.{never}
 use Rattle.geometry.specs.declared.Geometry.{Geometry}
-use Rattle.judge.specs.Asks.{checks, checksOf}
+use Rattle.judge.specs.Asks.{checksOf}
 use Rattle.judge.specs.Given.{Asked, on}
 use Rattle.judge.specs.Reads.{InList, InUib}
 use Rattle.judge.specs.Verdict.{verdict}
@@ -30,7 +30,7 @@ use Rattle.unit.specs.declared.Controller.{Controller}
 use Rattle.unit.specs.Holding.{heldByOther}
 use Rattle.unit.specs.Standing.{UnitRecord, holder}
 use Rattle.judge.proofs.EachTask.{stopped-by-holder, verdict-local}
-use Rattle.judge.specs.Passed.{None, before}
+use Rattle.judge.specs.Passed.{None, before, checks}
 
 module _ (c : Controller) (u : UnitRecord) (image : ℕ) (h k : List ℕ) (long : length h ≡ length k) where
   -- ---- the verdict on a block

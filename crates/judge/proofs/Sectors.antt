@@ -18,8 +18,7 @@ use Rattle.unit.specs.Standing.{UnitRecord, geometry, unitOf}
 use Rattle.request.specs.declared.Move.{Move}
 use Rattle.request.specs.declared.Task.{Task}
 use Rattle.judge.specs.declared.Standing.{Standing}
-use Rattle.judge.specs.Steps.{asked, beforeBuffer}
-use Rattle.judge.specs.Given.{beginsAt}
+use Rattle.judge.specs.Steps.{asked, beforeBuffer, beginsAt}
 use Rattle.judge.specs.Passed.{None}
 
 -- A sector of a transfer: in its volume, its bytes and its mark in the image.

@@ -30,9 +30,11 @@ use Rattle.judge.specs.declared.Report.{Report}
 use Rattle.judge.specs.declared.Report.the-variants.{Nothing as Silent, Identity, Formatted}
 use Rattle.judge.specs.declared.Verdict.{Verdict}
 use Rattle.judge.specs.declared.Verdict.the-variants.{Refused, Do}
-use Rattle.judge.specs.Asks.{checks, planOf}
+use Rattle.judge.specs.Passed.{checks}
+use Rattle.judge.specs.Asks.{planOf}
 use Rattle.judge.specs.Checks.{Check, first}
-use Rattle.judge.specs.Given.{Asked, beginsAt, startNumber, on}
+use Rattle.judge.specs.Steps.{beginsAt}
+use Rattle.judge.specs.Given.{Asked, startNumber, on}
 use Rattle.judge.specs.Table.{AnsweredWith, Applies, BeforeTransfer, FromStart, Line, SectorsInside, Unanswered, listed, oneOf, paper}
 use Rattle.judge.specs.Verdict.{verdict}
 use Rattle.judge.proofs.EachTask.{never-asked-20}

@@ -32,11 +32,11 @@ use Rattle.judge.specs.declared.Moving.{Moving}
 use Rattle.judge.specs.declared.Report.{Report}
 use Rattle.judge.specs.declared.Verdict.{Verdict}
 use Rattle.judge.specs.Asks.{carrying, jobOf, only, plan, planOf}
-use Rattle.judge.specs.Given.{Asked, HasTrack, HasTracks, badNumber, beginsAt, on, spareNumber}
+use Rattle.judge.specs.Given.{Asked, HasTrack, HasTracks, badNumber, on, spareNumber}
 use Rattle.judge.specs.Verdict.{verdict}
 use Rattle.judge.proofs.EachTask.{on-its-own, stopped-by-holder}
 use Rattle.judge.proofs.First.{done, pass, skip, stop}
-use Rattle.judge.specs.Steps.{byItsOwn, fromAddress, fromBuffer, fromData, fromImage, fromSectors, fromTable, asksHolder, ofUnit}
+use Rattle.judge.specs.Steps.{byItsOwn, fromAddress, fromBuffer, fromData, fromImage, fromSectors, fromTable, asksHolder, ofUnit, beginsAt}
 use Rattle.judge.specs.Passed.{None}
 
 not-held : (asks held : Bool) → T asks → asks && held ≡ false → held ≡ false

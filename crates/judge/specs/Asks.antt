@@ -43,7 +43,7 @@ use Rattle.judge.specs.declared.Plan.{Plan}
 use Rattle.judge.specs.declared.Report.{Report}
 use Rattle.judge.specs.declared.Report.the-variants.{Identity, Formatted}
 use Rattle.judge.specs.Checks.{Check, always, check}
-use Rattle.judge.specs.Given.{Asked, HasTrack, HasTracks, badNumber, beginsAt, spareNumber}
+use Rattle.judge.specs.Given.{Asked, HasTrack, HasTracks, badNumber, spareNumber, startNumber}
 
 module _ (a : Asked) where
   -- ---- the checks, each an answer with its case
@@ -75,7 +75,7 @@ module _ (a : Asked) where
   abbrev pub sectorOutside : Target → ℕ → Check
   sectorOutside t count =
       let g = geometry (a .unit) in
-      let begin = beginsAt (a .unit) t in
+      let begin = startNumber g (t .volume) (t .start) in
       check SectorOutside (Covers g (t .volume) begin count → ⊥) (Dec·not (covers? g (t .volume) begin count))
 
   -- "8C: track outside the drive"
@@ -141,9 +141,6 @@ module _ (a : Asked) where
   checksOf (Format k) = driveHeld ∷ notInitialized ∷ trackOutside k ∷ imageShort ∷ dataMisplaced (k .buffer) (B (geometry (a .unit))) ∷ []
   checksOf (Map k) = driveHeld ∷ notInitialized ∷ tracksOutside k ∷ tracksTaken k ∷ tableFull ∷ []
 
-  abbrev pub checks : List Check
-  checks = checksOf (a .task)
-
 -- ---- what is done
 
 -- The number of a start that check 16 has let pass, and 0 where there is none, which it refuses.
@@ -176,7 +173,7 @@ carrying j = plan (Sectors j) Report.Nothing (HeadsAtLastTried (j .span))
 -- here is never asked for.
 abbrev pub planOf : UnitRecord → Task → Plan
 planOf u Unknown = only AsItWas
-planOf u (Moves m) = carrying (jobOf m (numberThere (beginsAt u (m .target))))
+planOf u (Moves m) = carrying (jobOf m (numberThere (startNumber (geometry u) (m .target .volume) (m .target .start))))
 -- 86 "writes words 2 to 7 with this board's own identity"
 planOf u Handshake = plan Moving.Nothing Identity AsItWas
 -- "87 replaces the unit record"
@@ -184,7 +181,7 @@ planOf u (Initialize Misplaced) = only AsItWas
 planOf u (Initialize (Uib g)) = only (Fresh g)
 -- "89 goes to cylinder 0"; "8A goes to the address given", to the cylinder on which that lands
 planOf u Restore = only (HeadsAt 0)
-planOf u (Seek t) = only (HeadsAt (spotOf u (t .volume) (numberThere (beginsAt u t)) .cylinder))
+planOf u (Seek t) = only (HeadsAt (spotOf u (t .volume) (numberThere (startNumber (geometry u) (t .volume) (t .start))) .cylinder))
 -- 8C reports how many sectors the track has (02, K1). "The heads end on the named cylinder", but where the track is bad "the heads then stand
 -- on the spare's cylinder" (02, K5).
 planOf u (Format k) =

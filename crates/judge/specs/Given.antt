@@ -9,7 +9,6 @@ use Rattle.geometry.specs.Sectors.{OnDrive, address}
 use Rattle.request.specs.declared.Pair.{Pair}
 use Rattle.request.specs.declared.Start.{Start}
 use Rattle.request.specs.declared.Start.the-variants.{Logical, Physical}
-use Rattle.request.specs.declared.Target.{Target}
 use Rattle.request.specs.declared.Task.{Task}
 use Rattle.spares.specs.Tracks.{trackNumber}
 use Rattle.unit.specs.declared.Controller.{Controller}
@@ -31,9 +30,6 @@ on c u image t host = record { task = t; controller = c; unit = u; image = image
 abbrev pub startNumber : Geometry → VolumeNumber → Start → Number
 startNumber g v (Logical n) = Is n
 startNumber g v (Physical c h s) = numberOn g v c h s
-
-abbrev pub beginsAt : UnitRecord → Target → Number
-beginsAt u t = startNumber (geometry u) (t .volume) (t .start)
 
 -- "8C: track outside the drive": a track, its head counted over the whole drive, is not.
 abbrev pub HasTrack : UnitRecord → (cylinder head : ℕ) → Type 0

@@ -8,9 +8,8 @@ use Rattle.request.specs.declared.Buffer.the-variants.{List as Elements}
 use Rattle.request.specs.declared.Move.{Move}
 use Rattle.request.specs.declared.Shape.{Shape}
 use Rattle.request.specs.declared.Task.the-variants.{Move as Moves, Initialize}
-use Rattle.judge.specs.Asks.{checks}
 use Rattle.judge.specs.Given.{Asked}
-use Rattle.judge.specs.Passed.{None, before}
+use Rattle.judge.specs.Passed.{None, before, checks}
 
 -- "a UIB that passed check 12": of an 87 that no check before 13 refuses, 24 among them (02, K10), so many bytes at the UIB's address. Both numbers are those of the
 -- block that asks.

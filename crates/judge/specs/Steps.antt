@@ -4,6 +4,7 @@ use mathlib.Core.Bool.{Bool, true, false, cond}
 use mathlib.Core.List.{List, [], _∷_, _++_}
 use mathlib.Core.Path.{_≡_}
 use Rattle.geometry.specs.Drive.{B}
+use Rattle.geometry.specs.declared.Number.{Number}
 use Rattle.geometry.specs.declared.Number.the-variants.{Is}
 use Rattle.request.specs.declared.Move.{Move}
 use Rattle.request.specs.declared.Pair.{Pair}
@@ -11,12 +12,12 @@ use Rattle.request.specs.declared.Target.{Target}
 use Rattle.request.specs.declared.Task.{Task}
 use Rattle.request.specs.declared.Task.the-variants.{Unknown, Move as Moves, Handshake, Initialize, Restore, Seek, Format, Map}
 use Rattle.request.specs.declared.Track.{Track}
-use Rattle.unit.specs.Standing.{geometry, unitOf}
+use Rattle.unit.specs.Standing.{UnitRecord, geometry, unitOf}
 use Rattle.judge.specs.declared.Standing.{Standing}
 use Rattle.judge.specs.declared.Verdict.{Verdict}
 use Rattle.judge.specs.Asks.{checksOf, countZero, dataMisplaced, driveHeld, imageShort, notInitialized, ofBuffer, planOf, sectorOutside, tableFull, tracksTaken, volumeAbsent}
 use Rattle.judge.specs.Checks.{Check, first}
-use Rattle.judge.specs.Given.{Asked, beginsAt, on}
+use Rattle.judge.specs.Given.{Asked, on, startNumber}
 
 -- The same as the judge is handed it. Whether the record counts as initialized, which it is told besides, is no part of what is asked: the record says it.
 abbrev pub asked : Task → Standing → (tracks host : List ℕ) → Asked
@@ -78,6 +79,10 @@ fromData a k = first (dataMisplaced a (k .buffer) (B (geometry (a .unit))) ∷ [
 -- A pair by what the table says of it.
 unfoldable pub fromTable : Asked → Pair → Verdict
 fromTable a k = first (tracksTaken a k ∷ tableFull a ∷ []) (planOf (a .unit) (Map k))
+
+-- The number at which what is asked for begins.
+abbrev pub beginsAt : UnitRecord → Target → Number
+beginsAt u t = startNumber (geometry u) (t .volume) (t .start)
 
 -- A transfer that begins at a number and is for some sectors.
 pub record Begins (a : Asked) (m : Move) (n : ℕ) : Type 0 where

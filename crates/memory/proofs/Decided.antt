@@ -5,12 +5,11 @@ use mathlib.Core.List.{List}
 use mathlib.Core.Logic.{Dec·and}
 use native.Mathlib.Decide.{decLe, decLt, map-dec, ℕ-discrete}
 use Rattle.wire.proofs.Decided.{all?, inMemory?}
-use Rattle.memory.specs.Lists.{GoodCount, ListGood, Ranges, elementOf, total}
+use Rattle.memory.specs.Scan.{GoodCount}
+use Rattle.memory.specs.Lists.{ListGood, Ranges, elementOf, total}
 
 goodCount? : (bytes : ℕ) → Dec (GoodCount bytes)
-goodCount? bytes =
-    map-dec (λ d. record { some = d .0; even = d .1 }) (λ g. (g .some, g .even))
-    (Dec·and (decLt 0 bytes) (ℕ-discrete (bytes % 2) 0))
+goodCount? bytes = Dec·and (decLt 0 bytes) (ℕ-discrete (bytes % 2) 0)
 
 pub listGood? : (host : List ℕ) (at elements bytes : ℕ) → Dec (ListGood host at elements bytes)
 listGood? host at elements bytes =

@@ -13,10 +13,10 @@ use Rattle.wire.specs.Memory.{InMemory}
 use Rattle.wire.specs.Promise.{Says}
 use Rattle.wire.proofs.Promises.{granted, says-all-more}
 use Rattle.memory.specs.declared.Seen.{Seen}
-use Rattle.memory.specs.Lists.{GoodCount, ListGood, elementOf, total}
+use Rattle.memory.specs.Lists.{ListGood, elementOf, total}
 use Rattle.memory.specs.Pieces.{addressesOf, filled, lengthsOf, piecesOf}
 use Rattle.memory.specs.Readable.{ListPlace, listPlace?}
-use Rattle.memory.specs.Scan.{Scanned}
+use Rattle.memory.specs.Scan.{Scanned, GoodCount}
 
 pub nothing-scanned : (host : List ℕ) (at : ℕ) → Scanned host at 0 (record { counts = true; ranges = true; sum = 0 })
 unfolding total

@@ -10,7 +10,8 @@ use Rattle.wire.specs.Among.{Among}
 use Rattle.wire.specs.Memory.{InMemory}
 use Rattle.wire.proofs.Laws.{word-same}
 use Rattle.wire.proofs.Memory.{range-same}
-use Rattle.memory.specs.Lists.{GoodCount, ListGood, Ranges, elementOf, total}
+use Rattle.memory.specs.Scan.{GoodCount}
+use Rattle.memory.specs.Lists.{ListGood, Ranges, elementOf, total}
 
 module _ (h k : List ℕ) (at n : ℕ) (alike : (x : ℕ) → Among at (8 * n) x → getD h x 0 ≡ getD k x 0) where
   pub element-same : (i : ℕ) → i < n → elementOf h at i ≡ elementOf k at i

@@ -25,17 +25,12 @@ unfoldable pub total : List ℕ → ℕ → ℕ → ℕ
 total host at zero = 0
 total host at (suc n) = total host at n + elementOf host at n .bytes
 
--- "a byte count 0 or odd": it is neither.
-pub record GoodCount (bytes : ℕ) : Type 0 where
-  pub some : 0 < bytes
-  pub even : bytes % 2 ≡ 0
-
 -- "list: 0 or over 64 elements, list address odd, list not in memory, a byte count 0 or odd, or the sum not count × B": none of it.
 pub record ListGood (host : List ℕ) (at elements bytes : ℕ) : Type 0 where
   pub some : 1 ≤ elements
   pub most : elements ≤ 64
   pub place : InMemory host at (8 * elements)
-  pub counts : (i : ℕ) → i < elements → GoodCount (elementOf host at i .bytes)
+  pub counts : (i : ℕ) → i < elements → (0 < elementOf host at i .bytes) × (elementOf host at i .bytes % 2 ≡ 0)
   pub sum : total host at elements ≡ bytes
 
 -- "a data address odd or its range not in host memory": no element's is.

@@ -6,9 +6,9 @@ ghost use mathlib.Core.Bool.{_&&_};
 ghost use mathlib.Core.Path.{_≡_};
 ghost use Prim.Native.Nat.{_+_, _*_, _≤_};
 ghost use lib.ListN.{length};
-ghost use Rattle.memory.specs.Lists.{GoodCount, elementAt};
+ghost use Rattle.memory.specs.Lists.{elementAt};
 ghost use Rattle.memory.specs.Pieces.{filled, piecesOf};
-ghost use Rattle.memory.specs.Scan.{Listing, Scanned};
+ghost use Rattle.memory.specs.Scan.{Listing, Scanned, GoodCount};
 ghost use Rattle.wire.specs.Memory.{InMemory};
 ghost use Rattle.wire.specs.Promise.{Says};
 

@@ -15,9 +15,9 @@ use Rattle.geometry.specs.Drive.{C, driveHeads}
 use Rattle.spares.specs.declared.Track.{Track}
 use Rattle.spares.specs.declared.Served.{Served}
 use Rattle.spares.specs.declared.Served.the-variants.{Itself, By}
-use Rattle.spares.specs.Table.{Good, badOf, served, servedAt, servedFrom, spareOf}
+use Rattle.spares.specs.Table.{Good, badOf, servedAt, servedFrom, spareOf}
 use Rattle.spares.specs.Tracks.{TrackOn, standsFor, trackNumber, trackOn?}
-use Rattle.spares.specs.Lands.{landsOn, numberServing, Serves, serves?}
+use Rattle.spares.specs.Lands.{landsOn, numberServing, Serves, serves?, served}
 
 module _ (g : Geometry) (ts : List ℕ) (t : ℕ) where
   pub serves-first : (i n : ℕ) → Serves g ts i t → servedFrom g ts i (suc n) t ≡ By (standsFor (spareOf ts i))

@@ -49,12 +49,9 @@ servedFrom g ts i zero t = Itself
 servedFrom g ts i (suc n) t =
     ite (Dec·and (ℕ-discrete (badOf ts i) t) (trackOn? g (spareOf ts i))) (By (standsFor (spareOf ts i))) (servedFrom g ts (suc i) n t)
 
-abbrev pub served : Geometry → ℕ → List ℕ → ℕ → Served
-served g n ts t = servedFrom g ts 0 (min n 32) t
-
--- The same of a cylinder and a head. From head 256 on no number stands for a track, and no table has it.
+-- What serves a track, by its cylinder and its head. From head 256 on no number stands for a track, and no table has it.
 abbrev pub servedAt : Geometry → ℕ → List ℕ → ℕ → ℕ → Served
-servedAt g n ts c h = ite (decLt h 256) (served g n ts (trackNumber c h)) Itself
+servedAt g n ts c h = ite (decLt h 256) (servedFrom g ts 0 (min n 32) (trackNumber c h)) Itself
 
 -- One pair more after the n of a table, and how many there are then: where there is room, and else as it was.
 abbrev pub onePairMore : ℕ → ℕ

@@ -12,8 +12,8 @@ use Rattle.unit.specs.declared.Span.{Span}
 use Rattle.unit.specs.Standing.{UnitRecord, geometry}
 use Rattle.transfer.specs.declared.carry.Cursor.{Cursor}
 use Rattle.transfer.specs.declared.reach.Run.{Run}
-use Rattle.transfer.specs.Data.{diskByte, placeFrom}
-use Rattle.transfer.specs.Runs.{Ready, RunAt, behind}
+use Rattle.transfer.specs.Data.{diskByte}
+use Rattle.transfer.specs.Runs.{Ready, RunAt, behind, placeFrom}
 use Rattle.transfer.proofs.Tracks.{run-places}
 
 -- n sectors from the j-th on stand in a row from place p on: byte i from there is byte i from the first byte of p.

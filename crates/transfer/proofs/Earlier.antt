@@ -15,8 +15,8 @@ use Rattle.geometry.specs.Sectors.{firstByte}
 use Rattle.geometry.proofs.Laws.{bytes-differ, sector-in-image}
 use Rattle.unit.specs.declared.Spot.{Spot}
 use Rattle.unit.specs.Standing.{UnitRecord, geometry}
-use Rattle.transfer.specs.Data.{Transfer, dataOn, diskByte, formatting, move, moving, placeFrom, progressOn}
-use Rattle.transfer.specs.Runs.{whole}
+use Rattle.transfer.specs.Data.{Transfer, dataOn, diskByte, formatting, move, moving, progressOn}
+use Rattle.transfer.specs.Runs.{whole, placeFrom}
 use Rattle.transfer.specs.Progress.{Progress, stopsAt}
 use Rattle.transfer.specs.Stores.{Buffers, Cell, Store, after, copyOf, eventByte, held, hostByte, imageByte, upTo, with}
 use Rattle.transfer.proofs.Marks.{moving-on-drive}

@@ -12,9 +12,8 @@ use Rattle.geometry.specs.declared.VolumeNumber.{VolumeNumber}
 use Rattle.unit.specs.Landing.{spotOf}
 use Rattle.unit.specs.Standing.{UnitRecord, geometry}
 use Rattle.transfer.specs.declared.Moved.{Moved}
-use Rattle.transfer.specs.Data.{placeFrom}
 use Rattle.transfer.specs.Progress.{Progress, progress, stopsAt}
-use Rattle.transfer.specs.Runs.{Advanced, progressFrom, reached}
+use Rattle.transfer.specs.Runs.{Advanced, progressFrom, reached, placeFrom}
 use Rattle.transfer.proofs.Progress.{leadsOn, progress-counts, progress-most, progress-same, progress-shift, progress-then}
 
 module _ (image : List ℕ) (u : UnitRecord) (v : VolumeNumber) (first count : ℕ) (heeds : Bool) where

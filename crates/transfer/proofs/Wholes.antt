@@ -16,9 +16,9 @@ use Rattle.geometry.proofs.Laws.{sector-in-image}
 use Rattle.unit.proofs.Laws.{spot-inside}
 use Rattle.unit.specs.declared.Span.{Span}
 use Rattle.unit.specs.Standing.{UnitRecord, geometry}
-use Rattle.transfer.specs.Data.{diskByte, placeFrom}
+use Rattle.transfer.specs.Data.{diskByte}
 use Rattle.transfer.specs.Progress.{Progress, stopsAt}
-use Rattle.transfer.specs.Runs.{InImage, PiecesFit, Spans, progressFrom, spanBytes}
+use Rattle.transfer.specs.Runs.{InImage, PiecesFit, Spans, progressFrom, spanBytes, placeFrom}
 use Rattle.transfer.specs.Whole.{SectorsFit, made, misfit, sectorsFit?, sectorsResult, spanTransfer}
 use Rattle.transfer.proofs.Progress.{progress-most}
 

@@ -22,11 +22,8 @@ pub record Transfer : Type 0 where
   pub place : ℕ → ℕ
   pub host-byte : ℕ → ℕ
 
--- The place of sector j from a number of a volume on: "Consecutive sectors go by sector, head, cylinder" (01, Geometry), which is
--- the order of the numbers (the geometry's law numbers-consecutive). Each stands where its number lands, on a spare where its track is bad.
-abbrev pub placeFrom : UnitRecord → VolumeNumber → ℕ → ℕ → ℕ
-placeFrom u v first j = spotOf u v (first + j) .place
-
+-- Sectors from a number of a volume on: "Consecutive sectors go by sector, head, cylinder" (01, Geometry), which is the order of the numbers (the
+-- geometry's law numbers-consecutive), and each stands where its number lands, on a spare where its track is bad.
 -- 81 and A1 "copy sectors to host memory"; 82 and A2 copy the other way. "At a non-zero mark they stop before that sector, or,
 -- with DE, move it and go on. 82 and A2 ignore marks."
 abbrev pub moving : UnitRecord → Bool → Bool → VolumeNumber → ℕ → ℕ → (ℕ → ℕ) → Transfer
@@ -36,7 +33,7 @@ moving u to-host past-marks v first count host-byte =
       to-host = to-host;
       heeds = to-host && not past-marks;
       count = count;
-      place = placeFrom u v first;
+      place = λ j. spotOf u v (first + j) .place;
       host-byte = host-byte;
     }
 

@@ -17,7 +17,7 @@ use Rattle.unit.specs.Standing.{UnitRecord, geometry}
 use Rattle.transfer.specs.declared.Moved.{Moved}
 use Rattle.transfer.specs.declared.carry.Cursor.{Cursor}
 use Rattle.transfer.specs.declared.reach.Run.{Run}
-use Rattle.transfer.specs.Data.{diskByte, move, placeFrom}
+use Rattle.transfer.specs.Data.{diskByte, move}
 use Rattle.transfer.specs.Pieces.{joined}
 use Rattle.transfer.specs.Progress.{Progress, progress, stopsAt}
 use Rattle.transfer.specs.Stores.{Buffers, Store, after, upTo}
@@ -26,6 +26,10 @@ use Rattle.transfer.specs.Stores.{Buffers, Store, after, upTo}
 unfoldable pub sum : (ℕ → ℕ) → ℕ → ℕ
 sum bytes zero = 0
 sum bytes (suc n) = sum bytes n + bytes n
+
+-- The place of sector j from a number of a volume on.
+abbrev pub placeFrom : UnitRecord → VolumeNumber → ℕ → ℕ → ℕ
+placeFrom u v first j = spotOf u v (first + j) .place
 
 -- A transfer that is whole, so many sectors, and one that was stopped before a sector.
 abbrev pub whole : ℕ → Progress

@@ -20,7 +20,7 @@ use Rattle.geometry.proofs.Laws as geometry
 use Rattle.spares.specs.declared.Served.{Served}
 use Rattle.spares.specs.declared.Served.the-variants.{Itself, By}
 use Rattle.spares.specs.declared.Track.{Track}
-use Rattle.spares.specs.Table.{badOf, served, servedAt, spareOf}
+use Rattle.spares.specs.Table.{badOf, servedAt, spareOf}
 use Rattle.spares.specs.Tracks.{TrackOn, standsFor, trackNumber}
 use Rattle.spares.proofs.Laws.{Meet, lands-on-one, never-on-a-bad-track, number-again, one-place, served-by-its-spare, stands-for-it}
 use Rattle.spares.proofs.Laws.Meet.{the-same, served-by, serving}
@@ -30,7 +30,7 @@ use Rattle.unit.specs.Standing.{CountsAsInitialized, UnitRecord, pairs, 
 use Rattle.unit.specs.Standing as standing
 use Rattle.unit.proofs.Laws.{landed-in-a-row, landed-on-drive, landed-sector, lands-where-it-says}
 use Rattle.unit.specs.Bytes.{Bad, BadAndItsSpare, Meets, NoTwoInOnePlace, OnSpare, OnTrack, Paired, Reaches, TrackByte, trackNamed}
-use Rattle.spares.specs.Lands.{landsOn, numberServing}
+use Rattle.spares.specs.Lands.{landsOn, numberServing, served}
 
 -- ---- the place of a sector is that where an address lands
 

@@ -3,7 +3,7 @@ use mathlib.Core.Logic.{if-neg, if-pos}
 use mathlib.Core.Path.{sym, ap, _∙_}
 use native.Mathlib.Decide.{decLt}
 use native.Mathlib.Omega.{arith}
-use Rattle.spares.specs.Table.{served}
+use Rattle.spares.specs.Lands.{served}
 use borrow.Author.Needs.{needs}
 use Rattle.spares.proofs.serving.Statement.{statement}
 use Rattle.spares.proofs.serving.Tie as tie
