@@ -20,9 +20,10 @@ use unit::Controller;
 use unit::Landing;
 use unit::Record;
 use unit::Span;
+use wire::lesser;
 ghost use mathlib.Core.List.{List, [], _∷_};
 ghost use mathlib.Core.Path.{_≡_};
-ghost use Prim.Native.Nat.{ℕ, _+_, _-_, _*_, _≤_, _<_, min};
+ghost use Prim.Native.Nat.{ℕ, _+_, _-_, _*_, _≤_, _<_};
 ghost use lib.ListN.{length};
 ghost use Rattle.iopb.specs.Identity.{identityBytes};
 ghost use Rattle.iopb.specs.Layout.{blockAt};
@@ -321,12 +322,6 @@ fn carry(
     }
 }
 
-fn lesser(a: u16, b: u16) -> u16
-    ensures { λ r. ⌜ r ≡ min a b ⌝ }
-{
-    if a <= b { a } else { b }
-}
-
 // The cylinder of the last sector tried of a span, of which so many sectors came.
 fn last_tried(u: Record, table: &[u32; 64], span: Span, sectors: u16) -> u16
     requires { ⌜ SpanGood (unitOf u (now table)) span ⌝ }
@@ -335,7 +330,7 @@ fn last_tried(u: Record, table: &[u32; 64], span: Span, sectors: u16) -> u16
     let volume = span.volume;
     // a volume's sectors are counted in 64 bits, so the sum below is too
     let _all = u.geometry().volume_sectors(volume);
-    let last = lesser(sectors, span.count - 1) as u64;
+    let last = lesser(sectors as u64, (span.count - 1) as u64);
     let Landing::At(spot) = u.land(table, volume, span.first + last) else {
         return 0;
     };

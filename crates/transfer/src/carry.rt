@@ -3,9 +3,10 @@ use crate::reach::run_at;
 use geometry::Sector;
 use unit::Record;
 use unit::Span;
+use wire::lesser;
 ghost use mathlib.Core.Bool.{cond};
 ghost use mathlib.Core.Path.{_≡_};
-ghost use Prim.Native.Nat.{_+_, _*_, _^_, _≤_, _<_, min};
+ghost use Prim.Native.Nat.{_+_, _*_, _^_, _≤_, _<_};
 ghost use lib.ListN.{length};
 ghost use Rattle.geometry.specs.Drive.{B};
 ghost use Rattle.transfer.specs.Runs.{Carried, CarryFits, InImage, On, PiecesFit, Ready, Spans, advanced, behind, fillStore, lent, spanBytes, spanStores};
@@ -73,12 +74,6 @@ fn ready(u: Record, table: &[u32; 64], span: Span, c: Cursor) -> Cursor
         return c;
     }
     next_run(u, table, span, c.next)
-}
-
-fn lesser(a: u64, b: u64) -> u64
-    ensures { λ r. ⌜ r ≡ min a b ⌝ }
-{
-    if a <= b { a } else { b }
 }
 
 impl Cursor {

@@ -8,8 +8,9 @@ use geometry::VolumeNumber;
 use unit::Landing;
 use unit::Record;
 use unit::Span;
+use wire::lesser;
 ghost use mathlib.Core.Path.{_≡_};
-ghost use Prim.Native.Nat.{_+_, _≤_, _<_, min};
+ghost use Prim.Native.Nat.{_+_, _≤_, _<_};
 ghost use lib.ListN.{length};
 ghost use Rattle.geometry.specs.Drive.{driveSectors, need, volumeSectors};
 ghost use Rattle.transfer.specs.Runs.{Advanced, Readable, RunAt, Spans, inARow, progressFrom, reached, rowOf};
@@ -35,14 +36,8 @@ pub(crate) fn run_at(u: Record, table: &[u32; 64], v: VolumeNumber, number: u64,
     };
     Run {
         place: spot.place,
-        sectors: lesser(spot.rest, most),
+        sectors: lesser(spot.rest as u64, most as u64) as u16,
     }
-}
-
-fn lesser(a: u16, b: u16) -> u16
-    ensures { λ r. ⌜ r ≡ min a b ⌝ }
-{
-    if a <= b { a } else { b }
 }
 
 // How many of n marks from an index on let a transfer pass, before the first that stops it.

@@ -8,6 +8,7 @@ use Rattle.wire.proofs.be16.Reads as be16
 use Rattle.wire.proofs.be32.Reads as be32
 use Rattle.wire.proofs.copy.Reads as copy
 use Rattle.wire.proofs.holds.Reads as holds
+use Rattle.wire.proofs.lesser.Reads as lesser
 use Rattle.wire.proofs.put16.Reads as put16
 use Rattle.wire.proofs.put32.Reads as put32
 
@@ -28,3 +29,6 @@ copy-once κ a x y e f p q = p ∙ sym q
 
 holds-once : OneResult holds.Post
 holds-once κ a x y e f p q = says-once x y _ p q
+
+lesser-once : OneResult lesser.Post
+lesser-once κ a x y e f p q = p ∙ sym q

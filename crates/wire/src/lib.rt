@@ -1,8 +1,8 @@
-// Big-endian words read from and stored into a byte slice, the copy of a run of bytes between two slices, and the one test whether
-// a range lies in host memory. Every layout, transfer and place above is made of these; the laws that crates share stand beside them.
+// Big-endian words read from and stored into a byte slice, the copy of a run of bytes between two slices, the one test whether a range lies in
+// host memory, and the lesser of two numbers. Every layout, transfer and place above is made of these; the laws that crates share stand beside them.
 // It knows no layout and no drive, and it leaves every byte that it does not name as it was.
 ghost use mathlib.Core.Path.{_≡_};
-ghost use Prim.Native.Nat.{_+_, _≤_, _<_};
+ghost use Prim.Native.Nat.{_+_, _≤_, _<_, min};
 ghost use lib.ListN.{length};
 ghost use Rattle.wire.specs.Copy.{copied};
 ghost use Rattle.wire.specs.Memory.{InMemory};
@@ -85,4 +85,11 @@ fn lies_inside(long: u64, at: u32, bytes: u64) -> bool
         return false;
     }
     (at as u64) <= long - bytes
+}
+
+// The lesser of two numbers.
+pub fn lesser(a: u64, b: u64) -> u64
+    ensures { λ r. ⌜ r ≡ min a b ⌝ }
+{
+    if a <= b { a } else { b }
 }

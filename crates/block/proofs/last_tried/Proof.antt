@@ -24,11 +24,11 @@ volume-sectors-requires c κs = search needs
 sub-lesser : tie.Need-sub-lesser
 sub-lesser c = search needs
 
+cast-lesser : tie.Need-cast-lesser
+cast-lesser c = search needs
+
 lesser-requires : tie.Need-lesser-requires
 lesser-requires c κs = search needs
-
-cast-last : tie.Need-cast-last
-cast-last c = search needs
 
 add-land : tie.Need-add-land
 add-land c =
@@ -77,8 +77,8 @@ last-tried-spec =
     geometry-requires
     volume-sectors-requires
     sub-lesser
+    cast-lesser
     lesser-requires
-    cast-last
     add-land
     land-requires
     enum-known-spot

@@ -12,7 +12,7 @@ use Rattle.transfer.proofs.reach.run_at.Tie as tie
 
 -- Where the number was to land, from where the lesser count is known.
 abbrev asked : tie.After-lesser → tie.After-land
-asked c = c .before .before .before .before
+asked c = c .before .before .before .before .before
 
 land-requires : tie.Need-land-requires
 land-requires c κs = search needs
@@ -29,14 +29,20 @@ returns c =
     let a = land .before .args in
     absurd (omega (arith, no-landing (unitOf (a .u) (a .table .now)) (a .v) (a .number) (sym (land .land .ensures) ∙ c .enum-told .given .1)))
 
+cast-lesser : tie.Need-cast-lesser
+cast-lesser c = search needs
+
 lesser-requires : tie.Need-lesser-requires
 lesser-requires c κs = search needs
+
+cast-t11 : tie.Need-cast-t11
+cast-t11 c = search needs
 
 returns-2 : tie.Need-returns-2
 returns-2 c =
     let a = asked c .before .args in
-    let spot = c .before .before .spot .given .0 .0 in
-    let landed = at-landing (unitOf (a .u) (a .table .now)) (a .v) (a .number) spot (sym (asked c .land .ensures) ∙ c .before .before .spot .given .1) in
+    let spot = c .before .before .before .spot .given .0 .0 in
+    let landed = at-landing (unitOf (a .u) (a .table .now)) (a .v) (a .number) spot (sym (asked c .land .ensures) ∙ c .before .before .before .spot .given .1) in
     let inside = spot-inside (unitOf (a .u) (a .table .now)) (a .v) (a .number) (omega arith) in
     let is = landed .1 in
     record {
@@ -48,4 +54,4 @@ returns-2 c =
 
 pub run-at-spec : {M : Type 1} → statement M
 run-at-spec =
-    tie.close (tie.spec land-requires enum-known-spot enum-told returns lesser-requires returns-2)
+    tie.close (tie.spec land-requires enum-known-spot enum-told returns cast-lesser lesser-requires cast-t11 returns-2)
