@@ -30,7 +30,7 @@ use Rattle.block.specs.declared.Done.{Done}
 use Rattle.unit.specs.declared.Controller.{Controller}
 use Rattle.block.specs.Block.{Drive, Effect, effectOn, finish, judged, reported}
 use Rattle.block.specs.Events.{entry}
-use Rattle.block.specs.Steps.{Stores, actedOn, doneOf, finished, three}
+use Rattle.block.specs.Steps.{Stores, actedOn, doneOf, finished, three, toldOf}
 use Rattle.wire.specs.Storing.{written}
 
 pub host-written :
@@ -105,15 +105,7 @@ pub then-made :
 then-made ss ts m m′ m″ one two = two ∙ ap (λ (x : Buffers). after ts x) one ∙ sym (after-append ss ts m)
 
 abbrev tells : Block → Effect → Bool → Done
-tells b e counts =
-    record {
-      unit = byValue (e .unit);
-      counts = counts;
-      answer = e .answer;
-      sectors = e .sectors;
-      linked = b .options .link;
-      link = b .link;
-    }
+tells b e counts = record { unit = byValue (e .unit); told = toldOf b counts (e .answer) (e .sectors) }
 
 -- What is returned of a block, with an answer whether its unit counts as initialized then.
 pub told-of-it :

@@ -20,6 +20,7 @@ use Rattle.transfer.specs.declared.Moved.{Moved}
 use Rattle.transfer.specs.Data.{Transfer, dataOn, formatting, moving, progressOn}
 use Rattle.transfer.specs.Stores.{Buffers, Store, after}
 use Rattle.transfer.specs.Whole.{SectorsFit, TrackFits, movedOn}
+use Rattle.block.specs.declared.BlockTold.{BlockTold}
 use Rattle.block.specs.declared.Done.{Done}
 use Rattle.block.specs.declared.Known.{Known}
 use Rattle.block.specs.declared.Known.the-variants.{Unasked, Counts}
@@ -130,17 +131,14 @@ abbrev pub Knows : Known → UnitRecord → Type 0
 Knows Unasked u = Unit {0}
 Knows (Counts b) u = Says b (CountsAsInitialized u)
 
--- What is returned of a block, with the answer whether its unit counts as initialized now, and its link.
+-- What a block tells, with the answer whether its unit counts as initialized now, and its link.
+abbrev pub toldOf : Block → (counts : Bool) → BlockAnswer → (sectors : ℕ) → BlockTold
+toldOf b counts answer sectors =
+    record { counts = counts; answer = answer; sectors = sectors; linked = b .options .link; link = b .link }
+
+-- What is returned of it.
 abbrev pub doneOf : Block → Effect → Done
-doneOf b e =
-    record {
-      unit = byValue (e .unit);
-      counts = ite (counts? (e .unit)) true false;
-      answer = e .answer;
-      sectors = e .sectors;
-      linked = b .options .link;
-      link = b .link;
-    }
+doneOf b e = record { unit = byValue (e .unit); told = toldOf b (ite (counts? (e .unit)) true false) (e .answer) (e .sectors) }
 
 -- A block's effect is what was done: what is returned, the table, and every byte.
 pub record Did (b : Block) (e : Effect) (m m′ : Buffers) (ts′ : List ℕ) (d : Done) : Type 0 where

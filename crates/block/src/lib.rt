@@ -34,7 +34,7 @@ ghost use Rattle.judge.specs.Fits.{JobGood, LeavingFits, MovingFits, PlanFits, 
 ghost use Rattle.answers.specs.declared.BlockAnswer.{BlockAnswer};
 ghost use Rattle.request.specs.declared.Buffer.{Buffer};
 ghost use Rattle.block.specs.Block.{effectOn, finish, heldAfter, holderLeft, leftBy, reported, transferOf, travelled};
-ghost use Rattle.block.specs.Steps.{Carries, Did, Knows, Made, Performs, Ready, BlockRoom, Stores, carriedOut, driveWith, performedOf, tableBy, three, transferWith, turnedDown};
+ghost use Rattle.block.specs.Steps.{Carries, Did, Knows, Made, Performs, Ready, BlockRoom, Stores, carriedOut, driveWith, performedOf, tableBy, three, toldOf, transferWith, turnedDown};
 ghost use Rattle.transfer.specs.declared.Attempt.{Attempt};
 ghost use Rattle.transfer.specs.declared.Moved.{Moved};
 ghost use Rattle.transfer.specs.Progress.{lastTried};
@@ -54,14 +54,19 @@ pub enum Known {
     Counts(bool),
 }
 
-// What a block came to: what it leaves of its unit's record, and whether that counts as initialized now; and what the block said of the next.
-pub struct Done {
-    pub unit: Record,
+// What a block tells: whether its unit counts as initialized now, its answer and its sectors, and what it said of the next.
+pub struct BlockTold {
     pub counts: bool,
     pub answer: BlockAnswer,
     pub sectors: u16,
     pub linked: bool,
     pub link: u32,
+}
+
+// What a block came to: what it leaves of its unit's record, and what it tells.
+pub struct Done {
+    pub unit: Record,
+    pub told: BlockTold,
 }
 
 // What performing a block came to: what it leaves of the record, and what is left to be told of it.
@@ -514,14 +519,7 @@ fn finish(
 ) -> Done
     requires { ⌜ BlockRoom (now host) (now events) at i ⌝ }
     ensures result { λ d. ⌜
-        d ≡ record {
-          unit = p .unit;
-          counts = counts;
-          answer = p .answer;
-          sectors = p .sectors;
-          linked = b .options .link;
-          link = b .link;
-        } ⌝ }
+        d ≡ record { unit = p .unit; told = toldOf b counts (p .answer) (p .sectors) } ⌝ }
     ensures stored { λ _. ⌜
         ((image : List ℕ) → three (now (host .exit)) image (now (events .exit)) ≡ after (finish b at i (p .answer) (p .travel))
         (three (now (host .entry)) image (now (events .entry)))) ⌝ }
@@ -531,14 +529,14 @@ fn finish(
     let options = b.options;
     put_status(host, at, answer.status(), iopb::error_byte(answer));
     put_event(events, i, b, answer, p.travel);
-    Done {
-        unit,
+    let told = BlockTold {
         counts,
         answer,
         sectors: p.sectors,
         linked: options.link,
         link: b.link,
-    }
+    };
+    Done { unit, told }
 }
 
 // Whether a unit counts as initialized, asked where it is not known.

@@ -27,7 +27,7 @@ use Rattle.block.specs.declared.Known.the-variants.{Counts}
 use Rattle.block.specs.Block.{Effect, effectOn}
 use Rattle.board.specs.Ends.{endedOf}
 use Rattle.board.specs.Chain.{Ending, counted, ends, executed, fetched, nothing}
-use Rattle.board.specs.Steps.{EndedIn, Spare, SteppedTo, steppedOf, toldOf, outcomeWith}
+use Rattle.board.specs.Steps.{EndedIn, Spare, SteppedTo, steppedOf, outcomeWith}
 use Rattle.block.specs.Steps.{Did, Knows}
 use Rattle.unit.specs.Standing.{unitOf}
 use Rattle.unit.proofs.Decided.{counts?}
@@ -43,7 +43,7 @@ module _ (w : World) (at i : ℕ) (n : UnitNumber) (named : unitAt w at ≡ n) w
   step-made :
       (m : Buffers) (ts : List ℕ) (d : Done) (units : Units) →
       Did (blockAt (w .host) at) (effectOn (w .controller) (w .host) (driveOf w n) at i) (buffersOf w n) m ts d →
-      SteppedTo w at i (changed w n m (unitOf (d .unit) ts)) (steppedOf (toldOf d) units)
+      SteppedTo w at i (changed w n m (unitOf (d .unit) ts)) (steppedOf (d .told) units)
   unfolding worldAfter
   step-made m ts d units did =
       rw (did .result, did .table, did .stored)
@@ -60,12 +60,12 @@ pub step-by :
     (w : World) (at i : ℕ) (x n : UnitNumber) → x ≡ ask.unitAsked (blockAt (w .host) at) → x ≡ n →
     (m : Buffers) (ts : List ℕ) (d : Done) (units : Units) →
     Did (blockAt (w .host) at) (effectOn (w .controller) (w .host) (driveOf w n) at i) (buffersOf w n) m ts d →
-    SteppedTo w at i (changed w n m (unitOf (d .unit) ts)) (steppedOf (toldOf d) units)
+    SteppedTo w at i (changed w n m (unitOf (d .unit) ts)) (steppedOf (d .told) units)
 step-by w at i x n asks is m ts d units did = step-made w at i n (sym asks ∙ is) m ts d units did
 
 -- Whether its unit counts as initialized then, a block tells.
 pub told-then :
-    (b : Block) (e : Effect) (m m′ : Buffers) (ts : List ℕ) (d : Done) → Did b e m m′ ts d → Knows (Counts (d .counts)) (unitOf (d .unit) ts)
+    (b : Block) (e : Effect) (m m′ : Buffers) (ts : List ℕ) (d : Done) → Did b e m m′ ts d → Knows (Counts (d .told .counts)) (unitOf (d .unit) ts)
 told-then b e m m′ ts d did = rw (did .result, did .table) (decided-says (counts? (e .unit)))
 
 -- ---- what follows a block

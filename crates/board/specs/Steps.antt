@@ -5,7 +5,6 @@ use mathlib.Core.Path.{_≡_}
 use lib.ListN.{length}
 use Rattle.wire.specs.Memory.{InMemory}
 use Rattle.iopb.specs.Layout.{blockAt}
-use Rattle.block.specs.declared.Done.{Done}
 use Rattle.block.specs.declared.Known.the-variants.{Unasked}
 use Rattle.block.specs.Steps.{Knows}
 use Rattle.unit.specs.Standing.{UnitRecord, byValue}
@@ -18,7 +17,7 @@ use Rattle.board.specs.declared.chain.Single.{Single}
 use Rattle.board.specs.declared.chain.Single.the-variants.{Ran, NoRoom}
 use Rattle.board.specs.declared.chain.Went.{Went}
 use Rattle.board.specs.declared.chain.Stepped.{Stepped}
-use Rattle.board.specs.declared.chain.BlockTold.{BlockTold}
+use Rattle.block.specs.declared.BlockTold.{BlockTold}
 use Rattle.board.specs.Ends.{endOf}
 use Rattle.board.specs.Chain.{Ending}
 use Rattle.board.specs.World.{World, effectAt, worldAfter}
@@ -28,14 +27,6 @@ use Rattle.board.specs.Run.{unitsOf, worldOf}
 abbrev pub outcomeWith : End → Units → Outcome
 outcomeWith r units =
     record { answer = r .answer; failed = r .failed; blocks = r .blocks; sectors = r .sectors; units = units }
-
--- What is returned of a block, in two parts: what it told, and the record that it left of its unit.
-abbrev pub toldOf : Done → BlockTold
-toldOf d = record { counts = d .counts; answer = d .answer; sectors = d .sectors; linked = d .linked; link = d .link }
-
-abbrev pub doneWith : BlockTold → UnitRecord → Done
-doneWith t u =
-    record { unit = byValue u; counts = t .counts; answer = t .answer; sectors = t .sectors; linked = t .linked; link = t .link }
 
 -- What a block told, with the records of both units.
 abbrev pub steppedOf : BlockTold → Units → Stepped

@@ -6,7 +6,7 @@ use crate::records::units_of;
 use answers::BlockAnswer;
 use answers::Refusal;
 use answers::RunAnswer;
-use block::Done;
+use block::BlockTold;
 use block::Known;
 use block::run_block;
 use unit::Controller;
@@ -16,7 +16,7 @@ ghost use Prim.Native.Nat.{_+_, _*_, _≤_};
 ghost use lib.ListN.{length};
 ghost use Rattle.board.specs.Ends.{endedOf};
 ghost use Rattle.board.specs.Chain.{counted, executed, fetched, nothing, ran};
-ghost use Rattle.board.specs.Steps.{EndedIn, KnowsBoth, RanOne, Spare, SteppedOn, doneWith, nothingLearnt, steppedOf, toldOf, outcomeWith};
+ghost use Rattle.board.specs.Steps.{EndedIn, KnowsBoth, RanOne, Spare, SteppedOn, nothingLearnt, steppedOf, outcomeWith};
 ghost use Rattle.block.specs.Block.{effectOn};
 ghost use Rattle.block.specs.Steps.{Did, Knows, BlockRoom, driveWith, three};
 ghost use Rattle.board.specs.Records.{unitIn, unitsIn};
@@ -26,19 +26,12 @@ ghost use Rattle.wire.specs.Promise.{Says};
 ghost use Rattle.answers.specs.declared.RunAnswer.{RunAnswer};
 ghost use Rattle.answers.specs.Numbers.{refusalNumber};
 ghost use Rattle.board.specs.Run.{CameTo, worldOf};
+ghost use Rattle.unit.specs.Standing.{byValue};
+ghost use Rattle.block.specs.declared.Done.{Done};
 
 // What a block alone came to: the records that it left, what it told, and what it said of the next.
 pub struct Stepped {
     pub units: Units,
-    pub answer: BlockAnswer,
-    pub sectors: u16,
-    pub linked: bool,
-    pub link: u32,
-}
-
-// What a chain goes by after a block, and whether the block's unit counts as initialized then.
-pub(crate) struct BlockTold {
-    pub counts: bool,
     pub answer: BlockAnswer,
     pub sectors: u16,
     pub linked: bool,
@@ -80,20 +73,6 @@ pub struct Outcome {
     pub units: Units,
 }
 
-// What a block tells the chain, without the record that it left of its unit.
-fn told_by(done: Done) -> BlockTold
-    ensures { λ t. ⌜ t ≡ toldOf done ⌝ }
-{
-    let answer = done.answer;
-    BlockTold {
-        counts: done.counts,
-        answer,
-        sectors: done.sectors,
-        linked: done.linked,
-        link: done.link,
-    }
-}
-
 // A block on the drive of one unit. The unit's record goes by value here alone: what stands in the functions below stays on the stack while the
 // rest of the chain runs.
 fn work_on(
@@ -112,12 +91,12 @@ fn work_on(
         let before = three (now (host .entry)) (now (image .entry)) (now (events .entry)) in
         let after = three (now (host .exit)) (now (image .exit)) (now (events .exit)) in
         let drive = driveWith (unitIn (now (held .entry)) (now (map .entry))) (now (image .entry)) in
-        let done = doneWith t (unitIn (now (held .exit)) (now (map .exit))) in
+        let done : Done = record { unit = byValue (unitIn (now (held .exit)) (now (map .exit))); told = t } in
         Did (blockAt (now (host .entry)) at) (effectOn c (now (host .entry)) drive at i) before after (now (map .exit)) done) ⌝ }
 {
     let done = run_block(host, image, events, c, record_of(held), known, map, at, i);
     *held = numbers_of(done.unit);
-    told_by(done)
+    done.told
 }
 
 // One block of a chain, on the drive of its request's unit.

@@ -3,7 +3,8 @@
 use Rattle.unit.specs.declared.UnitNumber.{UnitNumber}
 use Rattle.block.specs.Steps.{three}
 use Rattle.board.specs.Records.{unitIn, unitsIn}
-use Rattle.board.specs.Steps.{doneWith}
+use Rattle.block.specs.declared.Done.{Done}
+use Rattle.unit.specs.Standing.{byValue}
 use Rattle.board.proofs.Chains.{step-by, told-then}
 use borrow.Author.Needs.{needs}
 use Rattle.board.proofs.chain.step.Statement.{statement}
@@ -46,7 +47,7 @@ returns c =
     let a = begun .args in
     let w = (worldOf (a .c) (a .host .now) (a .image0 .now) (a .image1 .now) (a .events .now) (a .map0 .now) (a .map1 .now) (unitsIn (a .record0 .now) (a .record1 .now))) in
     let block = work .work-on in
-    let done = doneWith (block .result) (unitIn (block .last .1 .1 .1 .1 .0) (block .last .1 .1 .1 .1 .1 .1 .0)) in
+    let done : Done = record { unit = byValue (unitIn (block .last .1 .1 .1 .1 .0) (block .last .1 .1 .1 .1 .1 .1 .0)); told = block .result } in
     let told = told-then _ _ _ _ _ done (block .ensures) in
     record {
       to =
@@ -72,7 +73,7 @@ returns-2 c =
     let a = begun .args in
     let w = (worldOf (a .c) (a .host .now) (a .image0 .now) (a .image1 .now) (a .events .now) (a .map0 .now) (a .map1 .now) (unitsIn (a .record0 .now) (a .record1 .now))) in
     let block = work .work-on2 in
-    let done = doneWith (block .result) (unitIn (block .last .1 .1 .1 .1 .0) (block .last .1 .1 .1 .1 .1 .1 .0)) in
+    let done : Done = record { unit = byValue (unitIn (block .last .1 .1 .1 .1 .0) (block .last .1 .1 .1 .1 .1 .1 .0)); told = block .result } in
     let told = told-then _ _ _ _ _ done (block .ensures) in
     record {
       to =

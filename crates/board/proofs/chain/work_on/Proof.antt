@@ -15,9 +15,6 @@ run-block-requires c κs =
 numbers-of-requires : tie.Need-numbers-of-requires
 numbers-of-requires c κs = search needs
 
-told-by-requires : tie.Need-told-by-requires
-told-by-requires c κs = search needs
-
 same-length : tie.Need-same-length
 same-length c = search needs
 
@@ -29,7 +26,7 @@ same-length-3 c = search needs
 
 returns : tie.Need-returns
 returns c =
-    rw (c .told-by .ensures, c .before .numbers-of .ensures) (rw (c .before .before .before .before .before .before .before .before .before .before .record-of .ensures) at (c .before .before .before .before .before .before .before .before .run-block .ensures))
+    rw (c .before .numbers-of .ensures) (rw (c .before .before .before .before .before .before .before .before .before .before .record-of .ensures) at (c .before .before .before .before .before .before .before .before .run-block .ensures))
 
 pub work-on-spec : {M : Type 1} → statement M
 work-on-spec =
@@ -38,7 +35,6 @@ work-on-spec =
     record-of-requires
     run-block-requires
     numbers-of-requires
-    told-by-requires
     same-length
     same-length-2
     same-length-3
