@@ -7,7 +7,7 @@ use mathlib.Core.Path.{_≡_, _∙_, ap}
 use native.Mathlib.Decide.{decLt}
 use native.Mathlib.Omega.{arith}
 use lib.ListN.{length}
-use Rattle.answers.specs.RunNumbers.{runNumber}
+use Rattle.answers.specs.Numbers.{runNumber}
 use Rattle.board.specs.declared.chain.Outcome.{Outcome}
 use Rattle.board.specs.declared.inspection.Part.{Part}
 use Rattle.board.specs.Chain.{Ending, ran}

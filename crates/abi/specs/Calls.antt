@@ -6,7 +6,7 @@ use mathlib.Core.Logic.{ite, Dec·and}
 use mathlib.Core.Path.{_≡_}
 use native.Mathlib.Decide.{decLt, ℕ-discrete}
 use lib.ListN.{length}
-use Rattle.answers.specs.RunNumbers.{runNumber}
+use Rattle.answers.specs.Numbers.{runNumber}
 use Rattle.unit.specs.declared.UnitNumber.{UnitNumber}
 use Rattle.unit.specs.declared.UnitNumber.the-variants.{Zero, One}
 use Rattle.unit.proofs.Decided.{same?}

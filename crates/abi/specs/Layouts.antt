@@ -29,7 +29,7 @@ use Rattle.geometry.specs.Drive.{B, C, N, S, geometryOf, start, volume, volumeO
 use Rattle.unit.specs.declared.Holder.{Holder}
 use Rattle.unit.specs.declared.Holder.the-variants.{Nobody}
 use Rattle.unit.specs.Standing.{UnitRecord, cylinder, geometry, heldBy, holder, initialized, noTracks, pairs, table}
-use Rattle.answers.specs.RunNumbers.{runNumber}
+use Rattle.answers.specs.Numbers.{runNumber}
 use Rattle.board.specs.Chain.{Ending}
 use Rattle.spares.specs.Lands.{counted}
 use Rattle.unit.specs.Made.{recordOf}

@@ -9,8 +9,8 @@ use Rattle.answers.specs.declared.Refusal.{Refusal}
 use Rattle.answers.specs.declared.Refusal.the-variants.{CommandUnknown, NotInitialized, UibMisplaced, UibOutsideLimits, VolumeAbsent, CountZero, SectorOutside, ImageShort, ListBad, DataMisplaced, Unreadable, TracksTaken, TableFull, DriveHeld}
 use Rattle.answers.specs.declared.RunAnswer.{RunAnswer}
 use Rattle.answers.specs.declared.RunAnswer.the-variants.{Done, EventsShort, AllowanceBad, FirstBad, BlockFailed, LinkBad, AllowanceSpent}
-use Rattle.answers.specs.RunNumbers.{OfABlock, runNumber}
-use Rattle.answers.specs.Numbers.{refusalNumber}
+use Rattle.answers.specs.RunNumbers.{OfABlock}
+use Rattle.answers.specs.Numbers.{refusalNumber, runNumber}
 
 refusal : ℕ → Refusal
 refusal n =

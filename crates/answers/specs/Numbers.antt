@@ -1,9 +1,27 @@
--- The number of each answer of a block (01, Answer numbers; 02, K5 and K10), and its status.
+-- The number of each answer, of a run and of a block (01, Answer numbers; 02, K5 and K10), and the status of a block.
 use Prim.Native.Nat.{ℕ}
 use Rattle.answers.specs.declared.BlockAnswer.{BlockAnswer}
 use Rattle.answers.specs.declared.BlockAnswer.the-variants.{Ended, Failed}
 use Rattle.answers.specs.declared.Refusal.{Refusal}
+use Rattle.answers.specs.declared.RunAnswer.{RunAnswer}
+use Rattle.answers.specs.declared.RunAnswer.the-variants.{Done, EventsShort, AllowanceBad, FirstBad, BlockFailed, LinkBad, AllowanceSpent}
 use Rattle.answers.specs.declared.Refusal.the-variants.{CommandUnknown, NotInitialized, UibMisplaced, UibOutsideLimits, VolumeAbsent, CountZero, SectorOutside, ImageShort, ListBad, DataMisplaced, Unreadable, TracksTaken, TableFull, DriveHeld}
+
+abbrev pub runNumber : RunAnswer → ℕ
+-- "last block had no link and ended 80"
+runNumber Done = 0
+-- "event buffer under 512 bytes"
+runNumber EventsShort = 1
+-- "allowance 0 or over 64"
+runNumber AllowanceBad = 2
+-- "first block odd, or not wholly in host memory"
+runNumber FirstBad = 3
+-- "a block ended 82"
+runNumber BlockFailed = 4
+-- "linked address bad as in 3"
+runNumber LinkBad = 5
+-- "allowance spent, last block 80 with LK set"
+runNumber AllowanceSpent = 6
 
 abbrev pub refusalNumber : Refusal → ℕ
 -- "command not listed"

@@ -2,8 +2,8 @@
 // An answer is an enum everywhere; its number is made here and nowhere else.
 // It knows no error bytes: those are a product's own.
 ghost use mathlib.Core.Path.{_≡_};
-ghost use Rattle.answers.specs.RunNumbers.{blockNumber, runNumber};
-ghost use Rattle.answers.specs.Numbers.{refusalNumber, statusOf};
+ghost use Rattle.answers.specs.RunNumbers.{blockNumber};
+ghost use Rattle.answers.specs.Numbers.{refusalNumber, statusOf, runNumber};
 
 // How a run ended.
 pub enum RunAnswer {

@@ -90,7 +90,7 @@ abbrev pub heldAfter : Controller → (reserve : Bool) → BlockAnswer → UnitR
 heldAfter c reserve Ended u = heldBy u (reservedBy c reserve)
 heldAfter c reserve (Failed r) u = u
 
--- "86 does neither": it is the one that is let through and leaves the record as it was.
+-- "86 does neither": of the commands that are let through it alone leaves the record as it was (judge, planOf).
 abbrev pub holderLeft : Controller → (reserve : Bool) → Leaving → BlockAnswer → UnitRecord → UnitRecord
 holderLeft c reserve AsItWas answer u = u
 holderLeft c reserve (HeadsAt x) answer u = heldAfter c reserve answer u
@@ -100,11 +100,11 @@ holderLeft c reserve (Mapped bad spare) answer u = heldAfter c reserve answer u
 
 -- ---- what is stored
 
--- In the block at an address: "status 81 and error 00 are stored in the block; then the transfer happens";
+-- In the block at an address: "status 81 and error 00 are stored in the block; then the transfer happens".
 abbrev pub begun : ℕ → List Store
 begun at = bytesFrom hostByte (at + 2) (0x81 ∷ 0x00 ∷ [])
 
--- the words that are reported come after it. 86 "writes words 2 to 7 with this board's own identity"; of 8C the "lower byte of word 3 is the last
+-- The words that are reported, which come after the transfer. 86 "writes words 2 to 7 with this board's own identity"; of 8C the "lower byte of word 3 is the last
 -- sector formatted, word 4 the number of sectors formatted" (02, K1). That is at most 255, so that the upper byte of word 4 is 00.
 abbrev pub reported : ℕ → Report → List Store
 reported at Silent = []
@@ -127,7 +127,7 @@ module _ (c : Controller) (host : List ℕ) (d : Drive) (at i : ℕ) where
   abbrev pub refused : Refusal → Effect
   refused r = record { stores = finish (blockAt host at) at i (Failed r) (pos 0); unit = d .unit; answer = Failed r; sectors = 0 }
 
-  -- The holder changes with the record.
+  -- Its stores in order: 81 and 00, the data, the words that are reported, the final status and error, the event entry. The holder changes with the record.
   abbrev pub performed : Plan → Effect
   performed plan =
       let b = blockAt host at in

@@ -31,7 +31,9 @@ counted t sectors = record { blocks = t .blocks + 1; sectors = t .sectors + sect
 -- What follows a block that ended so, where `next` is what fetching the next one comes to: "running it with LK set and status 80
 -- leads to fetching the next"; "A failed block's link isn't followed".
 abbrev pub follows : BlockAnswer → Bool → Count → World → Ending → Ending
+-- 4, "a block ended 82"
 follows (Failed r) link t w next = ends RunAnswer.BlockFailed (refusalNumber r) t w
+-- 0, "last block had no link and ended 80"
 follows Ended false t w next = ends RunAnswer.Done 0 t w
 follows Ended true t w next = next
 
@@ -44,7 +46,8 @@ executed fetch t at w =
     let t′ = counted t (e .sectors) in
     follows (e .answer) (b .options .link) t′ w′ (fetch t′ (b .link) w′)
 
--- "Each fetch spends one of the allowance": with none left the answer is 6, and 6 comes before 5.
+-- "Each fetch spends one of the allowance": with none left the answer is 6, "allowance spent, last block 80 with LK set", and 6 comes before 5, "linked
+-- address bad as in 3".
 unfoldable pub fetched : ℕ → Count → ℕ → World → Ending
 fetched zero t at w = ends RunAnswer.AllowanceSpent 0 t w
 fetched (suc left) t at w =
@@ -53,7 +56,8 @@ fetched (suc left) t at w =
 abbrev pub nothing : Count
 nothing = record { blocks = 0; sectors = 0 }
 
--- "Checks 1, 2, 3 in that order", and then the chain from the first block on.
+-- "Checks 1, 2, 3 in that order", "event buffer under 512 bytes", "allowance 0 or over 64", "first block odd, or not wholly in host memory"; and then the
+-- chain from the first block on.
 unfoldable pub ran : ℕ → ℕ → World → Ending
 ran first allowance w =
     ite (decLt (length (w .events)) 512) (ends RunAnswer.EventsShort 0 nothing w)

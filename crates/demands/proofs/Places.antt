@@ -32,7 +32,7 @@ use Rattle.wire.proofs.Promises.{never}
 use Rattle.judge.specs.declared.Plan.{Plan}
 use Rattle.judge.specs.declared.Verdict.{Verdict}
 use Rattle.judge.specs.declared.Verdict.the-variants.{Refused, Do}
-use Rattle.judge.specs.Asks.{numberThere, planOf}
+use Rattle.judge.specs.Plans.{numberThere, planOf}
 use Rattle.judge.specs.Fits.{MovingFits}
 use Rattle.judge.specs.Given.{Asked, on}
 use Rattle.judge.specs.Verdict.{verdict}

@@ -18,7 +18,7 @@ use Rattle.judge.specs.declared.Report.the-variants.{Nothing as Silent, Identit
 use Rattle.judge.specs.declared.Plan.{Plan}
 use Rattle.judge.specs.declared.Verdict.{Verdict}
 use Rattle.judge.specs.declared.Verdict.the-variants.{Do}
-use Rattle.judge.specs.Asks.{planOf}
+use Rattle.judge.specs.Plans.{planOf}
 use Rattle.judge.proofs.LetThrough.{own-plan}
 use Rattle.request.specs.declared.Task.the-variants.{Format}
 use Rattle.request.specs.declared.Track.{Track}

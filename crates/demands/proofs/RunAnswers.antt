@@ -17,8 +17,8 @@ use Rattle.answers.specs.declared.BlockAnswer.the-variants.{Ended, Failed}
 use Rattle.answers.specs.declared.Refusal.{Refusal}
 use Rattle.answers.specs.declared.RunAnswer.{RunAnswer}
 use Rattle.answers.specs.declared.RunAnswer.the-variants.{Done, EventsShort, AllowanceBad, FirstBad, BlockFailed, LinkBad, AllowanceSpent}
-use Rattle.answers.specs.RunNumbers.{blockNumber, runNumber}
-use Rattle.answers.specs.Numbers.{refusalNumber}
+use Rattle.answers.specs.RunNumbers.{blockNumber}
+use Rattle.answers.specs.Numbers.{refusalNumber, runNumber}
 use Rattle.board.specs.Chain.{Ending, ends, nothing, ran}
 use Rattle.demands.specs.Visits.{EndsWith, Passes, RunTold, Visit, blockOf, effectOf, fetchedBy, lastFetched, passes?, sectorsOf, visits}
 use Rattle.demands.proofs.Endings.{ToldByBlocks, chain-told, visits-few}

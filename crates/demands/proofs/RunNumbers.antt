@@ -2,7 +2,8 @@
 use Prim.Native.Nat.{ℕ, _≤_}
 use mathlib.Core.Logic.{_⊎_, inl, inr, ⊎-elim}
 use mathlib.Core.Path.{_≡_}
-use Rattle.answers.specs.RunNumbers.{OfABlock, runNumber}
+use Rattle.answers.specs.Numbers.{runNumber}
+use Rattle.answers.specs.RunNumbers.{OfABlock}
 use Rattle.answers.proofs.Laws.{answers-in-range, refusals-in-range}
 use Rattle.board.specs.Chain.{ran}
 use Rattle.demands.proofs.RunAnswers.{failed-number}

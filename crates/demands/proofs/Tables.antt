@@ -25,7 +25,7 @@ use Rattle.judge.specs.declared.Plan.{Plan}
 use Rattle.judge.specs.declared.Report.{Report}
 use Rattle.judge.specs.declared.Verdict.{Verdict}
 use Rattle.judge.specs.declared.Verdict.the-variants.{Refused, Do}
-use Rattle.judge.specs.Asks.{planOf}
+use Rattle.judge.specs.Plans.{planOf}
 use Rattle.judge.specs.Fits.{LeavingFits}
 use Rattle.judge.specs.Given.{on}
 use Rattle.judge.specs.Verdict.{verdict}

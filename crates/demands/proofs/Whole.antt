@@ -16,7 +16,7 @@ use Rattle.judge.specs.declared.Moving.the-variants.{Nothing, Sectors, Track}
 use Rattle.judge.specs.declared.Plan.{Plan}
 use Rattle.judge.specs.declared.Verdict.{Verdict}
 use Rattle.judge.specs.declared.Verdict.the-variants.{Do}
-use Rattle.judge.specs.Asks.{planOf}
+use Rattle.judge.specs.Plans.{planOf}
 use Rattle.judge.proofs.LetThrough.{own-plan}
 use Rattle.request.specs.declared.Task.{Task}
 use Rattle.transfer.specs.Data.{Transfer, dataOn, diskByte, progressOn}

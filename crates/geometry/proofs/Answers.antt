@@ -14,7 +14,8 @@ use Rattle.geometry.specs.declared.Place.{Place}
 use Rattle.geometry.specs.declared.Sector.{Sector}
 use Rattle.geometry.specs.declared.VolumeNumber.{VolumeNumber}
 use Rattle.geometry.specs.Drive.{driveSectors, volumeSectors}
-use Rattle.geometry.specs.Sectors.{InVolume, OnDrive, addressOf, firstByte, markByte, numberOf, placeOf}
+use Rattle.geometry.specs.Sectors.{OnDrive, addressOf, firstByte, markByte, numberOf, placeOf}
+use Rattle.geometry.specs.Following.{InVolume}
 use Rattle.geometry.specs.Answers.{found, placed, sectorAt, inVolume?, numbered, onDrive?}
 
 pub found-inside : (g : Geometry) (v : VolumeNumber) (n : ℕ) → n < volumeSectors g v → found g v n ≡ Found.At (addressOf g v n)

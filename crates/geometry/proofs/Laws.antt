@@ -15,9 +15,9 @@ use Rattle.geometry.specs.Default.{table11}
 use Rattle.geometry.specs.Drive.{B, C, N, S, driveHeads, driveSectors, end, marksAt, need, start, volume, volumeSectors}
 use Rattle.geometry.specs.Drive.Inside.{driveSectors-is, marksAt-is, need-is, volumeSectors-is}
 use Rattle.geometry.specs.Limits.{Has, Present, VolumesWithin, Within}
-use Rattle.geometry.specs.Following.{next}
+use Rattle.geometry.specs.Following.{next, InVolume}
 use Rattle.geometry.specs.SectorBytes.{SectorByte}
-use Rattle.geometry.specs.Sectors.{InVolume, OnDrive, address, addressOf, firstByte, markByte, numberOf, placeOf}
+use Rattle.geometry.specs.Sectors.{OnDrive, address, addressOf, firstByte, markByte, numberOf, placeOf}
 use Rattle.geometry.specs.SectorBytes.SectorByte.{data-byte, mark-byte}
 use Rattle.geometry.specs.Sectors.Inside.{addressOf-is, firstByte-is, markByte-is, numberOf-is, placeOf-is}
 use Rattle.geometry.proofs.Counting.{Digits, counted-back, counted-below, counted-once, cylinder-back, digits-of, head-back, sector-back}

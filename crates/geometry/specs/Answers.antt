@@ -10,7 +10,8 @@ use Rattle.geometry.specs.declared.Place.{Place}
 use Rattle.geometry.specs.declared.Sector.{Sector}
 use Rattle.geometry.specs.declared.VolumeNumber.{VolumeNumber}
 use Rattle.geometry.specs.Drive.{C, N, S, driveHeads, driveSectors, volume, volumeSectors}
-use Rattle.geometry.specs.Sectors.{InVolume, OnDrive, addressOf, firstByte, markByte, numberOf, placeOf}
+use Rattle.geometry.specs.Following.{InVolume}
+use Rattle.geometry.specs.Sectors.{OnDrive, addressOf, firstByte, markByte, numberOf, placeOf}
 
 -- A sector by its number in a volume.
 unfoldable pub found : Geometry → VolumeNumber → ℕ → Found

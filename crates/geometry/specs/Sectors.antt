@@ -18,7 +18,7 @@ address c h s = record { cylinder = c; head = h; sector = s }
 pub addressOf : Geometry → VolumeNumber → ℕ → Address
 addressOf g v n =
     let vol = volume g v in
-    address (n / (S g * N vol)) (start vol + n / S g % N vol) (n % S g)
+    address (n / (S g * N vol)) (start vol + (n / S g) % N vol) (n % S g)
 
 -- "((cylinder × H) + start head + head) × S + sector"; an address's head is that start head + head already.
 pub placeOf : Geometry → Address → ℕ
@@ -42,13 +42,7 @@ pub record OnDrive (g : Geometry) (a : Address) : Type 0 where
   pub head : a .head < driveHeads g
   pub sector : a .sector < S g
 
--- A physical address, its head counted from the start head, that a volume has.
-pub record InVolume (g : Geometry) (v : VolumeNumber) (c h s : ℕ) : Type 0 where
-  pub cylinder : c < C g
-  pub head : h < N (volume g v)
-  pub sector : s < S g
-
--- "first sector outside the volume, or the last" (01, Answer number 16): neither is, of a request for so many sectors from a number on.
+-- A volume covers a request for so many sectors from a number on: what check 16 refuses, "first sector outside the volume, or the last", is not so.
 abbrev pub Covers : Geometry → VolumeNumber → Number → ℕ → Type 0
 Covers g v (Is n) count = (n < volumeSectors g v) × (n + (count - 1) < volumeSectors g v)
 Covers g v Outside count = ⊥

@@ -22,7 +22,7 @@ use Rattle.judge.specs.declared.Moving.{Moving}
 use Rattle.judge.specs.declared.Plan.{Plan}
 use Rattle.judge.specs.declared.Report.{Report}
 use Rattle.judge.specs.declared.Verdict.{Verdict}
-use Rattle.judge.specs.Asks.{carrying, jobOf}
+use Rattle.judge.specs.Plans.{carrying, jobOf}
 use Rattle.judge.specs.Given.{Asked}
 use Rattle.judge.specs.Reads.{InList, InUib}
 use Rattle.transfer.specs.Progress.{progress}

@@ -12,7 +12,7 @@ use Rattle.geometry.specs.Drive.{B, S}
 use Rattle.iopb.specs.Ask.{taskOf}
 use Rattle.unit.specs.Standing.{geometry}
 use Rattle.judge.specs.declared.Verdict.{Verdict}
-use Rattle.judge.specs.Asks.{planOf}
+use Rattle.judge.specs.Plans.{planOf}
 use Rattle.request.specs.declared.Task.{Task}
 use Rattle.demands.specs.Footprint.{HostData, InReport, RunWrites, WritesHost, askedOf, namedDrive, names, reportOf, verdictOf}
 use Rattle.demands.specs.Footprint.HostWritten.{report}

@@ -19,7 +19,7 @@ use Rattle.iopb.specs.Layout.{blockAt, uibAt}
 use Rattle.iopb.proofs.Answers.{shapeAt-inside}
 use Rattle.judge.specs.declared.Leaving.{Leaving}
 use Rattle.judge.specs.declared.Verdict.{Verdict}
-use Rattle.judge.specs.Asks.{only}
+use Rattle.judge.specs.Plans.{only}
 use Rattle.judge.proofs.First.{no-more}
 use Rattle.judge.proofs.Locality.{placed-uib-read}
 use Rattle.judge.proofs.Tasks.{own, shape-given, shape-outside}

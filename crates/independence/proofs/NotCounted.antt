@@ -18,7 +18,7 @@ use Rattle.demands.specs.Footprint.HostWritten.{moved as given}
 use Rattle.demands.specs.Visits.{Passes}
 use Rattle.demands.proofs.Reports.{FormatTold}
 use Rattle.judge.specs.declared.Verdict.{Verdict}
-use Rattle.judge.specs.Asks.{planOf}
+use Rattle.judge.specs.Plans.{planOf}
 use Rattle.request.specs.declared.Buffer.{Buffer}
 use Rattle.request.specs.declared.Task.{Task}
 use Rattle.unit.specs.declared.UnitNumber.the-variants.{Zero, One}

@@ -17,7 +17,8 @@ use Rattle.iopb.specs.Ask.{shapeAt, taskOf}
 use Rattle.iopb.proofs.Answers.{shapeAt-outside}
 use Rattle.judge.specs.declared.Leaving.{Leaving}
 use Rattle.judge.specs.declared.Verdict.{Verdict}
-use Rattle.judge.specs.Asks.{checksOf, only}
+use Rattle.judge.specs.Plans.{only}
+use Rattle.judge.specs.Asks.{checksOf}
 use Rattle.judge.specs.Reads.{InList, InUib}
 use Rattle.judge.proofs.Locality.{misplaced-uib-unread}
 use Rattle.judge.proofs.Tasks.{move-11, own, restore-done, shape-misplaced}

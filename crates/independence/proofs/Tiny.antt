@@ -22,7 +22,7 @@ use Rattle.geometry.proofs.Ends.{end-absent, end-present}
 use Rattle.judge.specs.declared.Moving.{Moving}
 use Rattle.judge.specs.declared.Verdict.{Verdict}
 use Rattle.judge.specs.Given.{on}
-use Rattle.judge.specs.Asks.{carrying, jobOf, planOf}
+use Rattle.judge.specs.Plans.{carrying, jobOf, planOf}
 use Rattle.judge.specs.Verdict.{verdict}
 use Rattle.judge.proofs.Tasks.{data-done, format-on, list-18, move-on, own, piece-done, span-covers, span-on}
 use Rattle.request.specs.declared.Buffer.{Buffer}

@@ -22,7 +22,7 @@ use Rattle.judge.specs.declared.Moving.{Moving}
 use Rattle.judge.specs.declared.Plan.{Plan}
 use Rattle.judge.specs.declared.Report.{Report}
 use Rattle.judge.specs.declared.Verdict.{Verdict}
-use Rattle.judge.specs.Asks.{only, plan, planOf}
+use Rattle.judge.specs.Plans.{only, plan, planOf}
 use Rattle.judge.proofs.First.{no-more}
 use Rattle.judge.proofs.Locality.{placed-uib-read}
 use Rattle.wire.proofs.Promises.{never as impossible}

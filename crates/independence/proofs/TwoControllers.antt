@@ -17,7 +17,7 @@ use Rattle.iopb.specs.Ask.{taskOf}
 use Rattle.iopb.specs.Layout.{blockAt}
 use Rattle.judge.specs.declared.Leaving.{Leaving}
 use Rattle.judge.specs.declared.Verdict.{Verdict}
-use Rattle.judge.specs.Asks.{only}
+use Rattle.judge.specs.Plans.{only}
 use Rattle.judge.proofs.Tasks.{held-24, own, restore-done}
 use Rattle.request.specs.declared.Task.{Task}
 use Rattle.unit.specs.declared.UnitNumber.the-variants.{Zero, One}

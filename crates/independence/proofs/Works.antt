@@ -7,7 +7,7 @@ use mathlib.Core.Path.{_≡_, refl, sym, _∙_, ap, subst}
 use lib.ListN.{getD, length}
 use Rattle.unit.specs.declared.UnitNumber.{UnitNumber}
 use Rattle.unit.specs.declared.UnitNumber.the-variants.{Zero, One}
-use Rattle.transfer.specs.Stores.{Buffers, after, held, hostByte}
+use Rattle.transfer.specs.Stores.{Buffers, after, byteIn, hostByte}
 use Rattle.transfer.proofs.Stays.{lengths-stay, unstored-stays}
 use Rattle.block.specs.Block.{Effect}
 use Rattle.independence.specs.Local.{AgreeOn, LeadsAlike, Local, Step}
@@ -97,7 +97,7 @@ touched-alike bytes units events = Iff·rfl
 module _ {Out : Type 0} (k : Work Out) (by : ByWhatItReads k) where
   frame : (w : World) (c : WorldCell) → (working k .Writes w c → ⊥) → holds (leaves k w) c ≡ holds w c
   frame w (byte x) none =
-      ap (λ b. held b (hostByte x)) (buffers-changed w _ _ (k .names w)) ∙
+      ap (λ b. byteIn b (hostByte x)) (buffers-changed w _ _ (k .names w)) ∙
       unstored-stays (k .effect w .stores) (buffersOf w (k .names w)) (hostByte x) (λ stored. none (by .written w x .1 stored))
   frame w (disk n) none = other-drive w _ _ (k .names w) n none
   frame w events none = absurd (none tt)

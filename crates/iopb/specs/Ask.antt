@@ -32,10 +32,6 @@ startOf b = cond (b .options .logical) (Start.Logical (b .number)) (Start.Physic
 abbrev pub targetOf : Block → Target
 targetOf b = record { volume = volumeAsked b; start = startOf b }
 
--- "A1 and A2 have a list's address there"
-abbrev pub listOf : Block → Buffer
-listOf b = Buffer.List (b .address) (b .elements)
-
 abbrev pub moveOf : Block → Bool → Buffer → Move
 moveOf b to-host buffer =
     record { «to_host» = to-host; «past_marks» = b .options .disable; target = targetOf b; count = b .count; buffer = buffer }
@@ -61,7 +57,7 @@ pairOf b =
 unfoldable pub shapeAt : List ℕ → ℕ → Shape
 shapeAt host at = ite (inMemory? host at 18) (Shape.Given (uibAt host at)) Shape.Misplaced
 
--- What each command asks, by its code: "81 read, 82 write, 86 handshake, 87 initialize, 89 restore, 8A seek, 8C format with
+-- "A1 and A2 have a list's address there", in words 5 and 6, where 81 and 82 have their data's. What each command asks, by its code: "81 read, 82 write, 86 handshake, 87 initialize, 89 restore, 8A seek, 8C format with
 -- data, A1 scatter, A2 gather (hex)" (01, What the board answers for), and "command 85" (02, K5).
 abbrev pub tasks : List ℕ → Block → List (ℕ × Task)
 tasks host b =
@@ -72,8 +68,8 @@ tasks host b =
     (0x89, Task.Restore) ∷
     (0x8a, Task.Seek (targetOf b)) ∷
     (0x8c, Task.Format (trackAsked b)) ∷
-    (0xa1, Task.Move (moveOf b true (listOf b))) ∷
-    (0xa2, Task.Move (moveOf b false (listOf b))) ∷
+    (0xa1, Task.Move (moveOf b true (Buffer.List (b .address) (b .elements)))) ∷
+    (0xa2, Task.Move (moveOf b false (Buffer.List (b .address) (b .elements)))) ∷
     (0x85, Task.Map (pairOf b)) ∷
     []
 

@@ -15,7 +15,7 @@ abbrev pub byte : List ℕ → ℕ → ℕ
 byte bytes at = getD bytes at 0
 
 abbrev pub bit : ℕ → ℕ → Bool
-bit k x = eqb (x / 2 ^ k % 2) 1
+bit k x = eqb ((x / 2 ^ k) % 2) 1
 
 -- "Options, bit 7 down: UN unit, VO volume, LK link, XL logical, RV reserve, DE disable read data errors, IE interrupt, EC correction"
 abbrev pub optionsOf : ℕ → Options
@@ -31,7 +31,8 @@ optionsOf x =
       correct = bit 0 x;
     }
 
--- The block: word w stands at byte 2 w, its upper byte first.
+-- The block: word w stands at byte 2 w, its upper byte first. The number of elements is the lower byte of word 13; its upper byte is not looked at, and
+-- neither is the upper byte of word 9.
 abbrev pub blockAt : List ℕ → ℕ → Block
 blockAt bytes at =
     record {
@@ -54,7 +55,7 @@ blockAt bytes at =
       elements = byte bytes (at + 27);
     }
 
--- Table 10: each volume's start head and heads, sectors a track at 4, bytes a sector at 6, cylinders at 12.
+-- Table 10: start head and heads of volume 0 at 0 and 1, of volume 1 at 2 and 3, sectors a track at 4, bytes a sector at 6, cylinders at 12.
 abbrev pub uibAt : List ℕ → ℕ → Geometry
 uibAt bytes at =
     geometryOf (be16 bytes (at + 12)) (byte bytes (at + 4)) (be16 bytes (at + 6))

@@ -20,7 +20,7 @@ ghost use Rattle.unit.specs.declared.UnitNumber.{UnitNumber};
 ghost use Rattle.iopb.specs.Layout.{blockAt};
 ghost use Rattle.wire.specs.Memory.{InMemory};
 ghost use Rattle.wire.specs.Promise.{Says};
-ghost use Rattle.iopb.specs.Ask.{listOf, moveOf, pairOf, shapeAt, startOf, targetOf, taskOf, trackAsked, unitAsked};
+ghost use Rattle.iopb.specs.Ask.{moveOf, pairOf, shapeAt, startOf, targetOf, taskOf, trackAsked, unitAsked};
 
 // The unit that the block at an address names, told without the rest of it: whoever picks a drive by it need not keep a block.
 pub fn unit_at(host: &[u8], at: usize) -> UnitNumber
@@ -108,7 +108,7 @@ fn start(b: Block) -> Start
 }
 
 fn list(b: Block) -> Buffer
-    ensures { λ r. ⌜ r ≡ listOf b ⌝ }
+    ensures { λ r. ⌜ r ≡ Buffer.List (b .address) (b .elements) ⌝ }
 {
     Buffer::List {
         at: b.address,

@@ -29,7 +29,8 @@ use Rattle.wire.proofs.Decided.{inMemory?}
 use Rattle.judge.specs.declared.Leaving.{Leaving}
 use Rattle.judge.specs.declared.Verdict.{Verdict}
 use Rattle.judge.specs.Steps.{asksHolder, beforeBuffer, byItsOwn, bytesOf, ownChecks, beginsAt}
-use Rattle.judge.specs.Asks.{checksOf, driveHeld, numberThere, imageShort, jobOf, notInitialized, ofBuffer, planOf, trackOutside}
+use Rattle.judge.specs.Plans.{numberThere, jobOf, planOf}
+use Rattle.judge.specs.Asks.{checksOf, driveHeld, imageShort, notInitialized, ofBuffer, trackOutside}
 use Rattle.judge.specs.Checks.{first}
 use Rattle.judge.specs.Fits.{SpanGood}
 use Rattle.judge.specs.Given.{Asked, badNumber, on, spareNumber}

@@ -35,7 +35,8 @@ use Rattle.judge.specs.declared.Moving.the-variants.{Sectors, Track}
 use Rattle.judge.specs.declared.Report.{Report}
 use Rattle.judge.specs.declared.Report.the-variants.{Nothing, Identity, Formatted}
 use Rattle.judge.specs.declared.Verdict.{Verdict}
-use Rattle.judge.specs.Asks.{numberThere, ofBuffer, only}
+use Rattle.judge.specs.Plans.{numberThere, only}
+use Rattle.judge.specs.Asks.{ofBuffer}
 use Rattle.judge.specs.Checks.{Check, first}
 use Rattle.judge.specs.Fits.{BufferGood, LeavingFits, PlanFits}
 use Rattle.judge.specs.Given.{Asked, HasTrack, on}

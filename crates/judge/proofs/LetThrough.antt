@@ -18,7 +18,7 @@ use Rattle.judge.specs.declared.Report.{Report}
 use Rattle.judge.specs.declared.Report.the-variants.{Nothing, Formatted}
 use Rattle.judge.specs.declared.Verdict.{Verdict}
 use Rattle.judge.specs.Passed.{checks}
-use Rattle.judge.specs.Asks.{plan, planOf}
+use Rattle.judge.specs.Plans.{plan, planOf}
 use Rattle.judge.specs.Fits.{PlanFits}
 use Rattle.judge.specs.Given.{Asked, on}
 use Rattle.judge.specs.Reads.{InList}

@@ -13,7 +13,8 @@ use Rattle.unit.specs.declared.Controller.{Controller}
 use Rattle.unit.specs.Standing.{UnitRecord, geometry}
 use Rattle.judge.specs.declared.Plan.{Plan}
 use Rattle.judge.specs.Steps.{bytesOf, ofUnit}
-use Rattle.judge.specs.Asks.{dataMisplaced, driveHeld, imageShort, notInitialized, ofBuffer, planOf, sectorOutside, trackOutside}
+use Rattle.judge.specs.Plans.{planOf}
+use Rattle.judge.specs.Asks.{dataMisplaced, driveHeld, imageShort, notInitialized, ofBuffer, sectorOutside, trackOutside}
 use Rattle.judge.specs.Checks.{Check, first}
 use Rattle.judge.specs.Given.{on}
 use Rattle.judge.specs.Verdict.{verdict}

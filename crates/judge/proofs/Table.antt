@@ -31,7 +31,7 @@ use Rattle.judge.specs.declared.Report.the-variants.{Nothing as Silent, 
 use Rattle.judge.specs.declared.Verdict.{Verdict}
 use Rattle.judge.specs.declared.Verdict.the-variants.{Refused, Do}
 use Rattle.judge.specs.Passed.{checks}
-use Rattle.judge.specs.Asks.{planOf}
+use Rattle.judge.specs.Plans.{planOf}
 use Rattle.judge.specs.Checks.{Check, first}
 use Rattle.judge.specs.Steps.{beginsAt}
 use Rattle.judge.specs.Given.{Asked, startNumber, on}

@@ -31,7 +31,7 @@ use Rattle.judge.specs.declared.Leaving.{Leaving}
 use Rattle.judge.specs.declared.Moving.{Moving}
 use Rattle.judge.specs.declared.Report.{Report}
 use Rattle.judge.specs.declared.Verdict.{Verdict}
-use Rattle.judge.specs.Asks.{carrying, jobOf, only, plan, planOf}
+use Rattle.judge.specs.Plans.{carrying, jobOf, only, plan, planOf}
 use Rattle.judge.specs.Given.{Asked, HasTrack, HasTracks, badNumber, on, spareNumber}
 use Rattle.judge.specs.Verdict.{verdict}
 use Rattle.judge.proofs.EachTask.{on-its-own, stopped-by-holder}

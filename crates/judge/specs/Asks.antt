@@ -1,5 +1,5 @@
--- What each command is asked, in the order of the answers (01, Answer numbers; 02, K5 and K10), and what it does where no check refuses it. Whatever
--- goes by command stands here; that the lists are the paper's table is shown (Table and proofs/Table).
+-- What each command is asked, in the order in which it is asked (01, Answer numbers; 02, K5 and K10): a list of checks for each. That the lists are the
+-- paper's table is shown (Table and proofs/Table).
 use Prim.Native.Nat.{ℕ, _*_, _≤_, _<_}
 use mathlib.Core.List.{List, [], _∷_}
 use mathlib.Core.Logic.{Dec·and, Dec·not}
@@ -8,10 +8,8 @@ use native.Mathlib.Decide.{decLe, decLt, ℕ-discrete}
 use lib.Dec.{T}
 use Rattle.answers.specs.declared.Refusal.the-variants.{CommandUnknown, NotInitialized, UibMisplaced, UibOutsideLimits, VolumeAbsent, CountZero, SectorOutside, ImageShort, ListBad, DataMisplaced, TracksTaken, TableFull, DriveHeld}
 use Rattle.geometry.specs.declared.Geometry.{Geometry}
-use Rattle.geometry.specs.declared.Number.{Number}
-use Rattle.geometry.specs.declared.Number.the-variants.{Is, Outside}
 use Rattle.geometry.specs.declared.VolumeNumber.{VolumeNumber}
-use Rattle.geometry.specs.Drive.{B, S, need, volume}
+use Rattle.geometry.specs.Drive.{B, need, volume}
 use Rattle.geometry.specs.Limits.{Present, Within}
 use Rattle.geometry.specs.Sectors.{Covers, address}
 use Rattle.geometry.proofs.Decided.{covers?, onDrive?, present?, within?}
@@ -19,7 +17,6 @@ use Rattle.memory.specs.Lists.{ListGood, Ranges}
 use Rattle.memory.proofs.Decided.{listGood?, ranges?}
 use Rattle.request.specs.declared.Buffer.{Buffer}
 use Rattle.request.specs.declared.Buffer.the-variants.{Piece, List as Elements}
-use Rattle.request.specs.declared.Move.{Move}
 use Rattle.request.specs.declared.Pair.{Pair}
 use Rattle.request.specs.declared.Shape.the-variants.{Misplaced, Given as Uib}
 use Rattle.request.specs.declared.Target.{Target}
@@ -29,19 +26,10 @@ use Rattle.request.specs.declared.Track.{Track}
 use Rattle.spares.specs.Table.{Free}
 use Rattle.spares.proofs.Decided.{free?}
 use Rattle.unit.specs.Holding.{heldByOther}
-use Rattle.unit.specs.Landing.{spotOf, trackOf}
-use Rattle.unit.specs.Standing.{CountsAsInitialized, UnitRecord, geometry, holder, pairs, table}
+use Rattle.unit.specs.Standing.{CountsAsInitialized, geometry, holder, pairs, table}
 use Rattle.unit.proofs.Decided.{counts?}
 use Rattle.wire.proofs.Decided.{inMemory?, test?}
 use Rattle.wire.specs.Memory.{InMemory}
-use Rattle.judge.specs.declared.Job.{Job}
-use Rattle.judge.specs.declared.Leaving.{Leaving}
-use Rattle.judge.specs.declared.Leaving.the-variants.{AsItWas, HeadsAt, HeadsAtLastTried, Fresh, Mapped}
-use Rattle.judge.specs.declared.Moving.{Moving}
-use Rattle.judge.specs.declared.Moving.the-variants.{Sectors, Track as Tracked}
-use Rattle.judge.specs.declared.Plan.{Plan}
-use Rattle.judge.specs.declared.Report.{Report}
-use Rattle.judge.specs.declared.Report.the-variants.{Identity, Formatted}
 use Rattle.judge.specs.Checks.{Check, always, check}
 use Rattle.judge.specs.Given.{Asked, HasTrack, HasTracks, badNumber, spareNumber, startNumber}
 
@@ -125,7 +113,7 @@ module _ (a : Asked) where
   ofBuffer (Piece at) bytes = dataMisplaced at bytes ∷ []
   ofBuffer (Elements at n) bytes = listBad at n bytes ∷ elementMisplaced at n ∷ []
 
-  -- What each command is asked. "24 drive held, directly after 10 .. not for 86" (02, K10).
+  -- What each command is asked. 24 is asked "directly after 10", and "not for 86" (02, K10).
   abbrev pub checksOf : Task → List Check
   -- "command not listed": what is not listed asks for nothing that is known
   checksOf Unknown = always CommandUnknown ∷ []
@@ -140,52 +128,3 @@ module _ (a : Asked) where
   checksOf (Seek t) = driveHeld ∷ notInitialized ∷ volumeAbsent (t .volume) ∷ sectorOutside t 1 ∷ []
   checksOf (Format k) = driveHeld ∷ notInitialized ∷ trackOutside k ∷ imageShort ∷ dataMisplaced (k .buffer) (B (geometry (a .unit))) ∷ []
   checksOf (Map k) = driveHeld ∷ notInitialized ∷ tracksOutside k ∷ tracksTaken k ∷ tableFull ∷ []
-
--- ---- what is done
-
--- The number of a start that check 16 has let pass, and 0 where there is none, which it refuses.
-abbrev pub numberThere : Number → ℕ
-numberThere (Is n) = n
-numberThere Outside = 0
-
--- A transfer from a number on.
-abbrev pub jobOf : Move → ℕ → Job
-jobOf m n =
-    record {
-      «to_host» = m .«to_host»;
-      «past_marks» = m .«past_marks»;
-      span = record { volume = m .target .volume; first = n; count = m .count };
-      buffer = m .buffer;
-    }
-
--- A plan in its three parts: what is moved, what is reported in the block, and what becomes of the unit's record.
-abbrev pub plan : Moving → Report → Leaving → Plan
-plan moving report leaving = record { moving = moving; report = report; leaving = leaving }
-
--- One that moves and reports nothing, and one that moves sectors: "the heads stand on the cylinder of the last sector tried".
-abbrev pub only : Leaving → Plan
-only leaving = plan Moving.Nothing Report.Nothing leaving
-
-abbrev pub carrying : Job → Plan
-carrying j = plan (Sectors j) Report.Nothing (HeadsAtLastTried (j .span))
-
--- What is to be done, of a task that no check refuses. A task that some check always refuses has no plan: what stands for it
--- here is never asked for.
-abbrev pub planOf : UnitRecord → Task → Plan
-planOf u Unknown = only AsItWas
-planOf u (Moves m) = carrying (jobOf m (numberThere (startNumber (geometry u) (m .target .volume) (m .target .start))))
--- 86 "writes words 2 to 7 with this board's own identity"
-planOf u Handshake = plan Moving.Nothing Identity AsItWas
--- "87 replaces the unit record"
-planOf u (Initialize Misplaced) = only AsItWas
-planOf u (Initialize (Uib g)) = only (Fresh g)
--- "89 goes to cylinder 0"; "8A goes to the address given", to the cylinder on which that lands
-planOf u Restore = only (HeadsAt 0)
-planOf u (Seek t) = only (HeadsAt (spotOf u (t .volume) (numberThere (startNumber (geometry u) (t .volume) (t .start))) .cylinder))
--- 8C reports how many sectors the track has (02, K1). "The heads end on the named cylinder", but where the track is bad "the heads then stand
--- on the spare's cylinder" (02, K5).
-planOf u (Format k) =
-    let spot = trackOf u (k .cylinder) (k .head) in
-    plan (Tracked spot (k .buffer)) (Formatted (S (geometry u))) (HeadsAt (spot .cylinder))
--- "85 moves neither data nor heads" (02, K5)
-planOf u (Map k) = only (Mapped (badNumber k) (spareNumber k))

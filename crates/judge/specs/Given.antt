@@ -31,11 +31,11 @@ abbrev pub startNumber : Geometry → VolumeNumber → Start → Number
 startNumber g v (Logical n) = Is n
 startNumber g v (Physical c h s) = numberOn g v c h s
 
--- "8C: track outside the drive": a track, its head counted over the whole drive, is not.
+-- The drive has a track, its head counted over the whole drive: check 16 refuses an 8C with "track outside the drive".
 abbrev pub HasTrack : UnitRecord → (cylinder head : ℕ) → Type 0
 HasTrack u c h = OnDrive (geometry u) (address c h 0)
 
--- 85 names two tracks; "16 (either track)" asks that the drive has both.
+-- It has both tracks of an 85: check 16 refuses "either track".
 abbrev pub HasTracks : UnitRecord → Pair → Type 0
 HasTracks u k = HasTrack u (k .«bad_cylinder») (k .«bad_head») × HasTrack u (k .«spare_cylinder») (k .«spare_head»)
 

@@ -3,6 +3,7 @@ pub mod Checks
 pub mod Fits
 pub mod Given
 pub mod Passed
+pub mod Plans
 pub mod Reads
 pub mod Steps
 pub mod Table

@@ -15,7 +15,8 @@ use Rattle.request.specs.declared.Track.{Track}
 use Rattle.unit.specs.Standing.{UnitRecord, geometry, unitOf}
 use Rattle.judge.specs.declared.Standing.{Standing}
 use Rattle.judge.specs.declared.Verdict.{Verdict}
-use Rattle.judge.specs.Asks.{checksOf, countZero, dataMisplaced, driveHeld, imageShort, notInitialized, ofBuffer, planOf, sectorOutside, tableFull, tracksTaken, volumeAbsent}
+use Rattle.judge.specs.Plans.{planOf}
+use Rattle.judge.specs.Asks.{checksOf, countZero, dataMisplaced, driveHeld, imageShort, notInitialized, ofBuffer, sectorOutside, tableFull, tracksTaken, volumeAbsent}
 use Rattle.judge.specs.Checks.{Check, first}
 use Rattle.judge.specs.Given.{Asked, on, startNumber}
 

@@ -13,7 +13,8 @@ use Rattle.answers.specs.Numbers.{refusalNumber}
 use Rattle.geometry.specs.declared.Geometry.{Geometry}
 use Rattle.geometry.specs.Drive.{B, need, volume, volumeSectors}
 use Rattle.geometry.specs.Limits.{Present, Within}
-use Rattle.geometry.specs.Sectors.{InVolume, OnDrive, address, numberOf}
+use Rattle.geometry.specs.Following.{InVolume}
+use Rattle.geometry.specs.Sectors.{OnDrive, address, numberOf}
 use Rattle.iopb.specs.declared.Block.{Block}
 use Rattle.iopb.specs.Ask.{volumeAsked}
 use Rattle.iopb.specs.Layout.{uibAt}

@@ -1,6 +1,7 @@
 -- The verdict: the answer of the first check that is given, or what is to be done.
 use Rattle.judge.specs.declared.Verdict.{Verdict}
-use Rattle.judge.specs.Asks.{checksOf, planOf}
+use Rattle.judge.specs.Plans.{planOf}
+use Rattle.judge.specs.Asks.{checksOf}
 use Rattle.judge.specs.Checks.{first}
 use Rattle.judge.specs.Given.{Asked}
 

@@ -30,7 +30,7 @@ ghost use Prim.Native.Nat.{ℕ, _<_};
 ghost use Rattle.geometry.specs.Drive.{B, S, need, volume, volumeSectors};
 ghost use Rattle.geometry.specs.Limits.{Present};
 ghost use Rattle.judge.specs.Given.{HasTrack, HasTracks, startNumber, on};
-ghost use Rattle.judge.specs.Asks.{carrying, jobOf, only, plan};
+ghost use Rattle.judge.specs.Plans.{carrying, jobOf, only, plan};
 ghost use Rattle.judge.specs.Verdict.{verdict};
 ghost use Rattle.judge.specs.declared.Leaving.{Leaving};
 ghost use Rattle.judge.specs.declared.Moving.{Moving};

@@ -25,7 +25,8 @@ unfoldable pub total : List ℕ → ℕ → ℕ → ℕ
 total host at zero = 0
 total host at (suc n) = total host at n + elementOf host at n .bytes
 
--- "list: 0 or over 64 elements, list address odd, list not in memory, a byte count 0 or odd, or the sum not count × B": none of it.
+-- A list is good where nothing is so that check 18 refuses: "0 or over 64 elements, list address odd, list not in memory, a byte count 0 or odd, or the
+-- sum not count × B".
 pub record ListGood (host : List ℕ) (at elements bytes : ℕ) : Type 0 where
   pub some : 1 ≤ elements
   pub most : elements ≤ 64
@@ -33,6 +34,6 @@ pub record ListGood (host : List ℕ) (at elements bytes : ℕ) : Type 0 where
   pub counts : (i : ℕ) → i < elements → (0 < elementOf host at i .bytes) × (elementOf host at i .bytes % 2 ≡ 0)
   pub sum : total host at elements ≡ bytes
 
--- "a data address odd or its range not in host memory": no element's is.
+-- The range of each element lies in host memory: check 19 refuses "a data address odd or its range not in host memory".
 abbrev pub Ranges : List ℕ → ℕ → ℕ → Type 0
 Ranges host at n = (i : ℕ) → i < n → InMemory host (elementOf host at i .address) (elementOf host at i .bytes)

@@ -12,10 +12,10 @@ use lib.ListN.{getD, length, length-set, set}
 use lib.Seq.{getD-set-other, getD-set-same}
 use Rattle.geometry.specs.declared.Geometry.{Geometry}
 use Rattle.spares.specs.declared.Served.the-variants.{By}
-use Rattle.spares.specs.Table.{Free, Good, InTable, onePairMore, badOf, servedFrom, spareOf, withPair}
+use Rattle.spares.specs.Table.{Free, Good, onePairMore, badOf, servedFrom, spareOf, withPair}
 use Rattle.spares.specs.Tracks.{TrackOn, standsFor}
 use Rattle.spares.proofs.Laws.{served-by-its-spare, serves-first, serves-later, serves-none}
-use Rattle.spares.specs.Lands.{BlankPast, Serves, serves?, served}
+use Rattle.spares.specs.Lands.{BlankPast, Serves, serves?, served, InTable}
 
 module _ (g : Geometry) (t : ℕ) where
   -- A last pair that does not serve a track is nothing to it.

@@ -7,7 +7,8 @@ use native.Mathlib.Decide.{decLe, map-dec, ℕ-discrete}
 use lib.ListN.{getD, length}
 use Rattle.geometry.specs.declared.Geometry.{Geometry}
 use Rattle.wire.proofs.Decided.{all?}
-use Rattle.spares.specs.Table.{Free, Good, InTable}
+use Rattle.spares.specs.Lands.{InTable}
+use Rattle.spares.specs.Table.{Free, Good}
 use Rattle.spares.specs.Tracks.{trackOn?}
 
 pub good? : (g : Geometry) (n : ℕ) (ts : List ℕ) → Dec (Good g n ts)

@@ -9,7 +9,7 @@ use Rattle.geometry.specs.declared.Geometry.{Geometry}
 use Rattle.spares.specs.declared.Served.{Served}
 use Rattle.spares.specs.declared.Served.the-variants.{Itself, By}
 use Rattle.spares.specs.Tracks.{TrackOn, trackNumber, trackOn?}
-use Rattle.spares.specs.Table.{badOf, servedFrom, spareOf}
+use Rattle.spares.specs.Table.{OneOf, badOf, servedFrom, spareOf}
 
 -- Pair i serves a track: it has it as bad, and a spare that the drive has.
 pub record Serves (g : Geometry) (ts : List ℕ) (i t : ℕ) : Type 0 where
@@ -19,6 +19,10 @@ pub record Serves (g : Geometry) (ts : List ℕ) (i t : ℕ) : Type 0 where
 pub serves? : (g : Geometry) (ts : List ℕ) (i t : ℕ) → Dec (Serves g ts i t)
 serves? g ts i t =
     map-dec (λ d. record { bad = d .0; on = d .1 }) (λ s. (s .bad, s .on)) (Dec·and (ℕ-discrete (badOf ts i) t) (trackOn? g (spareOf ts i)))
+
+-- It is in the table, as bad or as spare.
+abbrev pub InTable : ℕ → List ℕ → ℕ → Type 0
+InTable n ts t = OneOf (2 * min n 32) ts t
 
 -- What serves the track with a number.
 abbrev pub served : Geometry → ℕ → List ℕ → ℕ → Served

@@ -32,15 +32,11 @@ pub record OneOf (m : ℕ) (ts : List ℕ) (t : ℕ) : Type 0 where
   pub less : at < m
   pub here : getD ts at 0 ≡ t
 
--- It is in the table, as bad or as spare.
-abbrev pub InTable : ℕ → List ℕ → ℕ → Type 0
-InTable n ts t = OneOf (2 * min n 32) ts t
-
--- Two tracks can become a pair: it is not so that "the tracks are equal or either is in the table already".
+-- Two tracks are free to become a pair: answer 22 refuses them where "the tracks are equal or either is in the table already".
 pub record Free (n : ℕ) (ts : List ℕ) (bad spare : ℕ) : Type 0 where
   pub differ : bad ≡ spare → ⊥
-  pub bad-new : InTable n ts bad → ⊥
-  pub spare-new : InTable n ts spare → ⊥
+  pub bad-new : OneOf (2 * min n 32) ts bad → ⊥
+  pub spare-new : OneOf (2 * min n 32) ts spare → ⊥
 
 -- What serves a track, of n pairs from the i-th on: "Every later command that lands on a bad track works on its spare". It is the first pair that
 -- has the track as bad and a spare that the drive has; where none does, the track itself.

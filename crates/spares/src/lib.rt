@@ -5,8 +5,8 @@ use geometry::Geometry;
 ghost use mathlib.Core.Path.{_≡_};
 ghost use Prim.Native.Nat.{ℕ, _*_, _≤_, _<_, min};
 ghost use lib.ListN.{getD, length};
-ghost use Rattle.spares.specs.Lands.{Serves, served};
-ghost use Rattle.spares.specs.Table.{Free, Good, InTable, OneOf, onePairMore, servedAt, withPair};
+ghost use Rattle.spares.specs.Lands.{Serves, served, InTable};
+ghost use Rattle.spares.specs.Table.{Free, Good, OneOf, onePairMore, servedAt, withPair};
 ghost use Rattle.spares.specs.Tracks.{TrackOn, trackNumber, standsFor};
 ghost use Rattle.wire.specs.Promise.{Says};
 

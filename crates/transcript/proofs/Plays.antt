@@ -9,7 +9,7 @@ use native.Mathlib.Nat.{zero-add}
 use native.Mathlib.Omega.{arith}
 use lib.ListN.{drop, getD, length, replicate, take, length-append, length-drop, take-append-drop}
 use lib.Seq.{getD-drop, getD-take, length-take-le, sets-eq}
-use Rattle.answers.specs.RunNumbers.{runNumber}
+use Rattle.answers.specs.Numbers.{runNumber}
 use Rattle.board.specs.declared.chain.Outcome.{Outcome}
 use Rattle.board.specs.Chain.{Ending, ends, ran}
 use Rattle.unit.specs.declared.Controller.the-variants.{First}

@@ -7,7 +7,7 @@ use native.Mathlib.Decide.{decLe, map-dec, ℕ-discrete}
 use lib.ListN.{drop, getD, length, replicate, take}
 use Rattle.wire.specs.Words.{be16, be32}
 use Rattle.unit.specs.declared.Controller.the-variants.{First}
-use Rattle.answers.specs.RunNumbers.{runNumber}
+use Rattle.answers.specs.Numbers.{runNumber}
 use Rattle.board.specs.Chain.{Ending, ran}
 use Rattle.transcript.specs.Text.{blockLines, refusalLine, runLine}
 use Rattle.block.specs.Block.{Drive}

@@ -18,7 +18,7 @@ use Rattle.unit.specs.Standing.{UnitRecord, geometry}
 use Rattle.transfer.specs.Data.{Transfer, dataOn, diskByte, formatting, move, moving, progressOn}
 use Rattle.transfer.specs.Runs.{whole, placeFrom}
 use Rattle.transfer.specs.Progress.{Progress, stopsAt}
-use Rattle.transfer.specs.Stores.{Buffers, Cell, Store, after, copyOf, eventByte, held, hostByte, imageByte, upTo, with}
+use Rattle.transfer.specs.Stores.{Buffers, Cell, Store, after, copyOf, eventByte, byteIn, hostByte, imageByte, upTo, with}
 use Rattle.transfer.proofs.Marks.{moving-on-drive}
 use Rattle.transfer.proofs.Progress.{progress-most}
 use Rattle.transfer.proofs.Stays.{events-stay, host-stays, image-stays, lengths-stay, stored-of-upTo, unstored-stays}
@@ -41,7 +41,7 @@ in-buffer-stays ss m (hostByte x) h = omega (arith, lengths-stay ss m)
 in-buffer-stays ss m (imageByte x) h = omega (arith, lengths-stay ss m)
 in-buffer-stays ss m (eventByte x) h = omega (arith, lengths-stay ss m)
 
-target-holds : (m : Buffers) (c : Cell) (n : ℕ) → InBuffer m c → held (with m c n) c ≡ n
+target-holds : (m : Buffers) (c : Cell) (n : ℕ) → InBuffer m c → byteIn (with m c n) c ≡ n
 target-holds m (hostByte x) n h = getD-set-same (m .host) x n 0 h
 target-holds m (imageByte x) n h = getD-set-same (m .image) x n 0 h
 target-holds m (eventByte x) n h = getD-set-same (m .events) x n 0 h
@@ -52,25 +52,25 @@ module _ (m : Buffers) (n : ℕ) (from to : ℕ → Cell) (apart : (i k : ℕ) �
   copy k = record { to = to k; value = copyOf (from k) }
 
   -- After the first i of them, a cell that is the target of none is as it was.
-  others-stay : (i : ℕ) (c : Cell) → ((k : ℕ) → k < i → to k ≡ c → ⊥) → held (after (upTo i copy) m) c ≡ held m c
+  others-stay : (i : ℕ) (c : Cell) → ((k : ℕ) → k < i → to k ≡ c → ⊥) → byteIn (after (upTo i copy) m) c ≡ byteIn m c
   others-stay i c none =
       unstored-stays (upTo i copy) m c (λ there. let k = stored-of-upTo i copy c there in none (k .0) (k .1 .0) (k .1 .1))
 
   -- After all n, the target of a copy holds what its source held before, where no later copy has the same target.
   last-holds :
       (k : ℕ) → k < n → ((i : ℕ) → k < i → i < n → to i ≡ to k → ⊥) → InBuffer m (to k) →
-      held (after (upTo n copy) m) (to k) ≡ held m (from k)
+      byteIn (after (upTo n copy) m) (to k) ≡ byteIn m (from k)
   last-holds k less last inside =
       let rest : n ≡ suc k + (n - suc k) = omega arith in
       let later : ℕ → Store = λ i. copy (suc k + i) in
-      ap (λ (j : ℕ). held (after (upTo j copy) m) (to k)) rest
-      ∙ ap (λ (b : Buffers). held b (to k)) (after-add (suc k) (n - suc k) copy m)
+      ap (λ (j : ℕ). byteIn (after (upTo j copy) m) (to k)) rest
+      ∙ ap (λ (b : Buffers). byteIn b (to k)) (after-add (suc k) (n - suc k) copy m)
       ∙ unstored-stays (upTo (n - suc k) later) (after (upTo (suc k) copy) m) (to k)
       (λ there.
       let i = stored-of-upTo (n - suc k) later (to k) there in
       last (suc k + i .0) (omega arith) (omega (arith, i .1 .0)) (i .1 .1))
-      ∙ ap (λ (b : Buffers). held b (to k)) (after-more k copy m)
-      ∙ target-holds (after (upTo k copy) m) (to k) (held (after (upTo k copy) m) (from k)) (in-buffer-stays (upTo k copy) m (to k) inside)
+      ∙ ap (λ (b : Buffers). byteIn b (to k)) (after-more k copy m)
+      ∙ target-holds (after (upTo k copy) m) (to k) (byteIn (after (upTo k copy) m) (from k)) (in-buffer-stays (upTo k copy) m (to k) inside)
       ∙ others-stay k (from k) (λ i h. apart i k)
 
 -- Cells of two buffers are never the same, and those of one are the same only at one index.

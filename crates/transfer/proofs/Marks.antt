@@ -16,7 +16,7 @@ use Rattle.unit.proofs.Laws.{spot-inside}
 use Rattle.unit.specs.Standing.{UnitRecord, geometry}
 use Rattle.transfer.specs.Data.{Transfer, dataOn, diskByte, formatting, move, moveAt, moving, progressOn}
 use Rattle.transfer.specs.Progress.{stopsAt}
-use Rattle.transfer.specs.Stores.{Buffers, after, held, imageByte}
+use Rattle.transfer.specs.Stores.{Buffers, after, byteIn, imageByte}
 use Rattle.transfer.proofs.Progress.{Counts, progress-counts, progress-most}
 use Rattle.transfer.proofs.Stays.{stored-of-upTo, unstored-stays}
 use Rattle.transfer.proofs.Wholes.{some-bytes}
@@ -77,14 +77,14 @@ module _ (image : List ℕ) (t : Transfer) where
 -- So each of them is as it was.
 pub marks-stay :
     (m : Buffers) (t : Transfer) → StandsOnDrive t → (x : ℕ) → marksAt (t .geometry) ≤ x →
-    held (after (dataOn (m .image) t) m) (imageByte x) ≡ held m (imageByte x)
+    byteIn (after (dataOn (m .image) t) m) (imageByte x) ≡ byteIn m (imageByte x)
 marks-stay m t on x from = unstored-stays (dataOn (m .image) t) m (imageByte x) (no-mark-stored (m .image) t on x from)
 
 -- That is so for sectors of a volume, and for a track that the drive has.
 pub moving-keeps-marks :
     (m : Buffers) (u : UnitRecord) (to-host past-marks : Bool) (v : VolumeNumber) (first count : ℕ) (host-byte : ℕ → ℕ) →
     first + count ≤ volumeSectors (geometry u) v → (x : ℕ) → marksAt (geometry u) ≤ x →
-    held (after (dataOn (m .image) (moving u to-host past-marks v first count host-byte)) m) (imageByte x) ≡ held m (imageByte x)
+    byteIn (after (dataOn (m .image) (moving u to-host past-marks v first count host-byte)) m) (imageByte x) ≡ byteIn m (imageByte x)
 moving-keeps-marks m u to-host past-marks v first count host-byte inside =
     marks-stay m (moving u to-host past-marks v first count host-byte)
     (moving-on-drive u to-host past-marks v first count host-byte inside)
@@ -92,7 +92,7 @@ moving-keeps-marks m u to-host past-marks v first count host-byte inside =
 pub formatting-keeps-marks :
     (m : Buffers) (u : UnitRecord) (spot : Spot) (at : ℕ) →
     spot .place + S (geometry u) ≤ driveSectors (geometry u) → (x : ℕ) → marksAt (geometry u) ≤ x →
-    held (after (dataOn (m .image) (formatting u spot at)) m) (imageByte x) ≡ held m (imageByte x)
+    byteIn (after (dataOn (m .image) (formatting u spot at)) m) (imageByte x) ≡ byteIn m (imageByte x)
 formatting-keeps-marks m u spot at inside = marks-stay m (formatting u spot at) (formatting-on-drive u spot at inside)
 
 -- ---- how far it comes

@@ -10,7 +10,7 @@ use native.Mathlib.Omega.{arith}
 use lib.ListN.{length, length-set}
 use lib.Seq.{ext-getD, getD-set-other, sets}
 use Rattle.wire.specs.Among.{Among}
-use Rattle.transfer.specs.Stores.{Buffers, Cell, Store, after, bytesFrom, eventByte, held, hostByte, imageByte, upTo, with, worth}
+use Rattle.transfer.specs.Stores.{Buffers, Cell, Store, after, bytesFrom, eventByte, byteIn, hostByte, imageByte, upTo, with, worth}
 use Rattle.transfer.specs.Targets.{Stored}
 
 -- ---- bytes in a row
@@ -58,7 +58,7 @@ lengths-stay (s ∷ ss) m = by-cell (s .to) (lengths-stay ss (with m (s .to) (wo
     by-cell (eventByte x) rest = (rest .0, (rest .1 .0, rest .1 .1 ∙ length-set (m .events) x n))
 
 -- A store leaves every other cell as it was.
-pub other-stays : (m : Buffers) (c d : Cell) (n : ℕ) → (c ≡ d → ⊥) → held (with m c n) d ≡ held m d
+pub other-stays : (m : Buffers) (c d : Cell) (n : ℕ) → (c ≡ d → ⊥) → byteIn (with m c n) d ≡ byteIn m d
 other-stays m (hostByte x) (hostByte y) n apart = getD-set-other (m .host) x y n 0 (λ same. apart (ap hostByte (sym same)))
 other-stays m (hostByte x) (imageByte y) n apart = refl
 other-stays m (hostByte x) (eventByte y) n apart = refl
@@ -70,7 +70,7 @@ other-stays m (eventByte x) (imageByte y) n apart = refl
 other-stays m (eventByte x) (eventByte y) n apart = getD-set-other (m .events) x y n 0 (λ same. apart (ap eventByte (sym same)))
 
 -- A cell that no store of a list has as its target is as it was.
-pub unstored-stays : (ss : List Store) (m : Buffers) (c : Cell) → (Stored ss c → ⊥) → held (after ss m) c ≡ held m c
+pub unstored-stays : (ss : List Store) (m : Buffers) (c : Cell) → (Stored ss c → ⊥) → byteIn (after ss m) c ≡ byteIn m c
 unfolding after Stored
 unstored-stays [] m c none = refl
 unstored-stays (s ∷ ss) m c none =

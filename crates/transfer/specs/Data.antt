@@ -62,7 +62,7 @@ move to-host disk host =
     (record { to = imageByte disk; value = copyOf (hostByte host) })
 
 -- How far the transfer comes on an image as it stood before, and the bytes that it moves there. A read stores nothing in the
--- image, and what a write stores there changes no mark.
+-- image, and what a write stores there is no mark and nothing past the marks (the law marks-stay).
 abbrev pub progressOn : List ℕ → Transfer → Progress
 progressOn image t = progress (λ j. stopsAt image (t .geometry) (t .heeds) (t .place j)) 0 (t .count)
 

@@ -1,4 +1,4 @@
--- What a block does, as byte stores in order (01, One run; 02, K14: "Each step stores one byte").
+-- What a block does, as stores of one byte each, in order (01, One run).
 use Prim.Native.Nat.{ℕ, zero, suc, _+_}
 use mathlib.Core.List.{List, [], _∷_, _++_}
 use lib.ListN.{getD, set}
@@ -24,14 +24,14 @@ pub record Store : Type 0 where
   pub to : Cell
   pub value : Value
 
-abbrev pub held : Buffers → Cell → ℕ
-held m (hostByte x) = getD (m .host) x 0
-held m (imageByte x) = getD (m .image) x 0
-held m (eventByte x) = getD (m .events) x 0
+abbrev pub byteIn : Buffers → Cell → ℕ
+byteIn m (hostByte x) = getD (m .host) x 0
+byteIn m (imageByte x) = getD (m .image) x 0
+byteIn m (eventByte x) = getD (m .events) x 0
 
 abbrev pub worth : Buffers → Value → ℕ
 worth m (number n) = n
-worth m (copyOf c) = held m c
+worth m (copyOf c) = byteIn m c
 
 abbrev pub with : Buffers → Cell → ℕ → Buffers
 with m (hostByte x) n = record { host = set (m .host) x n; image = m .image; events = m .events }

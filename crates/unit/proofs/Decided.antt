@@ -10,7 +10,7 @@ use Rattle.geometry.proofs.Decided.{within?}
 use Rattle.geometry.proofs.Same as Geometries
 use Rattle.spares.proofs.Decided.{good?}
 use Rattle.unit.specs.declared.Record.{Record}
-use Rattle.unit.specs.Standing.{CountsAsInitialized, UnitRecord, byValue, cylinder, geometry, heldOf, initialized, pairs, table, unitOf}
+use Rattle.unit.specs.Standing.{CountsAsInitialized, UnitRecord, byValue, cylinder, geometry, valueOf, initialized, pairs, table, unitOf}
 use Rattle.unit.proofs.Holders.{holders-differ}
 use Rattle.unit.specs.HolderNumbers.{holderNumber}
 
@@ -24,7 +24,7 @@ counts? u =
 pub record-is :
     (u v : Record) → u .initialized ≡ v .initialized → u .geometry ≡ v .geometry → u .cylinder ≡ v .cylinder → u .pairs ≡ v .pairs →
     u .holder ≡ v .holder → u ≡ v
-record-is u v i g c n h = λ k. heldOf (i k) (g k) (c k) (n k) (h k)
+record-is u v i g c n h = λ k. valueOf (i k) (g k) (c k) (n k) (h k)
 
 pub same? : (u v : Record) → Dec (u ≡ v)
 same? u v =

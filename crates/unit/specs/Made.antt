@@ -5,7 +5,7 @@ use mathlib.Core.List.{List, []}
 use Rattle.geometry.specs.declared.Geometry.{Geometry}
 use Rattle.geometry.specs.Drive.{geometryOf, volumeOf}
 use Rattle.unit.specs.declared.Record.{Record}
-use Rattle.unit.specs.Standing.{UnitRecord, byValue, fresh, heldBy, heldOf, mapped, movedTo, noTracks, unitOf}
+use Rattle.unit.specs.Standing.{UnitRecord, byValue, fresh, heldBy, valueOf, mapped, movedTo, noTracks, unitOf}
 use Rattle.unit.specs.declared.Holder.{Holder}
 use Rattle.unit.specs.declared.Holder.the-variants.{Nobody}
 
@@ -28,11 +28,11 @@ moreHeld r = byValue (mapped (bare r) 0 0)
 
 -- A unit of which each thing is said, with nobody holding it: its four by value, and its table.
 abbrev pub recordOf : Bool → Geometry → ℕ → ℕ → List ℕ → UnitRecord
-recordOf initialized geometry cylinder pairs ts = unitOf (heldOf initialized geometry cylinder pairs Nobody) ts
+recordOf initialized geometry cylinder pairs ts = unitOf (valueOf initialized geometry cylinder pairs Nobody) ts
 
 -- A unit of which nothing is said.
 abbrev pub nothingSaid : Record
-nothingSaid = heldOf false (geometryOf 0 0 0 (volumeOf 0 0) (volumeOf 0 0)) 0 0 Nobody
+nothingSaid = valueOf false (geometryOf 0 0 0 (volumeOf 0 0) (volumeOf 0 0)) 0 0 Nobody
 
 abbrev pub blank : UnitRecord
 blank = unitOf nothingSaid noTracks

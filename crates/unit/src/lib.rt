@@ -17,7 +17,7 @@ ghost use Rattle.spares.specs.Table.{Good};
 ghost use Rattle.unit.specs.declared.Holder.{Holder};
 ghost use Rattle.unit.specs.Holding.{asHolder, heldByOther, reservedBy};
 ghost use Rattle.unit.specs.Landing.{numberOn, spotAt};
-ghost use Rattle.unit.specs.Standing.{CountsAsInitialized, cylinder, geometry, heldOf, holder, initialized, pairs, unitOf};
+ghost use Rattle.unit.specs.Standing.{CountsAsInitialized, cylinder, geometry, valueOf, holder, initialized, pairs, unitOf};
 ghost use Rattle.wire.specs.Promise.{Says};
 ghost use Rattle.unit.specs.Answers.{landing, landingAt, spotted, trackLanding};
 ghost use Rattle.unit.specs.Made.{bare, nothingSaid, freshly, headsOn, moreHeld, withHolder};
@@ -143,7 +143,7 @@ pub enum Landing {
 
 impl Record {
     pub fn new(initialized: bool, geometry: Geometry, cylinder: u16, pairs: u16) -> Record
-        ensures { λ r. ⌜ r ≡ heldOf initialized geometry cylinder pairs Holder.Nobody ⌝ }
+        ensures { λ r. ⌜ r ≡ valueOf initialized geometry cylinder pairs Holder.Nobody ⌝ }
     {
         Record {
             initialized,

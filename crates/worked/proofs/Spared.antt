@@ -19,7 +19,8 @@ use Rattle.geometry.specs.Sectors.{OnDrive, address, addressOf, placeOf}
 use Rattle.geometry.specs.Sectors.Inside.{addressOf-is, firstByte-is, markByte-is, placeOf-is}
 use Rattle.geometry.specs.SectorBytes.SectorByte.{data-byte, mark-byte}
 use Rattle.spares.specs.declared.Track.{Track}
-use Rattle.spares.specs.Table.{InTable, badOf, spareOf}
+use Rattle.spares.specs.Lands.{InTable}
+use Rattle.spares.specs.Table.{badOf, spareOf}
 use Rattle.spares.specs.Tracks.{TrackOn, standsFor, trackNumber}
 use Rattle.spares.proofs.Adding.{before-the-pair, its-bad, its-spare}
 use Rattle.spares.proofs.Laws.{on-drive-by-parts, stands-for-it}

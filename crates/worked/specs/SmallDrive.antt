@@ -14,7 +14,7 @@ use Rattle.demands.specs.Tables.{ReachedByCommands}
 use Rattle.judge.specs.declared.Verdict.{Verdict}
 use Rattle.judge.specs.declared.Verdict.the-variants.{Refused, Do}
 use Rattle.judge.specs.Given.{Asked, on}
-use Rattle.judge.specs.Asks.{carrying, jobOf}
+use Rattle.judge.specs.Plans.{carrying, jobOf}
 use Rattle.judge.specs.Verdict.{verdict}
 use Rattle.request.specs.declared.Buffer.{Buffer}
 use Rattle.request.specs.declared.Move.{Move}

@@ -4,7 +4,7 @@ use mathlib.Core.Path.{sym}
 use native.Mathlib.Omega.{arith}
 use borrow.Author.Needs.{needs}
 use Rattle.geometry.specs.Sectors.Inside.{numberOf-is}
-use Rattle.geometry.specs.Sectors.{InVolume}
+use Rattle.geometry.specs.Following.{InVolume}
 use Rattle.geometry.proofs.Answers.{numbered-inside, numbered-outside}
 use Rattle.geometry.proofs.Geometry.number.Statement.{statement}
 use Rattle.geometry.proofs.Geometry.number.Tie as tie
