@@ -8,6 +8,7 @@ pub mod Keeps
 pub mod Lists
 pub mod PastMarks
 pub mod Places
+pub mod Read
 pub mod Reports
 pub mod RunAnswers
 pub mod RunMarks

@@ -28,16 +28,17 @@ use Rattle.judge.specs.Reads.{InList, InUib}
 use Rattle.judge.specs.Verdict.{verdict}
 use Rattle.judge.proofs.LetThrough.{list-let-through}
 use Rattle.judge.proofs.Locality.{block-local}
+use Rattle.judge.proofs.Read.{list-by-the-table, uib-by-the-table}
 use Rattle.transfer.specs.Data.{Transfer, dataOn, progressOn}
 use Rattle.transfer.proofs.Joined.{joined-same}
 use Rattle.block.specs.Block.{Drive, begun, dataByte, leftBy, reported, transferOf, travelled}
 use Rattle.block.specs.Steps.{actedOn, finished, transferWith}
 use Rattle.unit.specs.Standing.{cylinder}
-use Rattle.demands.specs.Footprint.{askedOf, movingOf, namedDrive, names, transferBy, verdictOf}
+use Rattle.demands.specs.Footprint.{HostRead, ReadsHost, askedOf, movingOf, namedDrive, names, transferBy, verdictOf}
+use Rattle.demands.specs.Footprint.HostRead.{block, its-list, its-uib, moved}
 use Rattle.demands.specs.Visits.{Visit, blockOf, effectOf}
+use Rattle.demands.proofs.Read.{read-list, read-uib}
 use Rattle.demands.proofs.Written.{effect-is}
-use Rattle.independence.specs.Reads.{HostRead, ReadsHost}
-use Rattle.independence.specs.Reads.HostRead.{block, its-list, its-uib, moved}
 use Rattle.independence.proofs.Lengths.{list-read-alike, uib-read-alike}
 use Rattle.board.specs.World.{World, driveOf}
 
@@ -71,12 +72,17 @@ block-same h k at alike =
 -- What is read by one that is judged is read by another that reads what the first reads of its UIB and of its list, and makes the same
 -- transfer.
 read-too :
-    (at uib : ℕ) (a b : Asked) (d : Drive) → ((x : ℕ) → InUib a uib 18 x → InUib b uib 18 x) → ((x : ℕ) → InList a x → InList b x) →
-    transferBy a ≡ transferBy b → (x : ℕ) → HostRead at uib a d x → HostRead at uib b d x
-read-too at uib a b d uibs lists same x (block among) = block among
-read-too at uib a b d uibs lists same x (its-uib r) = its-uib (uibs x r)
-read-too at uib a b d uibs lists same x (its-list r) = its-list (lists x r)
-read-too at uib a b d uibs lists same x (moved m) =
+    (b : Block) (at : ℕ) (p q : Asked) (d : Drive) → p .task ≡ taskOf (p .host) b → q .task ≡ taskOf (q .host) b →
+    ((x : ℕ) → InUib p (b .address) 18 x → InUib q (b .address) 18 x) → ((x : ℕ) → InList p x → InList q x) →
+    transferBy p ≡ transferBy q → (x : ℕ) → HostRead b at p d x → HostRead b at q d x
+read-too b at p q d asks asks-too uibs lists same x (block among) = block among
+read-too b at p q d asks asks-too uibs lists same x (its-uib code passed among) =
+    let it = uib-by-the-table b q asks-too x .0 (uibs x (uib-by-the-table b p asks x .1 (code, passed, among))) in
+    its-uib (it .0) (it .1) (it .2)
+read-too b at p q d asks asks-too uibs lists same x (its-list code passed some place among) =
+    let it = list-by-the-table b q asks-too x .0 (lists x (list-by-the-table b p asks x .1 (code, passed, some, place, among))) in
+    its-list (it .0) (it .1) (it .2) (it .3) (it .4)
+read-too b at p q d asks asks-too uibs lists same x (moved m) =
     moved
     (record {
       goes = ap (λ t. t .to-host) (sym same) ∙ m .goes;
@@ -112,8 +118,8 @@ module _
 
     verdict-there : verdictOf v ≡ verdict (judged-there (blockOf v) (namedDrive v))
     verdict-there =
-        block-local (v .world .controller) (namedDrive v .unit) (length (namedDrive v .image)) h (k .host) long (blockOf v) (λ x read. alike x (its-uib read))
-        (λ x read. alike x (its-list read))
+        block-local (v .world .controller) (namedDrive v .unit) (length (namedDrive v .image)) h (k .host) long (blockOf v) (λ x read. alike x (read-uib v x read))
+        (λ x read. alike x (read-list v x read))
 
     verdict-alike : verdictOf v ≡ verdictOf there
     verdict-alike =
@@ -131,7 +137,7 @@ module _
         of-buffer j moves (Piece at) here y = refl
         of-buffer j moves (Elements at n) here y =
             let same : (i : ℕ) → i < n → elementOf h at i ≡ elementOf (k .host) at i =
-            element-same h (k .host) at n (λ x among. alike x (its-list (list-let-through (askedOf v) p j at n x is moves here among))) in
+            element-same h (k .host) at n (λ x among. alike x (read-list v x (list-let-through (askedOf v) p j at n x is moves here among))) in
             joined-same (λ i. elementOf h at i .bytes) (λ i. elementOf (k .host) at i .bytes) (λ i. elementOf h at i .address)
             (λ i. elementOf (k .host) at i .address) n 0 y
             (λ t less. rw zero-add (ap (λ e. e .bytes) (same t less), ap (λ e. e .address) (same t less)))
@@ -174,16 +180,17 @@ module _
 
     pub reads-alike : (x : ℕ) → ReadsHost v x ↔ ReadsHost there x
     reads-alike x =
+        let c = v .world .controller in
         let b = blockOf v in
         let d = namedDrive v in
-        let moved-along : HostRead (v .at) (b .address) (judged-there b d) d x ≡ ReadsHost there x =
+        let moved-along : HostRead b (v .at) (judged-there b d) d x ≡ ReadsHost there x =
         λ i.
-        HostRead (v .at) (block-alike i .address)
+        HostRead (block-alike i) (v .at)
         (on (run-by i) (drive-alike i .unit) (length (drive-alike i .image)) (taskOf (k .host) (block-alike i)) (k .host)) (drive-alike i) x in
         Iff·trans (
-          read-too (v .at) (b .address) (askedOf v) (judged-there b d) d (uib-read-alike (v .world .controller) h (k .host) long (d .unit) (length (d .image)) b)
-              (list-read-alike (v .world .controller) h (k .host) long (d .unit) (length (d .image)) b) transfer-there x,
-          read-too (v .at) (b .address) (judged-there b d) (askedOf v) d (uib-read-alike (v .world .controller) (k .host) h (sym long) (d .unit) (length (d .image)) b)
-              (list-read-alike (v .world .controller) (k .host) h (sym long) (d .unit) (length (d .image)) b) (sym transfer-there) x,
+          read-too b (v .at) (askedOf v) (judged-there b d) d refl refl (uib-read-alike c h (k .host) long (d .unit) (length (d .image)) b)
+              (list-read-alike c h (k .host) long (d .unit) (length (d .image)) b) transfer-there x,
+          read-too b (v .at) (judged-there b d) (askedOf v) d refl refl (uib-read-alike c (k .host) h (sym long) (d .unit) (length (d .image)) b)
+              (list-read-alike c (k .host) h (sym long) (d .unit) (length (d .image)) b) (sym transfer-there) x,
         )
         (transport moved-along, transport⁻¹ moved-along)

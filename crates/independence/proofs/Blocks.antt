@@ -5,11 +5,10 @@ use mathlib.Core.Bool.{Bool}
 use mathlib.Core.Path.{_≡_, refl, ap}
 use lib.ListN.{getD}
 use Rattle.answers.specs.declared.BlockAnswer.{BlockAnswer}
-use Rattle.demands.specs.Footprint.{WritesHost, names}
+use Rattle.demands.specs.Footprint.{ReadsHost, WritesHost, names}
 use Rattle.demands.specs.Visits.{Visit, blockOf, effectOf}
 use Rattle.demands.proofs.Written.{host-written-exactly}
 use Rattle.independence.specs.Local.{AgreeOn, Local}
-use Rattle.independence.specs.Reads.{ReadsHost}
 use Rattle.independence.specs.Worlds.{byte, disk, worlds}
 use Rattle.independence.proofs.Alike.{block-alike, effect-alike, names-alike, reads-alike}
 use Rattle.independence.proofs.Sources.{sources-are-read}

@@ -33,14 +33,13 @@ use Rattle.request.specs.declared.Buffer.{Buffer}
 use Rattle.request.specs.declared.Move.{Move}
 use Rattle.request.specs.declared.Shape.{Shape}
 use Rattle.request.specs.declared.Task.{Task}
-use Rattle.demands.specs.Footprint.{HostData, InReport, RunNames, RunWrites, WritesHost, askedOf, comes, movingOf, namedDrive, names, reportOf, transferBy, verdictOf}
+use Rattle.demands.specs.Footprint.{HostData, InReport, ReadsHost, RunNames, RunReads, RunWrites, WritesHost, askedOf, comes, movingOf, namedDrive, names, reportOf, transferBy, verdictOf}
 use Rattle.demands.specs.Visits.{Passes, Visit, blockOf, effectOf}
 use Rattle.demands.proofs.Fits.{drives-geometry}
 use Rattle.demands.proofs.BlockLaws.{refusal-moves-nothing}
 use Rattle.demands.proofs.Written.{effect-is, sectors-come}
 use Rattle.independence.specs.Chains.{Both, Chain, First, HostReads, HostWrites, Names, Second, runOf, worldFor}
 use Rattle.independence.specs.Demand3.{EitherWay, Independent, NoUnitInCommon, NoByteReadByOther, NoByteWrittenByBoth}
-use Rattle.independence.specs.Reads.{ReadsHost, RunReads}
 use Rattle.unit.specs.declared.UnitNumber.{UnitNumber}
 use Rattle.unit.specs.declared.UnitNumber.the-variants.{Zero, One}
 use Rattle.independence.specs.TwoChains.{come, driveOn, driveWith}

@@ -17,11 +17,10 @@ use Rattle.answers.specs.declared.RunAnswer.{RunAnswer}
 use Rattle.board.specs.Ends.{endOf, endedOf}
 use Rattle.board.specs.Chain.{counted, fetched, follows}
 use Rattle.board.proofs.Chains.{fetched-bad}
-use Rattle.demands.specs.Footprint.{Some, WritesHost, names}
+use Rattle.demands.specs.Footprint.{ReadsHost, Some, WritesHost, names}
 use Rattle.demands.specs.Visits.{Visit, onwards, visits}
 use Rattle.demands.proofs.Endings.{fetched-step, visits-step}
 use Rattle.independence.specs.Local.{Local, Step, then}
-use Rattle.independence.specs.Reads.{ReadsHost}
 use Rattle.independence.specs.Worlds.{WorldCell, Touches, byte, disk, events, worlds}
 use Rattle.independence.proofs.Blocks.{Next, block, block-is-local}
 use Rattle.independence.proofs.Branches.{SameAt, branch-local, still, still-local}

@@ -14,14 +14,13 @@ use Rattle.unit.specs.Standing.{geometry}
 use Rattle.judge.specs.declared.Verdict.{Verdict}
 use Rattle.judge.specs.Plans.{planOf}
 use Rattle.request.specs.declared.Task.{Task}
-use Rattle.demands.specs.Footprint.{HostData, InReport, RunWrites, WritesHost, askedOf, namedDrive, names, reportOf, verdictOf}
+use Rattle.demands.specs.Footprint.{HostData, InReport, ReadsHost, RunReads, RunWrites, WritesHost, askedOf, namedDrive, names, reportOf, verdictOf}
+use Rattle.demands.specs.Footprint.HostRead.{moved as taken}
 use Rattle.demands.specs.Footprint.HostWritten.{report}
 use Rattle.demands.specs.Visits.{Passes, Visit, blockOf}
 use Rattle.demands.proofs.Fits.{drives-geometry}
 use Rattle.demands.proofs.Reports.{FormatTold, format-told}
 use Rattle.demands.proofs.Written.{sectors-come}
-use Rattle.independence.specs.Reads.{ReadsHost, RunReads}
-use Rattle.independence.specs.Reads.HostRead.{moved as taken}
 use Rattle.independence.proofs.Carried.{Alone, alone, no-list, no-uib, no-way, v}
 use Rattle.independence.proofs.OneBlock.{by-block}
 use Rattle.independence.proofs.Tiny.{track}

@@ -29,15 +29,15 @@ use Rattle.unit.specs.declared.Controller.the-variants.{First as FirstControlle
 use Rattle.block.specs.Block.{begun, finish}
 use Rattle.board.specs.Ends.{endOf}
 use Rattle.board.specs.Chain.{ends, ran}
-use Rattle.demands.specs.Footprint.{WritesHost, namedDrive, verdictOf}
+use Rattle.demands.specs.Footprint.{ReadsHost, WritesHost, namedDrive, verdictOf}
+use Rattle.demands.specs.Footprint.HostRead.{moved as taken}
 use Rattle.demands.specs.Footprint.HostWritten.{moved as given}
 use Rattle.demands.specs.Visits.{Passes, worldLeft}
+use Rattle.demands.proofs.Read.{read-uib}
 use Rattle.demands.proofs.Written.{effect-is}
 use Rattle.independence.specs.Chains.{Both, First, HostReads, HostWrites, Second, leaving, runOf}
 use Rattle.independence.specs.Demand3.{EitherWay, Independent}
 use Rattle.independence.specs.FromDisk.{FromDisk, disk, fromDisk, initialize, linked}
-use Rattle.independence.specs.Reads.{ReadsHost}
-use Rattle.independence.specs.Reads.HostRead.{its-uib, moved as taken}
 use Rattle.independence.specs.TwoChains.{come, driveOn, firstIn, one, secondIn, tiny, two}
 use Rattle.independence.proofs.Carried.{Alone, Carried, LiesOf, comes-done, comes-refused, data-byte, differ, fails-otherwise, initialized, met, no-unit, none-twice, passes-at, read-carried-from, write-carried}
 use Rattle.independence.proofs.Linked.{Leads, by-second, done-both, lies-in-both, visit}
@@ -182,7 +182,7 @@ uib-read : HostReads initialize (secondIn fromDisk) 148
 unfolding word taskOf None
 uib-read =
     by-block 248 _ initialize-pass (λ v. ReadsHost v 148)
-    (its-uib
+    (read-uib (visit (secondIn fromDisk) 248 0) 148
     (placed-uib-read _ _ _ _ _ _ refl (shapeAt-inside (fromDisk .host1) 148 (omega arith)) no-more (omega arith)))
 
 outside-120 : In ((2, 2) ∷ (56, 64) ∷ []) 120 → ⊥

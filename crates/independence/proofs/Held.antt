@@ -15,12 +15,12 @@ use Rattle.judge.specs.Reads.{InList, InUib}
 use Rattle.request.specs.declared.Task.{Task}
 use Rattle.unit.specs.Holding.{heldByOther}
 use Rattle.unit.specs.Standing.{holder}
-use Rattle.demands.specs.Footprint.{askedOf}
+use Rattle.demands.specs.Footprint.{ReadsHost, askedOf}
 use Rattle.demands.specs.Visits.{Visit, effectOf}
 use Rattle.demands.proofs.BlockLaws.{answer-24-exactly, refusal-moves-nothing, refused-exactly}
+use Rattle.demands.proofs.Read.{ReadJudged, reads-judged}
+use Rattle.demands.proofs.Read.ReadJudged.{list, own, taken, uib}
 use Rattle.demands.proofs.Written.{sectors-come}
-use Rattle.independence.specs.Reads.{ReadsHost}
-use Rattle.independence.specs.Reads.HostRead.{block, its-list, its-uib, moved}
 use Rattle.judge.specs.Passed.{None, before}
 
 module _ (a : Asked) (held : T (heldByOther (a .controller) (holder (a .unit)))) where
@@ -35,10 +35,13 @@ module _ (a : Asked) (held : T (heldByOther (a .controller) (holder (a .unit))))
 
 module _ (v : Visit) (refused : effectOf v .answer ≡ BlockAnswer.Failed Refusal.DriveHeld) where
   pub reads-its-28-bytes-alone : (x : ℕ) → ReadsHost v x → Among (v .at) 28 x
-  reads-its-28-bytes-alone x (block among) = among
-  reads-its-28-bytes-alone x (its-uib u) = absurd (no-uib (askedOf v) (answer-24-exactly v .0 refused .1) _ _ x u)
-  reads-its-28-bytes-alone x (its-list l) = absurd (no-list (askedOf v) (answer-24-exactly v .0 refused .1) x l)
-  reads-its-28-bytes-alone x (moved d) =
-      let nothing = refusal-moves-nothing v Refusal.DriveHeld (refused-exactly v Refusal.DriveHeld (λ is. omega arith) .0 refused) .0 in
-      let none = rw (sectors-come v, nothing, zero-mul) at (d .moved) in
-      omega arith
+  reads-its-28-bytes-alone x read = own-alone (reads-judged v x read)
+    where
+      own-alone : ReadJudged v x → Among (v .at) 28 x
+      own-alone (own among) = among
+      own-alone (uib u) = absurd (no-uib (askedOf v) (answer-24-exactly v .0 refused .1) _ _ x u)
+      own-alone (list l) = absurd (no-list (askedOf v) (answer-24-exactly v .0 refused .1) x l)
+      own-alone (taken d) =
+          let nothing = refusal-moves-nothing v Refusal.DriveHeld (refused-exactly v Refusal.DriveHeld (λ is. omega arith) .0 refused) .0 in
+          let none = rw (sectors-come v, nothing, zero-mul) at (d .moved) in
+          omega arith

@@ -11,11 +11,10 @@ use Rattle.answers.specs.declared.RunAnswer.{RunAnswer}
 use Rattle.unit.specs.declared.UnitNumber.{UnitNumber}
 use Rattle.board.specs.Chain.{ends, nothing, ran}
 use Rattle.board.proofs.Runs.{ran-chain}
-use Rattle.demands.specs.Footprint.{RunNames, RunWrites, Some, WritesHost, names}
+use Rattle.demands.specs.Footprint.{ReadsHost, RunNames, RunReads, RunWrites, Some, WritesHost, names}
 use Rattle.demands.specs.Visits.{Passes, Visit, blockOf, effectOf, fetchedBy, passes?, visits, worldLeft}
 use Rattle.demands.proofs.Endings.{fetched-step, visits-step}
 use Rattle.demands.proofs.Written.{effect-is}
-use Rattle.independence.specs.Reads.{ReadsHost, RunReads}
 use Rattle.independence.proofs.Carried.{Alone, Lies}
 use Rattle.independence.proofs.OneBlock.{In, by-block, none-onwards}
 use Rattle.board.specs.World.{World}

@@ -23,12 +23,12 @@ use Rattle.transfer.specs.Progress.{progress}
 use Rattle.block.specs.Block.{transferOf}
 use Rattle.board.specs.Chain.{Ending, ends, follows, nothing, ran}
 use Rattle.board.proofs.Runs.{ran-chain}
-use Rattle.demands.specs.Footprint.{HostData, InReport, Some, WritesHost, askedOf, movingOf, namedDrive, reportOf, verdictOf}
+use Rattle.demands.specs.Footprint.{HostData, InReport, ReadsHost, Some, WritesHost, askedOf, movingOf, namedDrive, reportOf, verdictOf}
 use Rattle.demands.specs.Footprint.HostWritten.{moved as given, report, status-word}
 use Rattle.demands.specs.Visits.{Passes, Visit, blockOf, effectOf, fetchedBy, onwards, passes?, visits, worldLeft}
 use Rattle.demands.proofs.Endings.{fetched-step, visits-step}
-use Rattle.independence.specs.Reads.{ReadsHost}
-use Rattle.independence.specs.Reads.HostRead.{block, its-list, its-uib, moved as taken}
+use Rattle.demands.proofs.Read.{ReadJudged, reads-judged}
+use Rattle.demands.proofs.Read.ReadJudged.{list, own, taken, uib}
 use Rattle.unit.specs.Standing.{geometry}
 use Rattle.board.specs.World.{World}
 
@@ -109,10 +109,13 @@ module _ (v : Visit) (rs : List (ℕ × ℕ)) (x : ℕ) where
   pub reads-in :
       (InUib (askedOf v) (blockOf v .address) 18 x ⊎ InList (askedOf v) x → In rs x) →
       (HostData (askedOf v) (namedDrive v) false x → In rs x) → ReadsHost v x → In ((v .at, 28) ∷ rs) x
-  reads-in judged carried (block own) = inl own
-  reads-in judged carried (its-uib uib) = inr (judged (inl uib))
-  reads-in judged carried (its-list list) = inr (judged (inr list))
-  reads-in judged carried (taken here) = inr (carried here)
+  reads-in judged carried read = by-case (reads-judged v x read)
+    where
+      by-case : ReadJudged v x → In ((v .at, 28) ∷ rs) x
+      by-case (own here) = inl here
+      by-case (uib here) = inr (judged (inl here))
+      by-case (list here) = inr (judged (inr here))
+      by-case (taken here) = inr (carried here)
 
 -- One that moves nothing has no data, and one that reports nothing no words.
 module _ (v : Visit) (x : ℕ) where

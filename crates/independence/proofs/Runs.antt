@@ -13,12 +13,11 @@ use Rattle.answers.specs.declared.RunAnswer.{RunAnswer}
 use Rattle.board.specs.Ends.{endOf, endedOf}
 use Rattle.board.specs.Chain.{nothing, ran}
 use Rattle.board.proofs.Runs.{ran-allowance-bad, ran-chain, ran-events-short, ran-first-bad}
-use Rattle.demands.specs.Footprint.{WritesHost}
+use Rattle.demands.specs.Footprint.{ReadsHost, WritesHost}
 use Rattle.demands.specs.Visits.{Passes, fetchedBy, passes?, visits}
 use Rattle.demands.proofs.RunAnswers.{not-passed}
 use Rattle.independence.specs.Chains.{Chain, runOn}
 use Rattle.independence.specs.Local.{Local, Step}
-use Rattle.independence.specs.Reads.{ReadsHost}
 use Rattle.independence.specs.Worlds.{events, worlds}
 use Rattle.independence.proofs.Branches.{SameAt, branch-local, still, still-local}
 use Rattle.independence.proofs.Followed.{NoBlock, chain-local, chainOn, of-same}

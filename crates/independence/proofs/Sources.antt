@@ -21,11 +21,10 @@ use Rattle.block.specs.Block.{Drive, Effect, begun, finish, reported, transferO
 use Rattle.block.specs.Events.{entry}
 use Rattle.block.specs.Steps.{actedOn}
 use Rattle.block.proofs.Effects.{reported-row}
-use Rattle.demands.specs.Footprint.{askedOf, movingOf, namedDrive, transferBy, verdictOf}
+use Rattle.demands.specs.Footprint.{ReadsHost, askedOf, movingOf, namedDrive, transferBy, verdictOf}
+use Rattle.demands.specs.Footprint.HostRead.{moved}
 use Rattle.demands.specs.Visits.{Visit, blockOf, effectOf}
 use Rattle.demands.proofs.Written.{effect-is, performance}
-use Rattle.independence.specs.Reads.{ReadsHost}
-use Rattle.independence.specs.Reads.HostRead.{moved}
 use Rattle.independence.proofs.Meets.{Sourced}
 
 -- ---- segments

@@ -36,17 +36,17 @@ use Rattle.transfer.specs.Stores as Stores
 use Rattle.block.specs.Block.{begun, finish, transferOf}
 use Rattle.iopb.specs.Identity.{identityBytes}
 use lib.IntN.{pos}
-use Rattle.demands.specs.Footprint.{InReport, RunWrites, WritesHost, askedOf, namedDrive, names, reportOf, transferBy, verdictOf}
+use Rattle.demands.specs.Footprint.{InReport, ReadsHost, RunWrites, WritesHost, askedOf, namedDrive, names, reportOf, transferBy, verdictOf}
+use Rattle.demands.specs.Footprint.HostRead.{moved as taken}
 use Rattle.demands.specs.Footprint.HostWritten.{moved as given, report, status-word}
 use Rattle.demands.specs.Visits.{Passes, Visit, worldLeft}
+use Rattle.demands.proofs.Read.{read-uib}
 use Rattle.demands.proofs.Reports.{FormatTold}
 use Rattle.demands.proofs.VersionTwo.{disk-byte-is-there}
 use Rattle.demands.proofs.Written.{effect-is}
 use Rattle.independence.specs.Chains.{Both, BothCell, First, HostReads, HostWrites, Second, both, drive, eventBuffer, memoryByte, leaving, runOf}
 use Rattle.independence.specs.Demand3.{EitherWay, Independent, NoUnitInCommon, NoByteReadByOther, NoByteWrittenByBoth}
 use Rattle.independence.specs.Local.{LeadsAlike}
-use Rattle.independence.specs.Reads.{ReadsHost}
-use Rattle.independence.specs.Reads.HostRead.{its-uib, moved as taken}
 use Rattle.independence.proofs.Both.{no-chain-is-both}
 use Rattle.independence.proofs.Demand3.{run-local}
 use Rattle.independence.proofs.Steps.{unnoticed}
@@ -464,7 +464,7 @@ read-by-other = (
   λ none.
       none refl 4 .0 (by-block 0 _ (read-pass .0) (λ v. WritesHost v 4) (report (rw read-report (omega arith, omega arith))))
       (by-block 28 _ (read-pass .1) (λ v. ReadsHost v 4)
-      (its-uib
+      (read-uib (second-of readByOther) 4
       (placed-uib-read _ _ _ _ _ _ refl (shapeAt-inside (readByOther .host1) 4 (omega arith)) no-more (omega arith)))),
   (no-unit one two readByOther read-first read-second differ, (none-twice one two readByOther read-first read-second (omega arith), read-differs)),
 )
@@ -543,7 +543,7 @@ format-read = (
   λ none.
       none refl 9 .0 (format-wrote (firstIn formatRead) (format-pass .0) 256 refl refl format-accepted 9 (omega arith))
       (by-block 28 _ (format-pass .1) (λ v. ReadsHost v 9)
-      (its-uib
+      (read-uib (second-of formatRead) 9
       (placed-uib-read _ _ _ _ _ _ refl (shapeAt-inside (formatRead .host1) 8 (omega arith)) no-more (omega arith)))),
   (no-unit one two formatRead format-first format-second differ, (none-twice one two formatRead format-first format-second (omega arith), format-differs)),
 )

@@ -28,15 +28,14 @@ use Rattle.unit.specs.declared.Controller.the-variants.{First as FirstControlle
 use Rattle.unit.specs.declared.Holder.the-variants.{TheFirst}
 use Rattle.unit.specs.Standing.{heldBy}
 use Rattle.block.specs.Block.{begun, finish}
-use Rattle.demands.specs.Footprint.{WritesHost, names, verdictOf}
+use Rattle.demands.specs.Footprint.{ReadsHost, WritesHost, names, verdictOf}
+use Rattle.demands.specs.Footprint.HostRead.{block}
 use Rattle.demands.specs.Footprint.HostWritten.{moved as given, status-word}
 use Rattle.demands.specs.Visits.{Passes}
 use Rattle.demands.proofs.BlockLaws.{refusal-moves-nothing}
 use Rattle.demands.proofs.Written.{effect-is}
 use Rattle.independence.specs.Chains.{Both, First, leaving, runOf}
 use Rattle.independence.specs.Demand3.{Independent}
-use Rattle.independence.specs.Reads.{ReadsHost}
-use Rattle.independence.specs.Reads.HostRead.{block}
 use Rattle.independence.proofs.Held.{reads-its-28-bytes-alone}
 use Rattle.independence.specs.TwoChains.{come, firstIn, one, secondIn, two}
 use Rattle.independence.specs.TwoControllers.{FailsByTwo, MetByTwo, heldDrive, heldList, heldUib, ofOther, other, otherIn, sameBytes, sharedDrive}

@@ -11,9 +11,8 @@ use Rattle.unit.specs.declared.Controller.{Controller}
 use Rattle.unit.specs.declared.Controller.the-variants.{First as FirstController, Second as SecondController}
 use Rattle.board.specs.Ends.{endOf}
 use Rattle.board.specs.Chain.{ran}
-use Rattle.demands.specs.Footprint.{RunNames, RunWrites}
+use Rattle.demands.specs.Footprint.{RunNames, RunReads, RunWrites}
 use Rattle.independence.specs.Local.{Kind, Place, Step, placed}
-use Rattle.independence.specs.Reads.{RunReads}
 use Rattle.independence.specs.Worlds.{Touches, byte, disk, events, worlds}
 use Rattle.block.specs.Block.{Drive}
 use Rattle.board.specs.World.{World}

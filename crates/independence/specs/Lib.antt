@@ -4,7 +4,6 @@ pub mod Demand3
 pub mod FromDisk
 pub mod Local
 pub mod NotCounted
-pub mod Reads
 pub mod TwoChains
 pub mod TwoControllers
 pub mod Worlds

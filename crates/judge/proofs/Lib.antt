@@ -6,6 +6,7 @@ pub mod LetThrough
 pub mod LongEnough
 pub mod Locality
 pub mod Outcomes
+pub mod Read
 pub mod Sectors
 pub mod Table
 pub mod Tasks

@@ -137,7 +137,7 @@ abbrev All : (ℕ → Type 0) → List ℕ → Type 0
 All P [] = Unit {0}
 All P (x ∷ xs) = P x × All P xs
 
-by-code : (P : ℕ → Type 0) (c : ℕ) (xs : List ℕ) → All P xs → (T (not (oneOf c xs)) → P c) → P c
+pub by-code : (P : ℕ → Type 0) (c : ℕ) (xs : List ℕ) → All P xs → (T (not (oneOf c xs)) → P c) → P c
 by-code P c [] all other = other tt
 by-code P c (x ∷ xs) all other = by-test (by-code P c xs (all .1)) (eqb c x) refl other
   where
@@ -153,7 +153,7 @@ codes [] = []
 codes ((code, t) ∷ ts) = code ∷ codes ts
 
 -- One that is none of a table's asks for nothing that is known.
-no-task : (c : ℕ) (ts : List (ℕ × Task)) → T (not (oneOf c (codes ts))) → taskAt c ts ≡ Task.Unknown
+pub no-task : (c : ℕ) (ts : List (ℕ × Task)) → T (not (oneOf c (codes ts))) → taskAt c ts ≡ Task.Unknown
 no-task c [] none = refl
 no-task c ((code, t) ∷ ts) none = by-test (no-task c ts) (eqb c code) none
   where
@@ -183,7 +183,7 @@ module _ (b : Block) (a : Asked) where
   v = volumeAsked b
 
   -- 16: a logical start is its number, and a physical one has a number where the volume has it.
-  outside : (count : ℕ) → (Covers (geometry (a .unit)) v (beginsAt (a .unit) (targetOf b)) count → ⊥) ↔ (SectorsInside b a count → ⊥)
+  pub outside : (count : ℕ) → (Covers (geometry (a .unit)) v (beginsAt (a .unit) (targetOf b)) count → ⊥) ↔ (SectorsInside b a count → ⊥)
   outside count = Iff·not (by-start (b .options .logical))
     where
       by-start :
@@ -201,7 +201,7 @@ module _ (b : Block) (a : Asked) where
   after10 [] = []
   after10 (l ∷ ls) = ls
 
-  abbrev lines : ℕ → List Line
+  abbrev pub lines : ℕ → List Line
   lines c = record { number = 10; for = λ x. true; Given = T (not (oneOf c listed)) } ∷ after10 (paper b a)
 
   abbrev At : ℕ → Task → Type 0

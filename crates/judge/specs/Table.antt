@@ -3,7 +3,7 @@
 -- lines here. The judge goes by lists of checks, one for each command (Asks); proofs/Table shows that a block gets the answer that stands here, and
 -- no other.
 use Prim.Native.Nat.{ℕ, _+_, _-_, _*_, _/_, _^_, _≤_, _<_}
-use mathlib.Core.Bool.{Bool, true, false, not, _||_}
+use mathlib.Core.Bool.{Bool, true, false, cond, not, _||_}
 use mathlib.Core.List.{List, [], _∷_}
 use mathlib.Core.Logic.{_⊎_}
 use mathlib.Core.Path.{_≡_}
@@ -114,6 +114,11 @@ module _ (b : Block) (a : Asked) where
       -- "32 pairs stand" (02, K5)
       line 23 (these (0x85 ∷ [])) (32 ≤ pairs (a .unit)) ∷
       []
+
+-- The lines before the first with a number.
+abbrev pub linesBefore : ℕ → List Line → List Line
+linesBefore n [] = []
+linesBefore n (l ∷ ls) = cond (eqb (l .number) n) [] (l ∷ linesBefore n ls)
 
 -- A line speaks to a command: it is for it, and its case is given.
 abbrev pub Applies : ℕ → Line → Type 0
