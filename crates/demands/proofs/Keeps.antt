@@ -12,7 +12,7 @@ use Rattle.answers.specs.declared.BlockAnswer.{BlockAnswer}
 use Rattle.answers.specs.declared.BlockAnswer.the-variants.{Ended, Failed}
 use Rattle.unit.specs.declared.UnitNumber.{UnitNumber}
 use Rattle.unit.specs.declared.UnitNumber.the-variants.{Zero, One}
-use Rattle.transfer.specs.Stores.{Buffers, Cell, after, eventByte, byteIn, hostByte, imageByte}
+use Rattle.transfer.specs.Stores.{Buffers, ByteAt, after, eventByte, byteIn, hostByte, imageByte}
 use Rattle.transfer.proofs.Stays.{lengths-stay, unstored-stays}
 use Rattle.wire.proofs.Decided.{inMemory?}
 use Rattle.block.specs.Block.{Drive, Effect, holderLeft, leftBy}
@@ -110,7 +110,7 @@ same-unit? One One = yes refl
 -- ---- what a block keeps
 
 module _ (v : Visit) where
-  abbrev Targets : Cell → Type 0
+  abbrev Targets : ByteAt → Type 0
   Targets c = Stored (effectOf v .stores) c
 
   -- What the block worked on is as its stores leave it.
@@ -122,7 +122,7 @@ module _ (v : Visit) where
       by-unit Zero m = refl
       by-unit One m = refl
 
-  kept : (c : Cell) → (Targets c → ⊥) → byteIn (buffersOf (worldLeft v) (names v)) c ≡ byteIn (buffersOf (v .world) (names v)) c
+  kept : (c : ByteAt) → (Targets c → ⊥) → byteIn (buffersOf (worldLeft v) (names v)) c ≡ byteIn (buffersOf (v .world) (names v)) c
   kept c none = ap (λ (m : Buffers). byteIn m c) buffers-left ∙ unstored-stays (effectOf v .stores) (buffersOf (v .world) (names v)) c none
 
   -- A host byte that no store of the block has as its target, and an entry's byte.

@@ -23,7 +23,7 @@ use Rattle.judge.specs.declared.Verdict.{Verdict}
 use Rattle.judge.specs.declared.Verdict.the-variants.{Refused, Do}
 use Rattle.transfer.specs.Data.{Transfer, dataOn, diskByte, moveAt, progressOn}
 use Rattle.transfer.specs.Progress.{progress}
-use Rattle.transfer.specs.Stores.{Buffers, Cell, Store, after, bytesFrom, eventByte, hostByte, imageByte, upTo}
+use Rattle.transfer.specs.Stores.{Buffers, ByteAt, Store, after, bytesFrom, eventByte, hostByte, imageByte, upTo}
 use Rattle.transfer.proofs.Stays.{append-stored, bytes-stored, image-stays, stored-of-append, stored-of-bytes, stored-of-upTo, unstored-stays, upTo-stored}
 use Rattle.transfer.proofs.Stores.{after-append}
 use Rattle.block.specs.Block.{Drive, Effect, begun, finish, reported, transferOf}
@@ -36,18 +36,18 @@ use Rattle.demands.specs.Visits.{Visit, blockOf, effectOf}
 use Rattle.board.specs.World.{effectAt}
 use Rattle.transfer.specs.Targets.{Stored}
 
-index : Cell → ℕ
+index : ByteAt → ℕ
 index (hostByte x) = x
 index (imageByte x) = x
 index (eventByte x) = x
 
-kind : Cell → ℕ
+kind : ByteAt → ℕ
 kind (hostByte x) = 0
 kind (imageByte x) = 1
 kind (eventByte x) = 2
 
 -- Two cells that are one are of one kind and have one index.
-module _ (c d : Cell) (same : c ≡ d) where
+module _ (c d : ByteAt) (same : c ≡ d) where
   one-index : index c ≡ index d
   one-index = ap index same
 
@@ -57,7 +57,7 @@ module _ (c d : Cell) (same : c ≡ d) where
 -- ---- segments
 
 -- Bytes in a row, of a cell of the same kind and of another.
-in-row : (cell : ℕ → Cell) (at : ℕ) (ns : List ℕ) (x : ℕ) → Among at (length ns) x → Stored (bytesFrom cell at ns) (cell x)
+in-row : (cell : ℕ → ByteAt) (at : ℕ) (ns : List ℕ) (x : ℕ) → Among at (length ns) x → Stored (bytesFrom cell at ns) (cell x)
 in-row cell at ns x among = bytes-stored cell at ns (cell x) (x, (among, refl))
 
 pub of-host-row : (at : ℕ) (ns : List ℕ) (x : ℕ) → Stored (bytesFrom hostByte at ns) (hostByte x) → Among at (length ns) x
@@ -74,7 +74,7 @@ of-event-row at ns x there =
     let same = one-index (eventByte x) (eventByte (y .0)) (y .1 .1) in
     (omega (arith, y .1 .0, same), omega (arith, y .1 .0, same))
 
-other-kind : (cell : ℕ → Cell) (at : ℕ) (ns : List ℕ) (c : Cell) → ((x : ℕ) → kind c ≡ kind (cell x) → ⊥) → Stored (bytesFrom cell at ns) c → ⊥
+other-kind : (cell : ℕ → ByteAt) (at : ℕ) (ns : List ℕ) (c : ByteAt) → ((x : ℕ) → kind c ≡ kind (cell x) → ⊥) → Stored (bytesFrom cell at ns) c → ⊥
 other-kind cell at ns c apart there =
     let y = stored-of-bytes cell at ns c there in
     apart (y .0) (one-kind c (cell (y .0)) (y .1 .1))
@@ -94,7 +94,7 @@ in-report at Identity x among = in-row hostByte (at + 4) identityBytes x among
 in-report at (Formatted n) x among = in-row hostByte (at + 7) ((n - 1) ∷ 0x00 ∷ n ∷ []) x among
 
 -- and nowhere but in host memory.
-none-elsewhere : (at : ℕ) (r : Report) (c : Cell) → ((x : ℕ) → kind c ≡ kind (hostByte x) → ⊥) → Stored (reported at r) c → ⊥
+none-elsewhere : (at : ℕ) (r : Report) (c : ByteAt) → ((x : ℕ) → kind c ≡ kind (hostByte x) → ⊥) → Stored (reported at r) c → ⊥
 none-elsewhere at r c apart there =
     let row = reported-row at r in
     other-kind hostByte (row .0) (row .1 .0) c apart (subst (λ (ss : List Store). Stored ss c) (row .1 .1) there)
@@ -213,12 +213,12 @@ module _ (host : List ℕ) (d : Drive) (at : ℕ) where
   comes-to (Refused r) = refl
   comes-to (Do plan) = refl
 
-  of-three : (xs ys zs : List Store) (c : Cell) → Stored (xs ++ ys ++ zs) c → Stored xs c ⊎ (Stored ys c ⊎ Stored zs c)
+  of-three : (xs ys zs : List Store) (c : ByteAt) → Stored (xs ++ ys ++ zs) c → Stored xs c ⊎ (Stored ys c ⊎ Stored zs c)
   of-three xs ys zs c there =
       ⊎-elim (λ early. ⊎-elim (λ x. inl x) (λ y. inr (inl y)) (stored-of-append xs ys c early)) (λ z. inr (inr z))
       (stored-of-append (xs ++ ys) zs c there)
 
-  three-of : (xs ys zs : List Store) (c : Cell) → Stored xs c ⊎ (Stored ys c ⊎ Stored zs c) → Stored (xs ++ ys ++ zs) c
+  three-of : (xs ys zs : List Store) (c : ByteAt) → Stored xs c ⊎ (Stored ys c ⊎ Stored zs c) → Stored (xs ++ ys ++ zs) c
   three-of xs ys zs c (inl x) = append-stored (xs ++ ys) zs c (inl (append-stored xs ys c (inl x)))
   three-of xs ys zs c (inr (inl y)) = append-stored (xs ++ ys) zs c (inl (append-stored xs ys c (inr y)))
   three-of xs ys zs c (inr (inr z)) = append-stored (xs ++ ys) zs c (inr z)
@@ -303,16 +303,16 @@ module _ (v : Visit) where
   sectors-come =
       comes-to (v .world .host) (namedDrive v) (v .at) (verdictOf v) ∙ ap (λ (e : Effect). e .sectors) (sym effect-is)
 
-  target : (c : Cell) → Stored (performance .stores ++ closing) c → Stored (effectOf v .stores) c
+  target : (c : ByteAt) → Stored (performance .stores ++ closing) c → Stored (effectOf v .stores) c
   target c there = subst (λ (e : Effect). Stored (e .stores) c) (sym effect-is) there
 
-  of-target : (c : Cell) → Stored (effectOf v .stores) c → Stored (performance .stores) c ⊎ Stored closing c
+  of-target : (c : ByteAt) → Stored (effectOf v .stores) c → Stored (performance .stores) c ⊎ Stored closing c
   of-target c there = stored-of-append (performance .stores) closing c (subst (λ (e : Effect). Stored (e .stores) c) effect-is there)
 
-  performed-target : (c : Cell) → Stored (performance .stores) c → Stored (effectOf v .stores) c
+  performed-target : (c : ByteAt) → Stored (performance .stores) c → Stored (effectOf v .stores) c
   performed-target c there = target c (append-stored (performance .stores) closing c (inl there))
 
-  closing-target : (c : Cell) → Stored closing c → Stored (effectOf v .stores) c
+  closing-target : (c : ByteAt) → Stored closing c → Stored (effectOf v .stores) c
   closing-target c there = target c (append-stored (performance .stores) closing c (inr there))
 
   -- ---- host bytes

@@ -74,10 +74,10 @@ InReport at (Formatted n) x = Among (at + 7) 3 x
 pub data HostRead (b : Block) (at : ℕ) (a : Asked) (d : Drive) (x : ℕ) : Type 0 where
   -- "the 28 of each fetched block"
   block : Among at 28 x → HostRead b at a d x
-  -- "a UIB that passed check 12": of an 87 to which no line of the table down to 12 applies, 24 among them (02, K10), the 18 bytes at words 5 and 6
+  -- "a UIB that passed check 12": of an 87 to which no line of the table down to 12 applies, that of 24 (02, K10) included, the 18 bytes at words 5 and 6
   its-uib : b .command ≡ 0x87 → Unanswered (b .command) (linesBefore 13 (paper b a)) → Among (b .address) 18 x → HostRead b at a d x
   -- "a list of 1 to 64 elements that lies at an even address and in memory, once checks 10 to 17 are passed": of an A1 or A2 to which no line down to 17
-  -- applies, 24 among them. One that 18 then refuses, as for its sum, is read all the same.
+  -- applies, that of 24 included. One that 18 then refuses, as for its sum, is read all the same.
   its-list :
       T (oneOf (b .command) (0xa1 ∷ 0xa2 ∷ [])) → Unanswered (b .command) (linesBefore 18 (paper b a)) →
       (1 ≤ b .elements) × (b .elements ≤ 64) → InMemory (a .host) (b .address) (8 * b .elements) →

@@ -7,7 +7,7 @@ use mathlib.Core.Path.{_≡_, refl, sym, _∙_, ap}
 use native.Mathlib.Omega.{arith}
 use lib.ListN.{getD, length, length-set, set}
 use Rattle.wire.proofs.Promises.{never}
-use Rattle.transfer.specs.Stores.{Buffers, Cell, Store, Value, after, copyOf, eventByte, hostByte, imageByte, number, with, worth}
+use Rattle.transfer.specs.Stores.{Buffers, ByteAt, Store, Value, after, copyOf, eventByte, hostByte, imageByte, number, with, worth}
 use Rattle.transfer.specs.Targets.{Stored}
 
 -- Some store of a list takes its value from this byte of host memory.
@@ -44,7 +44,7 @@ worth-meets P m n meet (copyOf (imageByte x)) from = ap (λ b. getD b x 0) (meet
 worth-meets P m n meet (copyOf (eventByte x)) from = ap (λ b. getD b x 0) (meet .events)
 
 with-meets :
-    (P : ℕ → Type 0) (m n : Buffers) → Meet P m n → (c : Cell) (a b : ℕ) → a ≡ b →
+    (P : ℕ → Type 0) (m n : Buffers) → Meet P m n → (c : ByteAt) (a b : ℕ) → a ≡ b →
     Meet (λ x. P x ⊎ (c ≡ hostByte x)) (with m c a) (with n c b)
 with-meets P m n meet (hostByte y) a b same =
     record {

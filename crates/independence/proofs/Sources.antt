@@ -16,7 +16,7 @@ use Rattle.iopb.specs.Errors.{errorByte}
 use Rattle.judge.specs.declared.Verdict.{Verdict}
 use Rattle.judge.specs.declared.Verdict.the-variants.{Refused, Do}
 use Rattle.transfer.specs.Data.{Transfer, dataOn, moveAt, progressOn}
-use Rattle.transfer.specs.Stores.{Cell, Store, bytesFrom, copyOf, eventByte, hostByte, imageByte, upTo}
+use Rattle.transfer.specs.Stores.{ByteAt, Store, bytesFrom, copyOf, eventByte, hostByte, imageByte, upTo}
 use Rattle.block.specs.Block.{Drive, Effect, begun, finish, reported, transferOf}
 use Rattle.block.specs.Events.{entry}
 use Rattle.block.specs.Steps.{actedOn}
@@ -29,7 +29,7 @@ use Rattle.independence.proofs.Meets.{Sourced}
 
 -- ---- segments
 
-numbers-have-none : (cell : ℕ → Cell) (at : ℕ) (ns : List ℕ) (x : ℕ) → Sourced (bytesFrom cell at ns) x → ⊥
+numbers-have-none : (cell : ℕ → ByteAt) (at : ℕ) (ns : List ℕ) (x : ℕ) → Sourced (bytesFrom cell at ns) x → ⊥
 unfolding Sourced bytesFrom
 numbers-have-none cell at [] x there = there
 numbers-have-none cell at (n ∷ ns) x there =

@@ -18,7 +18,7 @@ use Rattle.unit.specs.Standing.{UnitRecord, geometry}
 use Rattle.transfer.specs.Data.{Transfer, dataOn, diskByte, formatting, move, moving, progressOn}
 use Rattle.transfer.specs.Runs.{whole, placeFrom}
 use Rattle.transfer.specs.Progress.{Progress, stopsAt}
-use Rattle.transfer.specs.Stores.{Buffers, Cell, Store, after, copyOf, eventByte, byteIn, hostByte, imageByte, upTo, with}
+use Rattle.transfer.specs.Stores.{Buffers, ByteAt, Store, after, copyOf, eventByte, byteIn, hostByte, imageByte, upTo, with}
 use Rattle.transfer.proofs.Marks.{moving-on-drive}
 use Rattle.transfer.proofs.Progress.{progress-most}
 use Rattle.transfer.proofs.Stays.{events-stay, host-stays, image-stays, lengths-stay, stored-of-upTo, unstored-stays}
@@ -30,29 +30,29 @@ use Rattle.transfer.specs.Targets.{Stored}
 -- ---- copies in a row
 
 -- A cell that its buffer has.
-abbrev InBuffer : Buffers → Cell → Type 0
+abbrev InBuffer : Buffers → ByteAt → Type 0
 InBuffer m (hostByte x) = x < length (m .host)
 InBuffer m (imageByte x) = x < length (m .image)
 InBuffer m (eventByte x) = x < length (m .events)
 
 -- It has it after any stores, and a store to it leaves there what was stored.
-in-buffer-stays : (ss : List Store) (m : Buffers) (c : Cell) → InBuffer m c → InBuffer (after ss m) c
+in-buffer-stays : (ss : List Store) (m : Buffers) (c : ByteAt) → InBuffer m c → InBuffer (after ss m) c
 in-buffer-stays ss m (hostByte x) h = omega (arith, lengths-stay ss m)
 in-buffer-stays ss m (imageByte x) h = omega (arith, lengths-stay ss m)
 in-buffer-stays ss m (eventByte x) h = omega (arith, lengths-stay ss m)
 
-target-holds : (m : Buffers) (c : Cell) (n : ℕ) → InBuffer m c → byteIn (with m c n) c ≡ n
+target-holds : (m : Buffers) (c : ByteAt) (n : ℕ) → InBuffer m c → byteIn (with m c n) c ≡ n
 target-holds m (hostByte x) n h = getD-set-same (m .host) x n 0 h
 target-holds m (imageByte x) n h = getD-set-same (m .image) x n 0 h
 target-holds m (eventByte x) n h = getD-set-same (m .events) x n 0 h
 
 -- Copies of which no source is a target.
-module _ (m : Buffers) (n : ℕ) (from to : ℕ → Cell) (apart : (i k : ℕ) → to i ≡ from k → ⊥) where
+module _ (m : Buffers) (n : ℕ) (from to : ℕ → ByteAt) (apart : (i k : ℕ) → to i ≡ from k → ⊥) where
   abbrev copy : ℕ → Store
   copy k = record { to = to k; value = copyOf (from k) }
 
   -- After the first i of them, a cell that is the target of none is as it was.
-  others-stay : (i : ℕ) (c : Cell) → ((k : ℕ) → k < i → to k ≡ c → ⊥) → byteIn (after (upTo i copy) m) c ≡ byteIn m c
+  others-stay : (i : ℕ) (c : ByteAt) → ((k : ℕ) → k < i → to k ≡ c → ⊥) → byteIn (after (upTo i copy) m) c ≡ byteIn m c
   others-stay i c none =
       unstored-stays (upTo i copy) m c (λ there. let k = stored-of-upTo i copy c there in none (k .0) (k .1 .0) (k .1 .1))
 
@@ -129,10 +129,10 @@ module _ (m : Buffers) (t : Transfer) where
   unfolding dataOn
   one-way to-host is = ap (λ (b : Bool). upTo (carried m t) (λ k. move b (onDisk t k) (t .host-byte k))) is
 
-  abbrev host : ℕ → Cell
+  abbrev host : ℕ → ByteAt
   host k = hostByte (t .host-byte k)
 
-  abbrev disk : ℕ → Cell
+  abbrev disk : ℕ → ByteAt
   disk k = imageByte (onDisk t k)
 
   -- A transfer to the host.
@@ -140,7 +140,7 @@ module _ (m : Buffers) (t : Transfer) where
     apart : (i k : ℕ) → host i ≡ disk k → ⊥
     apart i k = host-no-image (t .host-byte i) (onDisk t k)
 
-    target : (c : Cell) → Stored (dataOn (m .image) t) c → (k : ℕ) × ((k < carried m t) × (host k ≡ c))
+    target : (c : ByteAt) → Stored (dataOn (m .image) t) c → (k : ℕ) × ((k < carried m t) × (host k ≡ c))
     target c there = stored-of-upTo (carried m t) (copy m (carried m t) disk host apart) c (rw (one-way true reads) at there)
 
     -- Every host byte that is not one of those that come is as it was: nothing of the rest is there.
@@ -191,7 +191,7 @@ module _ (m : Buffers) (t : Transfer) where
     apart-again : (i k : ℕ) → disk i ≡ host k → ⊥
     apart-again i k same = host-no-image (t .host-byte k) (onDisk t i) (sym same)
 
-    disk-target : (c : Cell) → Stored (dataOn (m .image) t) c → (k : ℕ) × ((k < carried m t) × (disk k ≡ c))
+    disk-target : (c : ByteAt) → Stored (dataOn (m .image) t) c → (k : ℕ) × ((k < carried m t) × (disk k ≡ c))
     disk-target c there =
         stored-of-upTo (carried m t) (copy m (carried m t) host disk apart-again) c (rw (one-way false writes) at there)
 

@@ -19,7 +19,7 @@ use Rattle.geometry.proofs.Laws.{mark-inside, sector-in-image}
 use Rattle.transfer.specs.Data.{Transfer, dataOn, move, moveAt, progressOn}
 use Rattle.transfer.specs.Progress.{Progress, stopsAt}
 use Rattle.transfer.specs.SameSectors.{SameButPast, SameSectors}
-use Rattle.transfer.specs.Stores.{Buffers, Cell, Store, Value, after, bytesFrom, copyOf, eventByte, hostByte, imageByte, number, upTo, with, worth}
+use Rattle.transfer.specs.Stores.{Buffers, ByteAt, Store, Value, after, bytesFrom, copyOf, eventByte, hostByte, imageByte, number, upTo, with, worth}
 use Rattle.transfer.proofs.Marks.{StandsOnDrive}
 use Rattle.transfer.proofs.Progress.{progress-most, progress-same}
 use Rattle.transfer.proofs.Wholes.{bytes-held}
@@ -43,7 +43,7 @@ module _ (t : Transfer) (on : StandsOnDrive t) (image other : List ℕ) (alike :
 
 -- ---- stores that reach no byte of the image from an index on
 
-abbrev CellBelow : ℕ → Cell → Type 0
+abbrev CellBelow : ℕ → ByteAt → Type 0
 CellBelow n (hostByte x) = Unit {0}
 CellBelow n (imageByte x) = x < n
 CellBelow n (eventByte x) = Unit {0}
@@ -113,7 +113,7 @@ module _ (g : Geometry) where
             (λ elsewhere. getD-set-other image x y n 0 elsewhere ∙ alike .same y y< ∙ sym (getD-set-other other x y n 0 elsewhere));
       }
 
-  same-with : (m n : Buffers) → SameButPast g m n → (c : Cell) (k : ℕ) → CellBelow (need g) c → SameButPast g (with m c k) (with n c k)
+  same-with : (m n : Buffers) → SameButPast g m n → (c : ByteAt) (k : ℕ) → CellBelow (need g) c → SameButPast g (with m c k) (with n c k)
   same-with m n alike (hostByte x) k below =
       record { host = ap (λ (h : List ℕ). set h x k) (alike .host); events = alike .events; image = alike .image }
   same-with m n alike (imageByte x) k below =

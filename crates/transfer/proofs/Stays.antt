@@ -10,7 +10,7 @@ use native.Mathlib.Omega.{arith}
 use lib.ListN.{length, length-set}
 use lib.Seq.{ext-getD, getD-set-other, sets}
 use Rattle.wire.specs.Among.{Among}
-use Rattle.transfer.specs.Stores.{Buffers, Cell, Store, after, bytesFrom, eventByte, byteIn, hostByte, imageByte, upTo, with, worth}
+use Rattle.transfer.specs.Stores.{Buffers, ByteAt, Store, after, bytesFrom, eventByte, byteIn, hostByte, imageByte, upTo, with, worth}
 use Rattle.transfer.specs.Targets.{Stored}
 
 -- ---- bytes in a row
@@ -46,7 +46,7 @@ lengths-stay (s ∷ ss) m = by-cell (s .to) (lengths-stay ss (with m (s .to) (wo
     n = worth m (s .value)
 
     by-cell :
-        (c : Cell) →
+        (c : ByteAt) →
         (length (after ss (with m c n) .host) ≡ length (with m c n .host)) ×
         ((length (after ss (with m c n) .image) ≡ length (with m c n .image)) ×
         (length (after ss (with m c n) .events) ≡ length (with m c n .events))) →
@@ -58,7 +58,7 @@ lengths-stay (s ∷ ss) m = by-cell (s .to) (lengths-stay ss (with m (s .to) (wo
     by-cell (eventByte x) rest = (rest .0, (rest .1 .0, rest .1 .1 ∙ length-set (m .events) x n))
 
 -- A store leaves every other cell as it was.
-pub other-stays : (m : Buffers) (c d : Cell) (n : ℕ) → (c ≡ d → ⊥) → byteIn (with m c n) d ≡ byteIn m d
+pub other-stays : (m : Buffers) (c d : ByteAt) (n : ℕ) → (c ≡ d → ⊥) → byteIn (with m c n) d ≡ byteIn m d
 other-stays m (hostByte x) (hostByte y) n apart = getD-set-other (m .host) x y n 0 (λ same. apart (ap hostByte (sym same)))
 other-stays m (hostByte x) (imageByte y) n apart = refl
 other-stays m (hostByte x) (eventByte y) n apart = refl
@@ -70,7 +70,7 @@ other-stays m (eventByte x) (imageByte y) n apart = refl
 other-stays m (eventByte x) (eventByte y) n apart = getD-set-other (m .events) x y n 0 (λ same. apart (ap eventByte (sym same)))
 
 -- A cell that no store of a list has as its target is as it was.
-pub unstored-stays : (ss : List Store) (m : Buffers) (c : Cell) → (Stored ss c → ⊥) → byteIn (after ss m) c ≡ byteIn m c
+pub unstored-stays : (ss : List Store) (m : Buffers) (c : ByteAt) → (Stored ss c → ⊥) → byteIn (after ss m) c ≡ byteIn m c
 unfolding after Stored
 unstored-stays [] m c none = refl
 unstored-stays (s ∷ ss) m c none =
@@ -93,13 +93,13 @@ events-stay ss m none =
 -- ---- what is a target
 
 -- A target of two lists in a row is one of the first or one of the second, and the other way round.
-pub stored-of-append : (xs ys : List Store) (c : Cell) → Stored (xs ++ ys) c → Stored xs c ⊎ Stored ys c
+pub stored-of-append : (xs ys : List Store) (c : ByteAt) → Stored (xs ++ ys) c → Stored xs c ⊎ Stored ys c
 unfolding Stored
 stored-of-append [] ys c there = inr there
 stored-of-append (x ∷ xs) ys c (inl here) = inl (inl here)
 stored-of-append (x ∷ xs) ys c (inr there) = ⊎-elim (λ l. inl (inr l)) (λ r. inr r) (stored-of-append xs ys c there)
 
-pub append-stored : (xs ys : List Store) (c : Cell) → Stored xs c ⊎ Stored ys c → Stored (xs ++ ys) c
+pub append-stored : (xs ys : List Store) (c : ByteAt) → Stored xs c ⊎ Stored ys c → Stored (xs ++ ys) c
 unfolding Stored
 append-stored [] ys c (inl none) = absurd none
 append-stored [] ys c (inr there) = there
@@ -109,7 +109,7 @@ append-stored (x ∷ xs) ys c (inr there) = inr (append-stored xs ys c (inr ther
 
 -- A target of the stores 0 to n - 1 of a sequence is that of one of them, and the other way round.
 pub stored-of-upTo :
-    (n : ℕ) (s : ℕ → Store) (c : Cell) → Stored (upTo n s) c → (k : ℕ) × ((k < n) × (s k .to ≡ c))
+    (n : ℕ) (s : ℕ → Store) (c : ByteAt) → Stored (upTo n s) c → (k : ℕ) × ((k < n) × (s k .to ≡ c))
 unfolding Stored upTo
 stored-of-upTo zero s c none = absurd none
 stored-of-upTo (suc n) s c there =
@@ -118,7 +118,7 @@ stored-of-upTo (suc n) s c there =
     (stored-of-append (upTo n s) (s n ∷ []) c there)
 
 pub upTo-stored :
-    (n : ℕ) (s : ℕ → Store) (c : Cell) → (k : ℕ) × ((k < n) × (s k .to ≡ c)) → Stored (upTo n s) c
+    (n : ℕ) (s : ℕ → Store) (c : ByteAt) → (k : ℕ) × ((k < n) × (s k .to ≡ c)) → Stored (upTo n s) c
 unfolding Stored upTo
 upTo-stored zero s c k = absurd (omega (arith, k .1 .0))
 upTo-stored (suc n) s c k =
@@ -128,7 +128,7 @@ upTo-stored (suc n) s c k =
 
 -- A target of bytes stored from an index on is one of as many bytes from there, and the other way round.
 pub stored-of-bytes :
-    (cell : ℕ → Cell) (at : ℕ) (ns : List ℕ) (c : Cell) →
+    (cell : ℕ → ByteAt) (at : ℕ) (ns : List ℕ) (c : ByteAt) →
     Stored (bytesFrom cell at ns) c → (x : ℕ) × (Among at (length ns) x × (c ≡ cell x))
 unfolding Stored bytesFrom
 stored-of-bytes cell at [] c none = absurd none
@@ -138,7 +138,7 @@ stored-of-bytes cell at (n ∷ ns) c (inr there) =
     (x .0, ((omega (arith, x .1 .0), omega (arith, x .1 .0)), x .1 .1))
 
 pub bytes-stored :
-    (cell : ℕ → Cell) (at : ℕ) (ns : List ℕ) (c : Cell) →
+    (cell : ℕ → ByteAt) (at : ℕ) (ns : List ℕ) (c : ByteAt) →
     (x : ℕ) × (Among at (length ns) x × (c ≡ cell x)) → Stored (bytesFrom cell at ns) c
 unfolding Stored bytesFrom
 bytes-stored cell at [] c x = absurd (omega (arith, x .1 .0))

@@ -10,21 +10,21 @@ pub record Buffers : Type 0 where
   pub events : List ℕ
 
 -- A byte of one of them, by its index.
-pub data Cell : Type 0 where
-  hostByte : ℕ → Cell
-  imageByte : ℕ → Cell
-  eventByte : ℕ → Cell
+pub data ByteAt : Type 0 where
+  hostByte : ℕ → ByteAt
+  imageByte : ℕ → ByteAt
+  eventByte : ℕ → ByteAt
 
 -- What a store puts there: a number, or the byte that another cell then holds.
 pub data Value : Type 0 where
   number : ℕ → Value
-  copyOf : Cell → Value
+  copyOf : ByteAt → Value
 
 pub record Store : Type 0 where
-  pub to : Cell
+  pub to : ByteAt
   pub value : Value
 
-abbrev pub byteIn : Buffers → Cell → ℕ
+abbrev pub byteIn : Buffers → ByteAt → ℕ
 byteIn m (hostByte x) = getD (m .host) x 0
 byteIn m (imageByte x) = getD (m .image) x 0
 byteIn m (eventByte x) = getD (m .events) x 0
@@ -33,7 +33,7 @@ abbrev pub worth : Buffers → Value → ℕ
 worth m (number n) = n
 worth m (copyOf c) = byteIn m c
 
-abbrev pub with : Buffers → Cell → ℕ → Buffers
+abbrev pub with : Buffers → ByteAt → ℕ → Buffers
 with m (hostByte x) n = record { host = set (m .host) x n; image = m .image; events = m .events }
 with m (imageByte x) n = record { host = m .host; image = set (m .image) x n; events = m .events }
 with m (eventByte x) n = record { host = m .host; image = m .image; events = set (m .events) x n }
@@ -49,6 +49,6 @@ upTo zero s = []
 upTo (suc n) s = upTo n s ++ (s n ∷ [])
 
 -- Numbers stored one after the other, from an index on.
-unfoldable pub bytesFrom : (ℕ → Cell) → ℕ → List ℕ → List Store
+unfoldable pub bytesFrom : (ℕ → ByteAt) → ℕ → List ℕ → List Store
 bytesFrom cell at [] = []
 bytesFrom cell at (n ∷ ns) = record { to = cell at; value = number n } ∷ bytesFrom cell (at + 1) ns
