@@ -1,4 +1,5 @@
--- What the functions of the judge promise each other: the verdict by some of the checks alone, and how a transfer begins.
+-- What the functions of the judge promise each other: which tasks are asked who holds the drive, the verdict by some of the checks alone, and how a
+-- transfer begins.
 use Prim.Native.Nat.{ℕ, _*_, _<_}
 use mathlib.Core.Bool.{Bool, true, false, cond}
 use mathlib.Core.List.{List, [], _∷_, _++_}
@@ -20,7 +21,7 @@ use Rattle.judge.specs.Asks.{checksOf, countZero, dataMisplaced, driveHe
 use Rattle.judge.specs.Checks.{Check, first}
 use Rattle.judge.specs.Given.{Asked, on, startNumber}
 
--- The same as the judge is handed it. Whether the record counts as initialized, which it is told besides, is no part of what is asked: the record says it.
+-- What is judged, as the judge is handed it. Whether the record counts as initialized, which it is told besides, is no part of what is asked: the record says it.
 abbrev pub asked : Task → Standing → (tracks host : List ℕ) → Asked
 asked t s tracks host = on (s .controller) (unitOf (s .record) tracks) (s .image) t host
 

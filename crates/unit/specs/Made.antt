@@ -13,7 +13,7 @@ use Rattle.unit.specs.declared.Holder.the-variants.{Nobody}
 abbrev pub bare : Record → UnitRecord
 bare r = unitOf r []
 
--- What the same makes of it, by value: one just initialized, one with another holder, one with its heads on a cylinder, and one with a pair more.
+-- What becomes of what goes by value: a unit just initialized, one with another holder, one with its heads on a cylinder, and one with a pair more.
 abbrev pub freshly : Geometry → Record
 freshly g = byValue (fresh g)
 

@@ -26,7 +26,10 @@ same-length-3 c = search needs
 
 returns : tie.Need-returns
 returns c =
-    rw (c .before .numbers-of .ensures) (rw (c .before .before .before .before .before .before .before .before .before .before .record-of .ensures) at (c .before .before .before .before .before .before .before .before .run-block .ensures))
+    let numbered = c .before in
+    let ran = numbered .before .before .before .before .before .before .before in
+    let read = ran .before .before in
+    rw (numbered .numbers-of .ensures) (rw (read .record-of .ensures) at (ran .run-block .ensures))
 
 pub work-on-spec : {M : Type 1} → statement M
 work-on-spec =

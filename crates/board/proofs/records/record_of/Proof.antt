@@ -70,7 +70,28 @@ held-by-requires c κs = search needs
 
 returns : tie.Need-returns
 unfolding recordIn
-returns c = rw (c .held-by .ensures, c .before .of .ensures, c .before .before .before .new4 .ensures, c .before .before .before .before .before .before .before .new3 .ensures, c .before .before .before .before .before .before .before .before .before .before .before .new2 .ensures, c .before .before .before .before .before .before .before .before .before .before .before .before .low-byte4 .ensures, c .before .before .before .before .before .before .before .before .before .before .before .before .before .before .low-byte3 .ensures, c .before .before .before .before .before .before .before .before .before .before .before .before .before .before .before .before .new .ensures, c .before .before .before .before .before .before .before .before .before .before .before .before .before .before .before .before .before .low-byte2 .ensures, c .before .before .before .before .before .before .before .before .before .before .before .before .before .before .before .before .before .before .before .low-byte .ensures)
+returns c =
+    let at-of = c .before in
+    let at-new4 = at-of .before .before in
+    let at-new3 = at-new4 .before .before .before .before in
+    let at-new2 = at-new3 .before .before .before .before in
+    let at-low-byte4 = at-new2 .before in
+    let at-low-byte3 = at-low-byte4 .before .before in
+    let at-new = at-low-byte3 .before .before in
+    let at-low-byte2 = at-new .before in
+    let at-low-byte = at-low-byte2 .before .before in
+    rw (
+      c .held-by .ensures,
+      at-of .of .ensures,
+      at-new4 .new4 .ensures,
+      at-new3 .new3 .ensures,
+      at-new2 .new2 .ensures,
+      at-low-byte4 .low-byte4 .ensures,
+      at-low-byte3 .low-byte3 .ensures,
+      at-new .new .ensures,
+      at-low-byte2 .low-byte2 .ensures,
+      at-low-byte .low-byte .ensures,
+    )
 
 pub record-of-spec : {M : Type 1} → statement M
 record-of-spec =
