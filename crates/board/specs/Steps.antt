@@ -7,7 +7,7 @@ use Rattle.wire.specs.Memory.{InMemory}
 use Rattle.iopb.specs.Layout.{blockAt}
 use Rattle.block.specs.declared.Known.the-variants.{Unasked}
 use Rattle.block.specs.Steps.{Knows}
-use Rattle.unit.specs.Standing.{UnitRecord, byValue}
+use Rattle.unit.specs.Standing.{UnitRecord}
 use Rattle.board.specs.declared.Units.{Units}
 use Rattle.board.specs.declared.chain.Count.{Count}
 use Rattle.board.specs.declared.chain.End.{End}

@@ -2,7 +2,7 @@
 -- The first three are the checks in their order; the others are told by the last block, whose end leaves one answer.
 use Prim.Native.Nat.{ℕ, zero, suc, _-_, _≤_, _<_}
 use mathlib.Core.Bool.{Bool, true, false}
-use mathlib.Core.List.{List, [], _∷_}
+use mathlib.Core.List.{List, []}
 use mathlib.Core.Logic.{_↔_, _⊎_, Dec·and, by-cases, if-neg, if-pos, inl, inr}
 use mathlib.Core.Path.{_≡_, refl, sym, ap, _∙_}
 use native.Mathlib.Decide.{decLe, decLt}

@@ -26,7 +26,7 @@ use Rattle.spares.specs.declared.Served.{Served}
 use Rattle.spares.specs.Table.{servedAt}
 use Rattle.unit.specs.Answers.{landing, landingAt, spotted, trackLanding}
 use Rattle.geometry.specs.Following.{InVolume}
-use Rattle.geometry.specs.Answers.{found, inVolume?, onDrive?, placed}
+use Rattle.geometry.specs.Answers.{found, onDrive?, placed}
 
 pub spotted-inside : (g : Geometry) (a : Address) → OnDrive g a → spotted g a ≡ Landing.At (spotAt g a)
 unfolding spotted
