@@ -173,7 +173,7 @@ same : {n : ℕ} {G R L : Type 0} → R → L ⊎ ((n ≡ n) × (G ↔ G) × ((G
 same rest = alike Iff·rfl rest
 
 left-out : {G R L : Type 0} → (G → ⊥) → R → ((G → ⊥) × R) ⊎ L
-left-out never rest = inl (never, rest)
+left-out cannot rest = inl (cannot, rest)
 
 module _ (b : Block) (a : Asked) where
   abbrev g : Geometry

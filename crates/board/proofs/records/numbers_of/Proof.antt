@@ -73,8 +73,51 @@ wide-requires-5 c κs = search needs
 returns : tie.Need-returns
 returns c =
     let start = c .before .before .before .before .before .before .before .before .before .before .before .before .before .before .before .before .before .before .before .before .before in
-    rw (c .wide5 .ensures, c .before .number .ensures, c .before .before .holder .ensures, c .before .before .before .pairs .ensures, c .before .before .before .before .cylinder .ensures, c .before .before .before .before .before .wide4 .ensures, c .before .before .before .before .before .before .heads2 .ensures, c .before .before .before .before .before .before .before .wide3 .ensures, c .before .before .before .before .before .before .before .before .start-head2 .ensures, c .before .before .before .before .before .before .before .before .before .wide2 .ensures, c .before .before .before .before .before .before .before .before .before .before .heads .ensures, c .before .before .before .before .before .before .before .before .before .before .before .wide .ensures, c .before .before .before .before .before .before .before .before .before .before .before .before .start-head .ensures, c .before .before .before .before .before .before .before .before .before .before .before .before .before .bytes-a-sector .ensures, c .before .before .before .before .before .before .before .before .before .before .before .before .before .before .sectors-a-track .ensures, c .before .before .before .before .before .before .before .before .before .before .before .before .before .before .before .cylinders .ensures, c .before .before .before .before .before .before .before .before .before .before .before .before .before .before .before .before .flag .ensures, c .before .before .before .before .before .before .before .before .before .before .before .before .before .before .before .before .before .initialized .ensures, c .before .before .before .before .before .before .before .before .before .before .before .before .before .before .before .before .before .before .volume2 .ensures, c .before .before .before .before .before .before .before .before .before .before .before .before .before .before .before .before .before .before .before .volume .ensures, c .before .before .before .before .before .before .before .before .before .before .before .before .before .before .before .before .before .before .before .before .geometry .ensures)
-    (record-back (bare (start .args .r)) (record { start = omega arith; heads = omega arith }) (record { start = omega arith; heads = omega arith }))
+    let back = record-back (bare (start .args .r)) (record { start = omega arith; heads = omega arith }) (record { start = omega arith; heads = omega arith }) in
+    let at-number = c .before in
+    let at-holder = at-number .before in
+    let at-pairs = at-holder .before in
+    let at-cylinder = at-pairs .before in
+    let at-wide4 = at-cylinder .before in
+    let at-heads2 = at-wide4 .before in
+    let at-wide3 = at-heads2 .before in
+    let at-start-head2 = at-wide3 .before in
+    let at-wide2 = at-start-head2 .before in
+    let at-heads = at-wide2 .before in
+    let at-wide = at-heads .before in
+    let at-start-head = at-wide .before in
+    let at-bytes-a-sector = at-start-head .before in
+    let at-sectors-a-track = at-bytes-a-sector .before in
+    let at-C = at-sectors-a-track .before in
+    let at-flag = at-C .before in
+    let at-initialized = at-flag .before in
+    let at-volume2 = at-initialized .before in
+    let at-volume = at-volume2 .before in
+    let at-geometry = at-volume .before in
+    rw (
+      c .wide5 .ensures,
+      at-number .number .ensures,
+      at-holder .holder .ensures,
+      at-pairs .pairs .ensures,
+      at-cylinder .cylinder .ensures,
+      at-wide4 .wide4 .ensures,
+      at-heads2 .heads2 .ensures,
+      at-wide3 .wide3 .ensures,
+      at-start-head2 .start-head2 .ensures,
+      at-wide2 .wide2 .ensures,
+      at-heads .heads .ensures,
+      at-wide .wide .ensures,
+      at-start-head .start-head .ensures,
+      at-bytes-a-sector .bytes-a-sector .ensures,
+      at-sectors-a-track .sectors-a-track .ensures,
+      at-C .cylinders .ensures,
+      at-flag .flag .ensures,
+      at-initialized .initialized .ensures,
+      at-volume2 .volume2 .ensures,
+      at-volume .volume .ensures,
+      at-geometry .geometry .ensures,
+    )
+    back
 
 pub numbers-of-spec : {M : Type 1} → statement M
 numbers-of-spec =
