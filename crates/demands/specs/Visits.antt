@@ -141,11 +141,11 @@ EndsWith EventsShort left v = ⊥
 EndsWith AllowanceBad left v = ⊥
 EndsWith FirstBad left v = ⊥
 
--- The last block that a run fetches: the first, where it fetches no other.
+-- The last block that a run fetches: the first, where it fetches no other. Of a run that is refused it says nothing.
 abbrev pub lastFetched : (first allowance : ℕ) → World → Visit
 lastFetched first allowance w = lastOf (record { at = first; index = 0; world = w }) (fetchedBy first allowance w)
 
--- What a run comes to, told by the blocks that it fetches: its answer by the last of them, "with answer 4 the failed block's answer number, 10 and up
+-- What a run that passes its checks comes to, told by the blocks that it fetches: its answer by the last of them, "with answer 4 the failed block's answer number, 10 and up
 -- (otherwise 0)", its counts by all of them; and what the last one leaves is what the run leaves.
 pub record RunTold (first allowance : ℕ) (w : World) : Type 0 where
   pub answer : EndsWith (ran first allowance w .answer) (allowance - length (fetchedBy first allowance w)) (lastFetched first allowance w)

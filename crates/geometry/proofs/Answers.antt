@@ -1,7 +1,7 @@
 -- What the steps answer, by cases: inside, what was asked for; outside, that it is.
 -- Each definition picks by a decision, and a decision that is known picks its side.
 use Prim.Native.Nat.{ℕ, _<_, _≤_}
-use mathlib.Core.Logic.{by-cases, if-neg, if-pos}
+use mathlib.Core.Logic.{Dec·and, by-cases, if-neg, if-pos}
 use mathlib.Core.Path.{_≡_}
 use native.Mathlib.Decide.{decLt}
 use native.Mathlib.Omega.{arith}
@@ -13,10 +13,10 @@ use Rattle.geometry.specs.declared.Number.{Number}
 use Rattle.geometry.specs.declared.Place.{Place}
 use Rattle.geometry.specs.declared.Sector.{Sector}
 use Rattle.geometry.specs.declared.VolumeNumber.{VolumeNumber}
-use Rattle.geometry.specs.Drive.{driveSectors, volumeSectors}
-use Rattle.geometry.specs.Sectors.{OnDrive, addressOf, firstByte, markByte, numberOf, placeOf}
+use Rattle.geometry.specs.Drive.{C, N, S, driveSectors, volume, volumeSectors}
+use Rattle.geometry.specs.Sectors.{OnDrive, addressOf, firstByte, markByte, numberOf, placeOf, numbered}
 use Rattle.geometry.specs.Following.{InVolume}
-use Rattle.geometry.specs.Answers.{found, placed, sectorAt, inVolume?, numbered, onDrive?}
+use Rattle.geometry.specs.Answers.{found, placed, sectorAt, onDrive?}
 
 pub found-inside : (g : Geometry) (v : VolumeNumber) (n : ℕ) → n < volumeSectors g v → found g v n ≡ Found.At (addressOf g v n)
 unfolding found
@@ -29,12 +29,15 @@ found-outside g v n out = if-neg (decLt n (volumeSectors g v)) (λ in-it. omega 
 pub numbered-inside :
     (g : Geometry) (v : VolumeNumber) (c h s : ℕ) → InVolume g v c h s → numbered g v c h s ≡ Number.Is (numberOf g v c h s)
 unfolding numbered
-numbered-inside g v c h s in-it = if-pos (inVolume? g v c h s) in-it _ _
+numbered-inside g v c h s in-it =
+    if-pos (Dec·and (decLt c (C g)) (Dec·and (decLt h (N (volume g v))) (decLt s (S g)))) (in-it .cylinder, (in-it .head, in-it .sector)) _ _
 
 pub numbered-outside :
     (g : Geometry) (v : VolumeNumber) (c h s : ℕ) → (InVolume g v c h s → ⊥) → numbered g v c h s ≡ Number.Outside
 unfolding numbered
-numbered-outside g v c h s out = if-neg (inVolume? g v c h s) out _ _
+numbered-outside g v c h s out =
+    if-neg (Dec·and (decLt c (C g)) (Dec·and (decLt h (N (volume g v))) (decLt s (S g))))
+    (λ in-it. out (record { cylinder = in-it .0; head = in-it .1 .0; sector = in-it .1 .1 })) _ _
 
 pub placed-inside : (g : Geometry) (a : Address) → OnDrive g a → placed g a ≡ Place.At (placeOf g a)
 unfolding placed

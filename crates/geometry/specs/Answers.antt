@@ -5,13 +5,12 @@ use native.Mathlib.Decide.{decLt, map-dec}
 use Rattle.geometry.specs.declared.Address.{Address}
 use Rattle.geometry.specs.declared.Found.{Found}
 use Rattle.geometry.specs.declared.Geometry.{Geometry}
-use Rattle.geometry.specs.declared.Number.{Number}
 use Rattle.geometry.specs.declared.Place.{Place}
 use Rattle.geometry.specs.declared.Sector.{Sector}
 use Rattle.geometry.specs.declared.VolumeNumber.{VolumeNumber}
 use Rattle.geometry.specs.Drive.{C, N, S, driveHeads, driveSectors, volume, volumeSectors}
 use Rattle.geometry.specs.Following.{InVolume}
-use Rattle.geometry.specs.Sectors.{OnDrive, addressOf, firstByte, markByte, numberOf, placeOf}
+use Rattle.geometry.specs.Sectors.{OnDrive, addressOf, firstByte, markByte, placeOf}
 
 -- A sector by its number in a volume.
 unfoldable pub found : Geometry → VolumeNumber → ℕ → Found
@@ -35,7 +34,3 @@ placed g a = ite (onDrive? g a) (Place.At (placeOf g a)) Place.Outside
 -- The two indices of a sector by its place: where it begins, and its mark.
 unfoldable pub sectorAt : Geometry → ℕ → Sector
 sectorAt g place = ite (decLt place (driveSectors g)) (Sector.At (firstByte g place) (markByte g place)) Sector.Outside
-
--- The number of a physical address, or that the volume has no such sector.
-unfoldable pub numbered : Geometry → VolumeNumber → ℕ → ℕ → ℕ → Number
-numbered g v c h s = ite (inVolume? g v c h s) (Number.Is (numberOf g v c h s)) Number.Outside

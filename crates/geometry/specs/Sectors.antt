@@ -1,6 +1,8 @@
 -- Where each sector stands (01, Geometry): a number in a volume to an address on the drive and back, and an address to a
 -- place in the image. Shut, as the sizes of Drive are; only what the functions answer may be opened elsewhere.
 use Prim.Native.Nat.{ℕ, _+_, _-_, _*_, _/_, _%_, _<_}
+use mathlib.Core.Logic.{ite, Dec·and}
+use native.Mathlib.Decide.{decLt}
 use Rattle.geometry.specs.declared.Address.{Address}
 use Rattle.geometry.specs.declared.Geometry.{Geometry}
 use Rattle.geometry.specs.declared.Number.{Number}
@@ -41,6 +43,12 @@ pub record OnDrive (g : Geometry) (a : Address) : Type 0 where
   pub cylinder : a .cylinder < C g
   pub head : a .head < driveHeads g
   pub sector : a .sector < S g
+
+-- The number of a physical address, where the cylinder is below C, the head, counted from the start head, below N and the sector below S; and else that
+-- the volume has no such sector.
+unfoldable pub numbered : Geometry → VolumeNumber → ℕ → ℕ → ℕ → Number
+numbered g v c h s =
+    ite (Dec·and (decLt c (C g)) (Dec·and (decLt h (N (volume g v))) (decLt s (S g)))) (Number.Is (numberOf g v c h s)) Number.Outside
 
 -- A volume covers a request for so many sectors from a number on: what check 16 refuses, "first sector outside the volume, or the last", is not so.
 abbrev pub Covers : Geometry → VolumeNumber → Number → ℕ → Type 0

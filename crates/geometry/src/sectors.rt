@@ -8,7 +8,8 @@ use crate::Sector;
 use crate::VolumeNumber;
 ghost use mathlib.Core.Path.{_≡_};
 ghost use Prim.Native.Nat.{_+_, _*_};
-ghost use Rattle.geometry.specs.Answers.{found, placed, sectorAt, numbered};
+ghost use Rattle.geometry.specs.Sectors.{numbered};
+ghost use Rattle.geometry.specs.Answers.{found, placed, sectorAt};
 
 // Sectors counted by sector, head, cylinder, on tracks of `sectors` and cylinders of `heads`.
 fn count(cylinder: u16, heads: u16, head: u16, sectors: u16, sector: u16) -> u64

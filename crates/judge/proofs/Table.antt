@@ -14,7 +14,7 @@ use Rattle.answers.proofs.Laws.{refusals-differ}
 use Rattle.geometry.specs.declared.Geometry.{Geometry}
 use Rattle.geometry.specs.declared.VolumeNumber.{VolumeNumber}
 use Rattle.geometry.specs.Answers.{inVolume?}
-use Rattle.unit.proofs.Answers.{numberOn-inside, numberOn-outside}
+use Rattle.geometry.proofs.Answers.{numbered-inside, numbered-outside}
 use Rattle.iopb.specs.declared.Block.{Block}
 use Rattle.iopb.specs.Ask.{shapeAt, targetOf, taskAt, taskOf, tasks, volumeAsked}
 use Rattle.iopb.proofs.Answers.{shapeAt-inside, shapeAt-outside}
@@ -35,7 +35,7 @@ use Rattle.judge.specs.Plans.{planOf}
 use Rattle.judge.specs.Checks.{Check, first}
 use Rattle.judge.specs.Steps.{beginsAt}
 use Rattle.judge.specs.Given.{Asked, startNumber, on}
-use Rattle.judge.specs.Table.{AnsweredWith, Applies, BeforeTransfer, FromStart, Line, SectorsInside, Unanswered, listed, oneOf, paper}
+use Rattle.judge.specs.Table.{AnsweredWith, Applies, BeforeTransfer, FromStart, Line, SectorsThere, Unanswered, listed, oneOf, paper}
 use Rattle.judge.specs.Verdict.{verdict}
 use Rattle.judge.proofs.EachTask.{never-asked-20}
 use Rattle.judge.proofs.First.{done, later, no-more, refused-among, skip, stop}
@@ -183,7 +183,7 @@ module _ (b : Block) (a : Asked) where
   v = volumeAsked b
 
   -- 16: a logical start is its number, and a physical one has a number where the volume has it.
-  pub outside : (count : ℕ) → (Covers (geometry (a .unit)) v (beginsAt (a .unit) (targetOf b)) count → ⊥) ↔ (SectorsInside b a count → ⊥)
+  pub outside : (count : ℕ) → (Covers (geometry (a .unit)) v (beginsAt (a .unit) (targetOf b)) count → ⊥) ↔ (SectorsThere b a count → ⊥)
   outside count = Iff·not (by-start (b .options .logical))
     where
       by-start :
@@ -193,8 +193,8 @@ module _ (b : Block) (a : Asked) where
       by-start true = Iff·rfl
       by-start false =
           by-cases (inVolume? g v (b .cylinder) (b .head) (b .sector))
-          (λ in-it. rw (numberOn-inside _ _ _ _ _ in-it) (λ x. (in-it, x), λ x. x .1))
-          (λ out. rw (numberOn-outside _ _ _ _ _ out) (λ x. absurd x, λ x. out (x .0)))
+          (λ in-it. rw (numbered-inside _ _ _ _ _ in-it) (λ x. (in-it, x), λ x. x .1))
+          (λ out. rw (numbered-outside _ _ _ _ _ out) (λ x. absurd x, λ x. out (x .0)))
 
   -- The lines for a command in place of the block's, which line 10 alone looks at, and the checks of what it asks.
   abbrev after10 : List Line → List Line

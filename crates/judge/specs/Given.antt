@@ -5,14 +5,13 @@ use Rattle.geometry.specs.declared.Geometry.{Geometry}
 use Rattle.geometry.specs.declared.Number.{Number}
 use Rattle.geometry.specs.declared.Number.the-variants.{Is}
 use Rattle.geometry.specs.declared.VolumeNumber.{VolumeNumber}
-use Rattle.geometry.specs.Sectors.{OnDrive, address}
+use Rattle.geometry.specs.Sectors.{OnDrive, address, numbered}
 use Rattle.request.specs.declared.Pair.{Pair}
 use Rattle.request.specs.declared.Start.{Start}
 use Rattle.request.specs.declared.Start.the-variants.{Logical, Physical}
 use Rattle.request.specs.declared.Task.{Task}
 use Rattle.spares.specs.Tracks.{trackNumber}
 use Rattle.unit.specs.declared.Controller.{Controller}
-use Rattle.unit.specs.Landing.{numberOn}
 use Rattle.unit.specs.Standing.{UnitRecord, geometry}
 
 -- What is judged: a task, the controller that asks (02, K10), its unit's record, table and all, the length of its image, and the host memory.
@@ -29,7 +28,7 @@ on c u image t host = record { task = t; controller = c; unit = u; image = image
 -- The number at which a request begins: a logical number as it came, and a physical address's where the volume has it.
 abbrev pub startNumber : Geometry → VolumeNumber → Start → Number
 startNumber g v (Logical n) = Is n
-startNumber g v (Physical c h s) = numberOn g v c h s
+startNumber g v (Physical c h s) = numbered g v c h s
 
 -- The drive has a track, its head counted over the whole drive: check 16 refuses an 8C with "track outside the drive".
 abbrev pub HasTrack : UnitRecord → (cylinder head : ℕ) → Type 0

@@ -1,4 +1,5 @@
--- The host bytes that judging a request reads (01, One run: "Host bytes read, for demand 3"), beside those of the block itself.
+-- The bytes of a UIB and of a list that judging a request reads, in the words of its checks. The paper's paragraph on host bytes stands in demands
+-- (Footprint), in the block's own fields; that the two say the same is shown (proofs/Read).
 use Prim.Native.Nat.{ℕ, _*_, _≤_}
 use mathlib.Core.Path.{_≡_}
 use Rattle.wire.specs.Among.{Among}
@@ -11,8 +12,8 @@ use Rattle.request.specs.declared.Task.the-variants.{Move as Moves, Initialize}
 use Rattle.judge.specs.Given.{Asked}
 use Rattle.judge.specs.Passed.{None, before, checks}
 
--- "a UIB that passed check 12": of an 87 that no check before 13 refuses, 24 among them (02, K10), so many bytes at the UIB's address. Both numbers are those of the
--- block that asks.
+-- "a UIB that passed check 12": of an 87 that no check before 13 refuses, that of 24 (02, K10) included, so many bytes at the UIB's
+-- address. Both numbers are those of the block that asks.
 pub record InUib (a : Asked) (at bytes x : ℕ) : Type 0 where
   pub shape : Shape
   pub asks : a .task ≡ Initialize shape

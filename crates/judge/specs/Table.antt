@@ -65,8 +65,8 @@ module _ (b : Block) (a : Asked) where
   FromStart false count =
       InVolume g (volumeAsked b) (b .cylinder) (b .head) (b .sector) × FromNumber (numberOf g (volumeAsked b) (b .cylinder) (b .head) (b .sector)) count
 
-  abbrev pub SectorsInside : ℕ → Type 0
-  SectorsInside count = FromStart (b .options .logical) count
+  abbrev pub SectorsThere : ℕ → Type 0
+  SectorsThere count = FromStart (b .options .logical) count
 
   -- The drive has a track.
   abbrev pub TrackThere : (cylinder head : ℕ) → Type 0
@@ -93,11 +93,11 @@ module _ (b : Block) (a : Asked) where
       -- "count 0"
       line 15 (these (0x81 ∷ 0x82 ∷ 0xa1 ∷ 0xa2 ∷ [])) (b .count ≡ 0) ∷
       -- "first sector outside the volume, or the last"
-      line 16 (these (0x81 ∷ 0x82 ∷ 0xa1 ∷ 0xa2 ∷ [])) (SectorsInside (b .count) → ⊥) ∷
+      line 16 (these (0x81 ∷ 0x82 ∷ 0xa1 ∷ 0xa2 ∷ [])) (SectorsThere (b .count) → ⊥) ∷
       -- "8C: track outside the drive"
       line 16 (these (0x8c ∷ [])) (TrackThere (b .cylinder) (b .head) → ⊥) ∷
       -- "8A: the one address only"
-      line 16 (these (0x8a ∷ [])) (SectorsInside 1 → ⊥) ∷
+      line 16 (these (0x8a ∷ [])) (SectorsThere 1 → ⊥) ∷
       -- 85: "either track" (02, K5)
       line 16 (these (0x85 ∷ [])) ((TrackThere (b .cylinder) (b .head) × TrackThere (b .count) spareHead) → ⊥) ∷
       -- "image shorter than the geometry needs"

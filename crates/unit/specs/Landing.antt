@@ -1,14 +1,11 @@
 -- Where one sector, or one track, lands on a unit: its cylinder, its place, and how far its track goes on from there. None of it asks
 -- whether the unit counts as initialized. Everything above goes by these and by the laws of proofs/; what is behind is shut.
 use Prim.Native.Nat.{ℕ, _-_}
-use mathlib.Core.Logic.{ite, Dec·and}
-use native.Mathlib.Decide.{decLt}
 use Rattle.geometry.specs.declared.Address.{Address}
 use Rattle.geometry.specs.declared.Geometry.{Geometry}
-use Rattle.geometry.specs.declared.Number.{Number}
 use Rattle.geometry.specs.declared.VolumeNumber.{VolumeNumber}
-use Rattle.geometry.specs.Drive.{C, N, S, volume}
-use Rattle.geometry.specs.Sectors.{address, addressOf, numberOf, placeOf}
+use Rattle.geometry.specs.Drive.{S}
+use Rattle.geometry.specs.Sectors.{address, addressOf, placeOf}
 use Rattle.spares.specs.declared.Served.{Served}
 use Rattle.spares.specs.declared.Served.the-variants.{Itself, By}
 use Rattle.spares.specs.Table.{servedAt}
@@ -35,9 +32,3 @@ spotOf u v n = spotAt (geometry u) (landed u (addressOf (geometry u) v n))
 -- The first sector of a track, its head "counted over the whole drive" (01, One run, 8C).
 pub trackOf : UnitRecord → ℕ → ℕ → Spot
 trackOf u c h = spotAt (geometry u) (landed u (address c h 0))
-
--- The number in a volume of a physical address, where the cylinder is below C, the head, counted from the start head, below N and the sector below S; and
--- else that the volume has no such sector. It goes by the shape of the drive alone.
-unfoldable pub numberOn : Geometry → VolumeNumber → ℕ → ℕ → ℕ → Number
-numberOn g v c h s =
-    ite (Dec·and (decLt c (C g)) (Dec·and (decLt h (N (volume g v))) (decLt s (S g)))) (Number.Is (numberOf g v c h s)) Number.Outside

@@ -12,11 +12,11 @@ use spares::Served;
 ghost use mathlib.Core.Path.{_≡_};
 ghost use Prim.Native.Nat.{_<_};
 ghost use Rattle.geometry.specs.Drive.{C};
-ghost use Rattle.geometry.specs.Sectors.{OnDrive};
+ghost use Rattle.geometry.specs.Sectors.{OnDrive, numbered};
 ghost use Rattle.spares.specs.Table.{Good};
 ghost use Rattle.unit.specs.declared.Holder.{Holder};
 ghost use Rattle.unit.specs.Holding.{asHolder, heldByOther, reservedBy};
-ghost use Rattle.unit.specs.Landing.{numberOn, spotAt};
+ghost use Rattle.unit.specs.Landing.{spotAt};
 ghost use Rattle.unit.specs.Standing.{CountsAsInitialized, cylinder, geometry, valueOf, holder, initialized, pairs, unitOf};
 ghost use Rattle.wire.specs.Promise.{Says};
 ghost use Rattle.unit.specs.Answers.{landing, landingAt, spotted, trackLanding};
@@ -312,7 +312,7 @@ impl Record {
 
     // The number in a volume of a physical address, whose head is counted from the volume's start head.
     pub fn number(self, v: VolumeNumber, cylinder: u16, head: u16, sector: u16) -> Number
-        ensures { λ r. ⌜ r ≡ numberOn (geometry (bare self)) v cylinder head sector ⌝ }
+        ensures { λ r. ⌜ r ≡ numbered (geometry (bare self)) v cylinder head sector ⌝ }
     {
         self.geometry.number(v, cylinder, head, sector)
     }
