@@ -10,7 +10,10 @@ enum-told : tie.Need-enum-told
 enum-told c = search needs
 
 without-pieces-requires : tie.Need-without-pieces-requires
-without-pieces-requires c κs = let told = c .before .before in (told .before .before .before .before .pre .0, rw (told .enum-told .given .1) tt)
+without-pieces-requires c κs =
+    let told = c .before .before in
+    let begun = told .before .before .before .before in
+    (begun .pre .0, rw (told .enum-told .given .1) tt)
 
 enum-known-moving : tie.Need-enum-known-moving
 enum-known-moving c = search needs
@@ -18,8 +21,8 @@ enum-known-moving c = search needs
 carry-job-requires : tie.Need-carry-job-requires
 carry-job-requires c κs =
     let told = c .before .before .before in
-    let pre = told .before .before .before .before .pre in
-    (pre .0, rw (told .moving .given .1) at (pre .1))
+    let begun = told .before .before .before .before in
+    (begun .pre .0, rw (told .moving .given .1) at (begun .pre .1))
 
 enum-told-2 : tie.Need-enum-told-2
 enum-told-2 c = search needs
@@ -53,7 +56,8 @@ same-length-4 c = search needs
 returns-2 : tie.Need-returns-2
 returns-2 c =
     let made = c .before .before .before .before in
-    rw (made .before .before .before .before .moving .given .1) (made .carry-job .ensures)
+    let told = made .before .before .before .before in
+    rw (told .moving .given .1) (made .carry-job .ensures)
 
 same-length-5 : tie.Need-same-length-5
 same-length-5 c = search needs

@@ -31,7 +31,8 @@ returns c =
     let told = event .before in
     let put = told .before .before .before .before in
     let status = put .before .before in
-    let a = status .before .before .before .before .before .before .args in (
+    let start = status .before .before .before .before .before .before in
+    let a = start .args in (
       refl,
       λ image.
           finish-made (a .b) (a .at) (a .i) (a .p .answer) (a .p .travel) (a .host .now) image (a .events .now) (put .put-status .last .0) (event .put-event .last .0)

@@ -19,7 +19,10 @@ enum-told-2 : tie.Need-enum-told-2
 enum-told-2 c = search needs
 
 returns : tie.Need-returns
-returns c = rw (c .before .before .enum-told .given .1) (c .held-by .ensures ∙ ap (withHolder (c .before .before .before .before .args .u)) (c .before .reserves .ensures))
+returns c =
+    let ended = c .before .before in
+    let start = ended .before .before in
+    rw (ended .enum-told .given .1) (c .held-by .ensures ∙ ap (withHolder (start .args .u)) (c .before .reserves .ensures))
 
 returns-2 : tie.Need-returns-2
 returns-2 c = search needs

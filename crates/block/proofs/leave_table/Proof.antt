@@ -37,7 +37,10 @@ returns-4 : tie.Need-returns-4
 returns-4 c moved = rw (c .before .enum-told4 .given .1)
 
 returns-5 : tie.Need-returns-5
-returns-5 c moved = rw (c .before .before .before .before .leaving .given .1) (rw (c .before .pairs .ensures) at (c .add .ensures))
+returns-5 c moved =
+    let counted = c .before in
+    let told = counted .before .before .before in
+    rw (told .leaving .given .1) (rw (counted .pairs .ensures) at (c .add .ensures))
 
 pub leave-table-spec : {M : Type 1} → statement M
 leave-table-spec =

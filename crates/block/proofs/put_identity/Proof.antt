@@ -25,8 +25,10 @@ same-length c = search needs
 
 returns : tie.Need-returns
 returns c =
-    let a = c .before .before .before .before .before .before .before .args in
-    rw (c .before .before .before .before .before .identity .ensures) at (c .before .before .copy .ensures)
+    let copied = c .before .before in
+    let words = copied .before .before .before in
+    let a = words .before .before .args in
+    rw (words .identity .ensures) at (copied .copy .ensures)
     ∙ copy-written identityBytes (a .host .now) (a .at + 4) (omega arith)
 
 pub put-identity-spec : {M : Type 1} → statement M

@@ -20,8 +20,9 @@ enum-known-report c = search needs
 
 put-formatted-requires : tie.Need-put-formatted-requires
 put-formatted-requires c κs =
-    let start = c .before .before .before .before .before in
-    (start .pre .0, rw (c .before .before .report .given .1) at (start .pre .1))
+    let told = c .before .before in
+    let start = told .before .before .before in
+    (start .pre .0, rw (told .report .given .1) at (start .pre .1))
 
 returns : tie.Need-returns
 unfolding after
@@ -31,13 +32,19 @@ same-length : tie.Need-same-length
 same-length c = search needs
 
 returns-2 : tie.Need-returns-2
-returns-2 c = rw (c .before .before .before .before .enum-told2 .given .1) (row-made _ _ _ _ (c .before .before .put-identity .ensures))
+returns-2 c =
+    let put = c .before .before in
+    let told = put .before .before in
+    rw (told .enum-told2 .given .1) (row-made _ _ _ _ (put .put-identity .ensures))
 
 same-length-2 : tie.Need-same-length-2
 same-length-2 c = search needs
 
 returns-3 : tie.Need-returns-3
-returns-3 c = rw (c .before .before .before .before .before .report .given .1) (row-made _ _ _ _ (c .before .before .put-formatted .ensures))
+returns-3 c =
+    let put = c .before .before in
+    let told = put .before .before .before in
+    rw (told .report .given .1) (row-made _ _ _ _ (put .put-formatted .ensures))
 
 pub put-report-spec : {M : Type 1} → statement M
 put-report-spec =

@@ -42,7 +42,9 @@ task-requires : tie.Need-task-requires
 task-requires c κs = search needs
 
 judge-requires : tie.Need-judge-requires
-judge-requires c κs = c .before .before .before .before .settled .ensures
+judge-requires c κs =
+    let known = c .before .before .before .before in
+    known .settled .ensures
 
 enum-known-r : tie.Need-enum-known-r
 enum-known-r c = search needs
@@ -74,7 +76,9 @@ judgement c = rw (c .before .before .before .task .ensures) at (c .judge .ensure
 
 finish-requires : tie.Need-finish-requires
 unfolding begins
-finish-requires c κs = begins (c .before .before .before .before .before .before) .pre .0
+finish-requires c κs =
+    let judged = c .before .before .before .before .before .before in
+    begins judged .pre .0
 
 enum-known-plan : tie.Need-enum-known-plan
 enum-known-plan c = search needs
@@ -86,7 +90,8 @@ perform-requires : tie.Need-perform-requires
 unfolding begins drive block
 perform-requires c κs =
     let j = planned c in
-    (begins j .pre .0 .block, plan-fits (asks j) _ (sym (judgement j) ∙ c .before .before .before .before .before .plan .given .1))
+    let told = c .before .before .before .before .before in
+    (begins j .pre .0 .block, plan-fits (asks j) _ (sym (judgement j) ∙ told .plan .given .1))
 
 hold-requires : tie.Need-hold-requires
 hold-requires c κs = search needs
@@ -142,11 +147,13 @@ returns-2 c =
     let held = c .before .before .before .before .before .before .before in
     let done = performed (held .before) in
     let ready = done .before in
-    let then = ready .before .before .before .counts-then in
+    let counted = ready .before .before .before in
+    let then = counted .counts-then in
     let j = planned ready in
     let a = begins j .args in
     let read = reads j .read .ensures in
-    let met = ready .before .before .before .before .before .plan .given in
+    let told = counted .before .before in
+    let met = told .plan .given in
     let d = drive j in
     let reserve = block j .options .reserve in
     let made = actedOn (a .host .now) d (a .at) (Verdict.Do (met .0 .0)) in

@@ -40,7 +40,8 @@ same-length-6 c = search needs
 returns : tie.Need-returns
 returns c =
     let ran = c .before .before .before .before .before .before .before .before .before .before .before .before in
-    rw (ran .before .before .before .before .before .before .before .before .before .enum-told .given .1) (ran .in-turn .ensures)
+    let told = ran .before .before .before .before .before .before .before .before .before in
+    rw (told .enum-told .given .1) (ran .in-turn .ensures)
 
 same-length-7 : tie.Need-same-length-7
 same-length-7 c = search needs

@@ -79,7 +79,9 @@ put-decimal-put-decimal-requires : (t : ℕ) → put-decimal-lts.Need-put-decima
   put-decimal-below t,
   put-decimal.Post,
 ) (put-decimal-at t) put-decimal.Post
-put-decimal-put-decimal-requires t c κs = omega (arith, more-length (c .before .before .before .before .args .n) (omega arith))
+put-decimal-put-decimal-requires t c κs =
+    let start = c .before .before .before .before in
+    omega (arith, more-length (start .args .n) (omega arith))
 
 -- The last digit has its place after the others.
 room : (t : ℕ) (c : put-decimal-lts.After-put-decimal (
@@ -88,7 +90,9 @@ room : (t : ℕ) (c : put-decimal-lts.After-put-decimal (
   put-decimal-below t,
   put-decimal.Post,
 ) (put-decimal-at t) put-decimal.Post) → c .put-decimal .result < length (c .put-decimal .last .0)
-room t c = omega (arith, c .put-decimal .ensures .after, more-length (c .before .before .before .before .before .args .n) (omega arith))
+room t c =
+    let start = c .before .before .before .before .before in
+    omega (arith, c .put-decimal .ensures .after, more-length (start .args .n) (omega arith))
 
 put-decimal-slice-write-text-2 : (t : ℕ) → put-decimal-lts.Need-slice-write-text-2 (
   digit-reads.Asked,

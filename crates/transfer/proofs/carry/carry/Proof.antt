@@ -52,7 +52,7 @@ least :
     let a = start (turn c) .args in
     let now = turn c .before .loop in
     c .lesser .result ≡ min (getD (a .lengths .now) (now .i) 0) (spanBytes (unitOf (a .u) (a .table .now)) (a .span) - now .done)
-least c = rw (c .before .before .before .before .span-bytes .ensures) at (c .lesser .ensures)
+least c = rw (turn c .before .before .span-bytes .ensures) at (c .lesser .ensures)
 
 loop-holds : tie.Need-loop-holds Inv-loop μ-loop
 loop-holds c =

@@ -17,7 +17,10 @@ same-length-2 : tie.Need-same-length-2
 same-length-2 c = search needs
 
 returns : tie.Need-returns
-returns c = rw (c .before .before .before .before .before .if1 .taken) (c .before .before .copy .ensures, refl)
+returns c =
+    let copied = c .before .before in
+    let tested = copied .before .before .before in
+    rw (tested .if1 .taken) (copied .copy .ensures, refl)
 
 same-length-3 : tie.Need-same-length-3
 same-length-3 c = search needs
@@ -26,7 +29,10 @@ same-length-4 : tie.Need-same-length-4
 same-length-4 c = search needs
 
 returns-2 : tie.Need-returns-2
-returns-2 c = rw (c .before .before .before .before .before .if1 .left) (refl, c .before .before .copy2 .ensures)
+returns-2 c =
+    let copied = c .before .before in
+    let tested = copied .before .before .before in
+    rw (tested .if1 .left) (refl, copied .copy2 .ensures)
 
 pub copy-run-spec : {M : Type 1} → statement M
 copy-run-spec =
