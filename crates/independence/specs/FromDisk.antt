@@ -14,7 +14,7 @@ use Rattle.block.specs.Block.{Drive}
 
 -- The first sector of unit 0: a block that reads this sector to bytes 120 to 183, and from its byte 28 on a UIB that says `tiny`.
 abbrev pub sector : List ℕ
-sector = block 0x81 0x10 0 1 120 ++ (0 ∷ 1 ∷ 0 ∷ 0 ∷ 1 ∷ 0 ∷ 0 ∷ 64 ∷ 0 ∷ 0 ∷ 0 ∷ 0 ∷ 0 ∷ 2 ∷ replicate 22 0)
+sector = block 0x81 0x10 0 1 120 ++ (0 ∷ 1 ∷ 0 ∷ 0 ∷ 1 ∷ 0 ∷ 0 ∷ 64 ∷ 0 ∷ 0 ∷ 0 ∷ 0 ∷ 0 ∷ 2 ∷ 4 ∷ replicate 21 0)
 
 abbrev pub disk : Drive
 disk = driveOn (sector ++ replicate 64 7 ++ (0 ∷ 0 ∷ []))

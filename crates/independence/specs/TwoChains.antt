@@ -51,17 +51,17 @@ abbrev pub scatter : (options elements list : ℕ) → List ℕ
 scatter options elements list = 0xa1 ∷ options ∷ 0 ∷ 0 ∷ 0 ∷ 0 ∷ 0 ∷ 0 ∷ 0 ∷ 1 ∷ 0 ∷ 0 ∷ 0 ∷ list ∷ replicate 13 0 ++ (elements ∷ [])
 
 -- A block of which the words from 2 on are a UIB that says `tiny`, as long as nobody has written them: 1 head from head 0 on, no second
--- volume, 1 sector, 64 bytes, 2 cylinders.
+-- volume, 1 sector, 64 bytes, 2 cylinders, increment by head.
 abbrev pub overUib : (command options : ℕ) → List ℕ
 overUib command options =
-    command ∷ options ∷ 0 ∷ 0 ∷ 0 ∷ 1 ∷ 0 ∷ 0 ∷ 1 ∷ 0 ∷ 0 ∷ 64 ∷ 0 ∷ 0 ∷ 0 ∷ 0 ∷ 0 ∷ 2 ∷ replicate 10 0
+    command ∷ options ∷ 0 ∷ 0 ∷ 0 ∷ 1 ∷ 0 ∷ 0 ∷ 1 ∷ 0 ∷ 0 ∷ 64 ∷ 0 ∷ 0 ∷ 0 ∷ 0 ∷ 0 ∷ 2 ∷ 4 ∷ replicate 9 0
 
 -- A format of the first track with data from byte 256 on, and with a sector number that says nothing. Its words from 4 on are a UIB: start head 0,
--- no second volume, 1 sector, 64 bytes, 2 cylinders. The number of heads stands in the lower byte of word 4: it is 0 until the format says there
+-- no second volume, 1 sector, 64 bytes, 2 cylinders, increment by head. The number of heads stands in the lower byte of word 4: it is 0 until the format says there
 -- that 1 sector was formatted, and then the UIB says `tiny`.
 abbrev pub formatOverUib : List ℕ
 formatOverUib =
-    0x8c ∷ 0 ∷ 0 ∷ 0 ∷ 0 ∷ 0 ∷ 0 ∷ 9 ∷ 0 ∷ 0 ∷ 0 ∷ 0 ∷ 1 ∷ 0 ∷ 0 ∷ 64 ∷ 0 ∷ 0 ∷ 0 ∷ 0 ∷ 0 ∷ 2 ∷ replicate 6 0
+    0x8c ∷ 0 ∷ 0 ∷ 0 ∷ 0 ∷ 0 ∷ 0 ∷ 9 ∷ 0 ∷ 0 ∷ 0 ∷ 0 ∷ 1 ∷ 0 ∷ 0 ∷ 64 ∷ 0 ∷ 0 ∷ 0 ∷ 0 ∷ 0 ∷ 2 ∷ 4 ∷ replicate 5 0
 
 -- Two blocks at 0 and 28, and what stands behind them from 56 on: 264 bytes, where nothing else is said.
 abbrev pub startingOn : List ℕ → List ℕ → List ℕ → Drive → Drive → Both
