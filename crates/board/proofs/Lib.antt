@@ -1,6 +1,5 @@
 pub mod Chains
 pub mod Elsewhere
-pub mod Numbers
 pub mod Outcomes
 pub mod Parts
 pub mod Runs

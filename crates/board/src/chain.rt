@@ -1,7 +1,5 @@
 // A chain: each block is fetched and executed, and one that ends with a link leads to fetching the next.
 use crate::Units;
-use crate::records::numbers_of;
-use crate::records::record_of;
 use crate::records::units_of;
 use answers::BlockAnswer;
 use answers::Refusal;
@@ -10,6 +8,7 @@ use block::BlockTold;
 use block::Known;
 use block::run_block;
 use unit::Controller;
+use unit::Record;
 use unit::UnitNumber;
 ghost use mathlib.Core.Path.{_≡_};
 ghost use Prim.Native.Nat.{_+_, _*_, _≤_};
@@ -80,7 +79,7 @@ fn work_on(
     image: &mut [u8],
     events: &mut [u8],
     c: Controller,
-    held: &mut [u16; 11],
+    held: &mut [u16; Record::NUMBERS],
     known: Known,
     map: &mut [u32; 64],
     at: usize,
@@ -94,8 +93,18 @@ fn work_on(
         let done : Done = record { unit = byValue (unitIn (now (held .exit)) (now (map .exit))); told = t } in
         Did (blockAt (now (host .entry)) at) (effectOn c (now (host .entry)) drive at i) before after (now (map .exit)) done) ⌝ }
 {
-    let done = run_block(host, image, events, c, record_of(held), known, map, at, i);
-    *held = numbers_of(done.unit);
+    let done = run_block(
+        host,
+        image,
+        events,
+        c,
+        Record::of_numbers(held),
+        known,
+        map,
+        at,
+        i,
+    );
+    *held = done.unit.numbers();
     done.told
 }
 
@@ -107,8 +116,8 @@ pub(crate) fn step(
     events: &mut [u8],
     map0: &mut [u32; 64],
     map1: &mut [u32; 64],
-    record0: &mut [u16; 11],
-    record1: &mut [u16; 11],
+    record0: &mut [u16; Record::NUMBERS],
+    record1: &mut [u16; Record::NUMBERS],
     c: Controller,
     learnt: Learnt,
     at: usize,
@@ -189,8 +198,8 @@ fn fetch(
     events: &mut [u8],
     map0: &mut [u32; 64],
     map1: &mut [u32; 64],
-    record0: &mut [u16; 11],
-    record1: &mut [u16; 11],
+    record0: &mut [u16; Record::NUMBERS],
+    record1: &mut [u16; Record::NUMBERS],
     c: Controller,
     learnt: Learnt,
     at: u32,
@@ -236,8 +245,8 @@ fn execute(
     events: &mut [u8],
     map0: &mut [u32; 64],
     map1: &mut [u32; 64],
-    record0: &mut [u16; 11],
-    record1: &mut [u16; 11],
+    record0: &mut [u16; Record::NUMBERS],
+    record1: &mut [u16; Record::NUMBERS],
     c: Controller,
     learnt: Learnt,
     at: u32,
@@ -383,8 +392,8 @@ pub fn run(
     if !holds_block(host, first) {
         return refused(RunAnswer::FirstBad, units);
     }
-    let mut record0 = numbers_of(units.zero);
-    let mut record1 = numbers_of(units.one);
+    let mut record0 = units.zero.numbers();
+    let mut record1 = units.one.numbers();
     let end = fetch(
         host,
         image0,
@@ -448,8 +457,8 @@ pub fn run_one(
     if (events.len() as u64) < 8 * (i as u64) + 8 {
         return Single::NoRoom;
     }
-    let mut record0 = numbers_of(units.zero);
-    let mut record1 = numbers_of(units.one);
+    let mut record0 = units.zero.numbers();
+    let mut record1 = units.one.numbers();
     let step = step(
         host,
         image0,

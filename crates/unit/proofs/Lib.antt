@@ -4,4 +4,5 @@ pub mod Decided
 pub mod Holders
 pub mod Kept
 pub mod Laws
+pub mod NumbersBack
 pub mod Outcomes

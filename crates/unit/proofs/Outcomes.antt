@@ -21,6 +21,8 @@ use Rattle.unit.proofs.Record.land_track.Reads as land-track
 use Rattle.unit.proofs.Record.moved_to.Reads as moved-to
 use Rattle.unit.proofs.Record.new.Reads as new
 use Rattle.unit.proofs.Record.number.Reads as number
+use Rattle.unit.proofs.Record.numbers.Reads as numbers
+use Rattle.unit.proofs.Record.of_numbers.Reads as of-numbers
 use Rattle.unit.proofs.Record.one_pair_more.Reads as one-pair-more
 use Rattle.unit.proofs.Record.pairs.Reads as pairs
 use Rattle.unit.proofs.Record.same.Reads as same
@@ -87,3 +89,9 @@ held-by-once κ a x y e f p q = p ∙ sym q
 
 holder-once : OneResult holder.Post
 holder-once κ a x y e f p q = p ∙ sym q
+
+numbers-once : OneResult numbers.Post
+numbers-once κ a x y e f p q = p .0 ∙ sym (q .0)
+
+of-numbers-once : OneResult of-numbers.Post
+of-numbers-once κ a x y e f p q = p ∙ sym q

@@ -4,4 +4,5 @@ pub mod HolderNumbers
 pub mod Holding
 pub mod Landing
 pub mod Made
+pub mod RecordNumbers
 pub mod Standing

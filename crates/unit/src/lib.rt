@@ -23,6 +23,8 @@ ghost use Rattle.unit.specs.Answers.{landing, landingAt, spotted, trackL
 ghost use Rattle.unit.specs.Made.{bare, nothingSaid, freshly, headsOn, moreHeld, withHolder};
 ghost use Rattle.unit.specs.HolderNumbers.{holderNumber, holderOf};
 
+mod numbers;
+
 // One of the board's two units.
 pub enum UnitNumber {
     Zero,

@@ -14,7 +14,7 @@ use Rattle.board.specs.Run.{worldOf}
 abbrev start : tie.After-holds-entries → tie.Start
 start c = c .before .before .before .before .before .before
 
-abbrev numbers : tie.After-record1 → tie.After-numbers-of2
+abbrev numbers : tie.After-record1 → tie.After-numbers2
 numbers c = c .before .before .before .before .before .before .before .before
 
 holds-entries-requires : tie.Need-holds-entries-requires
@@ -86,11 +86,11 @@ returns-3 c =
     (granted (allowed .result) _ (second .if2 .left) (allowed .ensures))
     (denied (held .result) _ (c .before .if3 .taken) (held .ensures))))
 
-numbers-of-requires : tie.Need-numbers-of-requires
-numbers-of-requires c κs = search needs
+numbers-requires : tie.Need-numbers-requires
+numbers-requires c κs = search needs
 
-numbers-of-requires-2 : tie.Need-numbers-of-requires-2
-numbers-of-requires-2 c κs = search needs
+numbers-requires-2 : tie.Need-numbers-requires-2
+numbers-requires-2 c κs = search needs
 
 unasked-requires : tie.Need-unasked-requires
 unasked-requires c κs = search needs
@@ -150,7 +150,7 @@ returns-4 c =
     (granted (room .result) _ (first .if1 .left) (room .ensures))
     (granted (allowed .result) _ (second .if2 .left) (allowed .ensures))
     (granted (held .result) _ (third .if3 .left) (held .ensures)))
-    (rw (begun .nothing .ensures, two .before .numbers-of .ensures, two .numbers-of2 .ensures) at (f .ensures))))
+    (rw (begun .nothing .ensures, two .before .numbers .ensures .1, two .numbers2 .ensures .1) at (f .ensures))))
 
 pub run-spec : {M : Type 1} → statement M
 run-spec =
@@ -169,8 +169,8 @@ run-spec =
     same-length-3
     same-length-4
     returns-3
-    numbers-of-requires
-    numbers-of-requires-2
+    numbers-requires
+    numbers-requires-2
     unasked-requires
     nothing-requires
     fetch-requires

@@ -11,7 +11,7 @@ use Rattle.board.proofs.chain.run_one.Tie as tie
 abbrev stepped : tie.After-stepped-with → tie.After-step
 stepped c = c .before .before .before .before .before .before .before .before .before .before .before .before .before
 
-abbrev numbers : tie.After-record1 → tie.After-numbers-of2
+abbrev numbers : tie.After-record1 → tie.After-numbers2
 numbers c = c .before .before .before .before .before .before .before .before
 
 holds-block-requires : tie.Need-holds-block-requires
@@ -37,11 +37,11 @@ same-length-2 c = search needs
 returns-2 : tie.Need-returns-2
 returns-2 c = search needs
 
-numbers-of-requires : tie.Need-numbers-of-requires
-numbers-of-requires c κs = search needs
+numbers-requires : tie.Need-numbers-requires
+numbers-requires c κs = search needs
 
-numbers-of-requires-2 : tie.Need-numbers-of-requires-2
-numbers-of-requires-2 c κs = search needs
+numbers-requires-2 : tie.Need-numbers-requires-2
+numbers-requires-2 c κs = search needs
 
 unasked-requires : tie.Need-unasked-requires
 unasked-requires c κs = search needs
@@ -81,7 +81,7 @@ returns-3 c =
     let held = first .before .holds-block in
     rw (c .stepped-with .ensures, c .before .units-of .ensures) (
       record { place = granted (held .result) _ (first .if1 .left) (held .ensures); entry = omega (arith, second .if2 .left) },
-      rw (two .before .numbers-of .ensures, two .numbers-of2 .ensures) at (step .step .ensures .to),
+      rw (two .before .numbers .ensures .1, two .numbers2 .ensures .1) at (step .step .ensures .to),
     )
 
 pub run-one-spec : {M : Type 1} → statement M
@@ -95,8 +95,8 @@ run-one-spec =
     add-if2
     same-length-2
     returns-2
-    numbers-of-requires
-    numbers-of-requires-2
+    numbers-requires
+    numbers-requires-2
     unasked-requires
     step-requires
     units-of-requires

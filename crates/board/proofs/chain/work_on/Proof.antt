@@ -4,16 +4,16 @@ use borrow.Author.Needs.{needs}
 use Rattle.board.proofs.chain.work_on.Statement.{statement}
 use Rattle.board.proofs.chain.work_on.Tie as tie
 
-record-of-requires : tie.Need-record-of-requires
-record-of-requires c κs = search needs
+of-numbers-requires : tie.Need-of-numbers-requires
+of-numbers-requires c κs = search needs
 
 run-block-requires : tie.Need-run-block-requires
 run-block-requires c κs =
     let start = c .before .before .before .before .before .before .before .before .before in
-    (start .pre .0, rw (c .before .record-of .ensures) (start .pre .1))
+    (start .pre .0, rw (c .before .of-numbers .ensures) (start .pre .1))
 
-numbers-of-requires : tie.Need-numbers-of-requires
-numbers-of-requires c κs = search needs
+numbers-requires : tie.Need-numbers-requires
+numbers-requires c κs = search needs
 
 same-length : tie.Need-same-length
 same-length c = search needs
@@ -29,15 +29,15 @@ returns c =
     let numbered = c .before in
     let ran = numbered .before .before .before .before .before .before .before in
     let read = ran .before .before in
-    rw (numbered .numbers-of .ensures) (rw (read .record-of .ensures) at (ran .run-block .ensures))
+    rw (numbered .numbers .ensures .1) (rw (read .of-numbers .ensures) at (ran .run-block .ensures))
 
 pub work-on-spec : {M : Type 1} → statement M
 work-on-spec =
     tie.close
     (tie.spec
-    record-of-requires
+    of-numbers-requires
     run-block-requires
-    numbers-of-requires
+    numbers-requires
     same-length
     same-length-2
     same-length-3

@@ -1,23 +1,18 @@
 -- The list of numbers is the record's, one by one, and a record comes back from its numbers.
 -- That a volume's heads are bytes is known of every record.
-use borrow.Author.Needs.{needs}
+use mathlib.Core.Path.{refl}
 use native.Mathlib.Omega.{arith}
-use Rattle.board.proofs.Numbers.{record-back}
-use Rattle.board.proofs.records.numbers_of.Statement.{statement}
-use Rattle.board.proofs.records.numbers_of.Tie as tie
-use Rattle.unit.specs.Made.{bare}
-
-geometry-requires : tie.Need-geometry-requires
-geometry-requires c κs = search needs
+use borrow.Author.Needs.{needs}
+use Rattle.unit.specs.RecordNumbers.{asNumbers}
+use Rattle.unit.proofs.NumbersBack.{record-back}
+use Rattle.unit.proofs.Record.numbers.Statement.{statement}
+use Rattle.unit.proofs.Record.numbers.Tie as tie
 
 volume-requires : tie.Need-volume-requires
 volume-requires c κs = search needs
 
 volume-requires-2 : tie.Need-volume-requires-2
 volume-requires-2 c κs = search needs
-
-initialized-requires : tie.Need-initialized-requires
-initialized-requires c κs = search needs
 
 flag-requires : tie.Need-flag-requires
 flag-requires c κs = search needs
@@ -55,15 +50,6 @@ heads-requires-2 c κs = search needs
 wide-requires-4 : tie.Need-wide-requires-4
 wide-requires-4 c κs = search needs
 
-cylinder-requires : tie.Need-cylinder-requires
-cylinder-requires c κs = search needs
-
-pairs-requires : tie.Need-pairs-requires
-pairs-requires c κs = search needs
-
-holder-requires : tie.Need-holder-requires
-holder-requires c κs = search needs
-
 number-requires : tie.Need-number-requires
 number-requires c κs = search needs
 
@@ -71,14 +57,12 @@ wide-requires-5 : tie.Need-wide-requires-5
 wide-requires-5 c κs = search needs
 
 returns : tie.Need-returns
+unfolding asNumbers
 returns c =
-    let start = c .before .before .before .before .before .before .before .before .before .before .before .before .before .before .before .before .before .before .before .before .before in
-    let back = record-back (bare (start .args .r)) (record { start = omega arith; heads = omega arith }) (record { start = omega arith; heads = omega arith }) in
+    let start = c .before .before .before .before .before .before .before .before .before .before .before .before .before .before .before .before .before in
+    let back = record-back (start .args .self) (record { start = omega arith; heads = omega arith }) (record { start = omega arith; heads = omega arith }) in
     let at-number = c .before in
-    let at-holder = at-number .before in
-    let at-pairs = at-holder .before in
-    let at-cylinder = at-pairs .before in
-    let at-wide4 = at-cylinder .before in
+    let at-wide4 = at-number .before in
     let at-heads2 = at-wide4 .before in
     let at-wide3 = at-heads2 .before in
     let at-start-head2 = at-wide3 .before in
@@ -90,16 +74,11 @@ returns c =
     let at-sectors-a-track = at-bytes-a-sector .before in
     let at-C = at-sectors-a-track .before in
     let at-flag = at-C .before in
-    let at-initialized = at-flag .before in
-    let at-volume2 = at-initialized .before in
+    let at-volume2 = at-flag .before in
     let at-volume = at-volume2 .before in
-    let at-geometry = at-volume .before in
     rw (
       c .wide5 .ensures,
       at-number .number .ensures,
-      at-holder .holder .ensures,
-      at-pairs .pairs .ensures,
-      at-cylinder .cylinder .ensures,
       at-wide4 .wide4 .ensures,
       at-heads2 .heads2 .ensures,
       at-wide3 .wide3 .ensures,
@@ -112,21 +91,17 @@ returns c =
       at-sectors-a-track .sectors-a-track .ensures,
       at-C .cylinders .ensures,
       at-flag .flag .ensures,
-      at-initialized .initialized .ensures,
       at-volume2 .volume2 .ensures,
       at-volume .volume .ensures,
-      at-geometry .geometry .ensures,
     )
-    back
+    (refl, back)
 
-pub numbers-of-spec : {M : Type 1} → statement M
-numbers-of-spec =
+pub numbers-spec : {M : Type 1} → statement M
+numbers-spec =
     tie.close
     (tie.spec
-    geometry-requires
     volume-requires
     volume-requires-2
-    initialized-requires
     flag-requires
     cylinders-requires
     sectors-a-track-requires
@@ -139,9 +114,6 @@ numbers-of-spec =
     wide-requires-3
     heads-requires-2
     wide-requires-4
-    cylinder-requires
-    pairs-requires
-    holder-requires
     number-requires
     wide-requires-5
     returns)

@@ -1,9 +1,9 @@
 -- Each number is read from its place and made a field of the record.
 -- What is put together is the definition's record, field by field.
 use borrow.Author.Needs.{needs}
-use Rattle.board.specs.Records.{recordIn}
-use Rattle.board.proofs.records.record_of.Statement.{statement}
-use Rattle.board.proofs.records.record_of.Tie as tie
+use Rattle.unit.specs.RecordNumbers.{inNumbers}
+use Rattle.unit.proofs.Record.of_numbers.Statement.{statement}
+use Rattle.unit.proofs.Record.of_numbers.Tie as tie
 
 element-copy-out-low-byte : tie.Need-element-copy-out-low-byte
 element-copy-out-low-byte c = search needs
@@ -47,54 +47,45 @@ element-copy-out-new-3 c = search needs
 new-requires-3 : tie.Need-new-requires-3
 new-requires-3 c κs = search needs
 
-element-copy-out-new-4 : tie.Need-element-copy-out-new-4
-element-copy-out-new-4 c = search needs
-
-element-copy-out-new-5 : tie.Need-element-copy-out-new-5
-element-copy-out-new-5 c = search needs
-
-element-copy-out-new-6 : tie.Need-element-copy-out-new-6
-element-copy-out-new-6 c = search needs
-
-new-requires-4 : tie.Need-new-requires-4
-new-requires-4 c κs = search needs
-
 element-copy-out-of : tie.Need-element-copy-out-of
 element-copy-out-of c = search needs
 
 of-requires : tie.Need-of-requires
 of-requires c κs = search needs
 
-held-by-requires : tie.Need-held-by-requires
-held-by-requires c κs = search needs
+element-copy-out-t24 : tie.Need-element-copy-out-t24
+element-copy-out-t24 c = search needs
+
+element-copy-out-t13 : tie.Need-element-copy-out-t13
+element-copy-out-t13 c = search needs
+
+element-copy-out-t9 : tie.Need-element-copy-out-t9
+element-copy-out-t9 c = search needs
 
 returns : tie.Need-returns
-unfolding recordIn
+unfolding inNumbers
 returns c =
-    let at-of = c .before in
-    let at-new4 = at-of .before .before in
-    let at-new3 = at-new4 .before .before .before .before in
-    let at-new2 = at-new3 .before .before .before .before in
-    let at-low-byte4 = at-new2 .before in
-    let at-low-byte3 = at-low-byte4 .before .before in
-    let at-new = at-low-byte3 .before .before in
-    let at-low-byte2 = at-new .before in
-    let at-low-byte = at-low-byte2 .before .before in
+    let of = c .before .before .before in
+    let new3 = of .before .before in
+    let new2 = new3 .before .before .before .before in
+    let low-byte4 = new2 .before in
+    let low-byte3 = low-byte4 .before .before in
+    let new = low-byte3 .before .before in
+    let low-byte2 = new .before in
+    let low-byte = low-byte2 .before .before in
     rw (
-      c .held-by .ensures,
-      at-of .of .ensures,
-      at-new4 .new4 .ensures,
-      at-new3 .new3 .ensures,
-      at-new2 .new2 .ensures,
-      at-low-byte4 .low-byte4 .ensures,
-      at-low-byte3 .low-byte3 .ensures,
-      at-new .new .ensures,
-      at-low-byte2 .low-byte2 .ensures,
-      at-low-byte .low-byte .ensures,
+      of .of .ensures,
+      new3 .new3 .ensures,
+      new2 .new2 .ensures,
+      low-byte4 .low-byte4 .ensures,
+      low-byte3 .low-byte3 .ensures,
+      new .new .ensures,
+      low-byte2 .low-byte2 .ensures,
+      low-byte .low-byte .ensures,
     )
 
-pub record-of-spec : {M : Type 1} → statement M
-record-of-spec =
+pub of-numbers-spec : {M : Type 1} → statement M
+of-numbers-spec =
     tie.close
     (tie.spec
     element-copy-out-low-byte
@@ -111,11 +102,9 @@ record-of-spec =
     element-copy-out-new-2
     element-copy-out-new-3
     new-requires-3
-    element-copy-out-new-4
-    element-copy-out-new-5
-    element-copy-out-new-6
-    new-requires-4
     element-copy-out-of
     of-requires
-    held-by-requires
+    element-copy-out-t24
+    element-copy-out-t13
+    element-copy-out-t9
     returns)
