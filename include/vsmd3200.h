@@ -32,9 +32,9 @@ extern "C" {
 
 /* ---- the unit record -----------------------------------------------------------------------------------------------------------
  *
- * What the board knows of a unit: whether it is initialized, its geometry, the cylinder that its heads stand on, its bad tracks with
- * their spares, and which controller holds the drive. It is yours to keep between calls, in RAM or in flash. 276 bytes, numbers
- * big-endian:
+ * What the board knows of a unit: whether it is initialized, its geometry, the order of its tracks, the cylinder that its heads stand
+ * on, its bad tracks with their spares, and which controller holds the drive. It is yours to keep between calls, in RAM or in flash. 276
+ * bytes, numbers big-endian:
  *
  *    0       version of the layout, 02
  *    1       01 initialized, any other not
@@ -45,7 +45,7 @@ extern "C" {
  *   10, 11   volume 0: start head, heads (at least 1)
  *   12, 13   volume 1: start head, heads (0: there is no volume 1)
  *   14, 15   the cylinder that the heads stand on, below C
- *   16       order, 00
+ *   16       order of the tracks: 00 by head, 01 by cylinder
  *   17       holder of the drive: 00 nobody, 01 the first controller, 02 the second
  *   18, 19   how many pairs count, 0 to 32
  *   20..275  room for 32 pairs of 8 bytes, each a bad track and then its spare; a track is its cylinder (2 bytes), its head (1) and 00
@@ -53,10 +53,21 @@ extern "C" {
  * With H the greater end (start head plus heads) of the volumes present, a track is on the drive where its cylinder is below C, its head
  * below H, counted over the whole drive whatever volume has it, and its last byte 00.
  *
- * A unit is initialized where its record opens with 02 01 01 14, byte 16 is 00, byte 17 at most 02, and the rest keeps the limits: those
- * above, start head plus heads at most 64 for each volume present, no head in two volumes, at most 32 pairs, each of their tracks on the
- * drive, and none of them twice in the table, as a bad one or as a spare. Any other 276 bytes are a unit that is not initialized: zeros,
- * erased flash, a record of another version. Handing such bytes over is no error.
+ * A unit is initialized where its record opens with 02 01 01 14, byte 16 is at most 01, byte 17 at most 02, and the rest keeps the
+ * limits: those above, start head plus heads at most 64 for each volume present, no head in two volumes, at most 32 pairs, each of their
+ * tracks on the drive, and none of them twice in the table, as a bad one or as a spare. Any other 276 bytes are a unit that is not
+ * initialized: zeros, erased flash, a record of another version. Handing such bytes over is no error.
+ *
+ * The order says which track of a volume comes after which. By head the heads of a cylinder follow one another, and then the next
+ * cylinder's: logical sector n of a volume with N heads is sector n mod S, head (n div S) mod N, cylinder n div (S x N). By cylinder the
+ * cylinders of a head follow one another, and then the next head's: logical sector n is sector n mod S, cylinder (n div S) mod C, head
+ * n div (S x C). Heads are counted from the volume's start head. A transfer goes on from sector to sector as its drive counts, from a
+ * track's end to the next track in that order, and the heads end where its last sector is. One that starts at a cylinder, head and sector
+ * (XL clear) has each of the three judged by itself, and is then counted on from there: whether its last sector is in the volume, and
+ * which sector that is, goes by the order too. A seek goes by it as well. The place of a cylinder, head and sector in the image has
+ * nothing to do with it, nor have the tracks that 85 and a format name; a bad track gives way to its spare when its turn has come. An
+ * initialize that succeeds takes the order from the UIB: bit 04, increment by head, of its byte 0E (attributes) is set for by head and
+ * clear for by cylinder. No other bit of that byte is looked at.
  *
  * A block that lands on a bad track works on its spare instead: reads, writes, scatters and gathers sector by sector, seeks, and
  * formats. The spare's sectors and marks are used as they stand, and the heads then stand on the spare's cylinder. A spare may lie in any
@@ -110,6 +121,10 @@ extern "C" {
 #define VSMD_TRACK_AT_CYLINDER 0u
 #define VSMD_TRACK_AT_HEAD 2u
 #define VSMD_TRACK_AT_LAST 3u
+
+/* The order of a drive's tracks, by byte 16 of its record. */
+#define VSMD_ORDER_BY_HEAD 0u
+#define VSMD_ORDER_BY_CYLINDER 1u
 
 /* Who holds a drive, by byte 17 of its record. */
 #define VSMD_HOLDER_NONE 0u
@@ -290,7 +305,8 @@ static inline void vsmd_record_clear(uint8_t *record)
         record[k] = 0;
 }
 
-/* Makes the record of an initialized unit without pairs, held by nobody; whether its numbers keep the limits is judged when it is used. */
+/* Makes the record of an initialized unit without pairs, by head and held by nobody; whether its numbers keep the limits is judged when
+ * it is used. For a drive by cylinder store VSMD_ORDER_BY_CYLINDER in the byte at VSMD_RECORD_AT_ORDER afterwards. */
 static inline void vsmd_record_make(uint8_t *record, uint16_t cylinders, uint16_t sectors_a_track, uint16_t bytes_a_sector,
                                     uint8_t start_head0, uint8_t heads0, uint8_t start_head1, uint8_t heads1, uint16_t cylinder)
 {
@@ -308,10 +324,10 @@ static inline void vsmd_record_make(uint8_t *record, uint16_t cylinders, uint16_
     vsmd_put16(record + VSMD_RECORD_AT_CYLINDER, cylinder);
 }
 
-/* Whether a record opens as that of an initialized unit does, with order 00 and a holder that is one. */
+/* Whether a record opens as that of an initialized unit does, with an order and a holder that are one. */
 static inline int vsmd_record_says_initialized(const uint8_t *record)
 {
-    return vsmd_get32(record) == 0x02010114u && record[VSMD_RECORD_AT_ORDER] == 0 &&
+    return vsmd_get32(record) == 0x02010114u && record[VSMD_RECORD_AT_ORDER] <= VSMD_ORDER_BY_CYLINDER &&
            record[VSMD_RECORD_AT_HOLDER] <= VSMD_HOLDER_SECOND;
 }
 
@@ -387,8 +403,8 @@ static inline int vsmd_record_add_pair(uint8_t *record, uint16_t bad_cylinder, u
     return 1;
 }
 
-/* Makes a record of the 16 bytes of one of version 1: the same unit without pairs, held by nobody. Returns 1; 0 where these bytes are not
- * those of an initialized unit, and then the record is that of a unit that is not initialized. The two do not overlap. */
+/* Makes a record of the 16 bytes of one of version 1: the same unit without pairs, by head and held by nobody. Returns 1; 0 where these
+ * bytes are not those of an initialized unit, and then the record is that of a unit that is not initialized. The two do not overlap. */
 static inline int vsmd_record_upgrade(uint8_t *record, const uint8_t *old)
 {
     size_t k;

@@ -1,6 +1,6 @@
 /* The paper's session example through the C header: an initialize linked to a read of two sectors, laid out byte by byte. Then the
- * refusals of short buffers, the inspection, a bad track with its spare, two controllers on the drive, and the upgrade of a record. One
- * line where all is well; else what differs, and exit 1. */
+ * refusals of short buffers, the inspection, a bad track with its spare, two controllers on the drive, a drive that counts by cylinder, and
+ * the upgrade of a record. One line where all is well; else what differs, and exit 1. */
 #include "vsmd3200.h"
 
 #include <stdio.h>
@@ -489,6 +489,93 @@ static void two_controllers(struct lent *l)
     a_holder_that_is_none(l, VSMD_CONTROLLER_SECOND);
 }
 
+/* The small drive counted by cylinder, with its heads on cylinder 0, and a read of two sectors. */
+static void lay_by_cylinder(struct lent *l)
+{
+    vsmd_record_make(l->record0, 10, 4, 64, 0, 2, 2, 1, 0);
+    l->record0[VSMD_RECORD_AT_ORDER] = VSMD_ORDER_BY_CYLINDER;
+    memcpy(l->host + BLOCK0, two_sectors, sizeof two_sectors);
+    l->host[BLOCK0 + 1] = 0x10;
+}
+
+/* Logical 7 is cylinder 1, head 0, sector 3, place 15; the sector after it is on cylinder 2 under the same head, place 24. */
+static void a_read_by_cylinder(struct lent *l)
+{
+    struct lent wanted;
+    lay_by_cylinder(l);
+    wanted = *l;
+    expect_number("the answer of a read by cylinder", run_with(l, RECORD, RECORD, 16), VSMD_DONE);
+    ended(&wanted, 0x80, 0x00, 0, 2, 2);
+    memcpy(wanted.host + DATA, wanted.image0 + 15 * 64, 64);
+    memcpy(wanted.host + DATA + 64, wanted.image0 + 24 * 64, 64);
+    wanted.record0[VSMD_RECORD_AT_CYLINDER + 1] = 2;
+    expect_lent(l, &wanted);
+}
+
+/* Cylinder 0, head 1, sector 3 is place 7, and the sector after it is on cylinder 1, place 16. From sector 0 of that track there are 40
+ * sectors to the end of the volume, where by head there would be 76. */
+static void a_physical_start_by_cylinder(struct lent *l)
+{
+    struct lent wanted;
+    lay_by_cylinder(l);
+    l->host[BLOCK0 + 1] = 0x00;
+    l->host[BLOCK0 + 6] = 1;
+    l->host[BLOCK0 + 7] = 3;
+    wanted = *l;
+    expect_number("the answer of a physical read by cylinder", run_with(l, RECORD, RECORD, 16), VSMD_DONE);
+    ended(&wanted, 0x80, 0x00, 0, 2, 1);
+    memcpy(wanted.host + DATA, wanted.image0 + 7 * 64, 64);
+    memcpy(wanted.host + DATA + 64, wanted.image0 + 16 * 64, 64);
+    wanted.record0[VSMD_RECORD_AT_CYLINDER + 1] = 1;
+    expect_lent(l, &wanted);
+    l->host[BLOCK0 + 7] = 0;
+    l->host[BLOCK0 + 9] = 41;
+    wanted = *l;
+    expect_number("the answer of 41 sectors", run_with(l, RECORD, RECORD, 16), VSMD_BLOCK_FAILED);
+    ended(&wanted, 0x82, 0x16, VSMD_SECTOR_OUTSIDE, 0, 0);
+    expect_lent(l, &wanted);
+    /* memory has no room for 40 sectors, but the volume has them */
+    l->host[BLOCK0 + 9] = 40;
+    expect_number("the answer of 40 sectors", run_with(l, RECORD, RECORD, 16), VSMD_BLOCK_FAILED);
+    expect_number("why it failed", l->outcome[VSMD_OUTCOME_AT_FAILED], VSMD_DATA_MISPLACED);
+}
+
+/* A number that is no order's: not initialized, and the record as it came, until an initialize mends it. The UIB's attribute says the
+ * order; all other bits of its byte are set where it is clear, and clear where it is set. */
+static void orders_initialized(struct lent *l)
+{
+    struct lent wanted;
+    unsigned order;
+    for (order = 0; order < 256; order++) {
+        l->record0[VSMD_RECORD_AT_ORDER] = (uint8_t)order;
+        expect_number("whether it says initialized", (unsigned long)vsmd_record_says_initialized(l->record0), order <= 1);
+    }
+    lay_restore(l, 0x00);
+    wanted = *l;
+    expect_number("the answer with order 255", run_with(l, RECORD, RECORD, 16), VSMD_BLOCK_FAILED);
+    ended(&wanted, 0x82, 0x40, VSMD_NOT_INITIALIZED, 0, 0);
+    expect_lent(l, &wanted);
+    for (order = VSMD_ORDER_BY_HEAD; order <= VSMD_ORDER_BY_CYLINDER; order++) {
+        memcpy(l->host + BLOCK0, initialize, sizeof initialize);
+        l->host[BLOCK0 + 1] = 0x00;
+        memcpy(l->host + UIB, uib, sizeof uib);
+        l->host[UIB + 14] = order == VSMD_ORDER_BY_HEAD ? 0x04 : 0xFB;
+        wanted = *l;
+        expect_number("the answer of the initialize", run_with(l, RECORD, RECORD, 16), VSMD_DONE);
+        ended(&wanted, 0x80, 0x00, 0, 0, 0);
+        wanted.record0[VSMD_RECORD_AT_CYLINDER + 1] = 0;
+        wanted.record0[VSMD_RECORD_AT_ORDER] = (uint8_t)order;
+        expect_lent(l, &wanted);
+    }
+}
+
+static void by_cylinder(struct lent *l)
+{
+    a_read_by_cylinder(l);
+    a_physical_start_by_cylinder(l);
+    orders_initialized(l);
+}
+
 /* 32 pairs on 22 cylinders leave two tracks, for which there is no room in the table. */
 static void a_full_table(struct lent *l)
 {
@@ -537,11 +624,12 @@ int main(void)
     pairs_told(&l);
     the_table_is_cleared(&l);
     two_controllers(&l);
+    by_cylinder(&l);
     a_full_table(&l);
     upgrades();
     if (wrong)
         return 1;
-    printf("two_sector_read: the session example, the refusals, the inspection, a spare track and a drive of two controllers through C are "
-           "as the papers have them\n");
+    printf("two_sector_read: the session example, the refusals, the inspection, a spare track, a drive of two controllers and one by "
+           "cylinder through C are as the papers have them\n");
     return 0;
 }

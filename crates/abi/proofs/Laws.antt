@@ -1,16 +1,17 @@
 -- The layouts have the lengths that they say, and a record that was stored reads back as itself, its table with it.
 -- Stored from the first byte on, the layout's bytes stand at the head of the buffer, and each number is put together from its own.
 use Prim.Native.Nat.{ℕ, zero, suc, _+_, _*_, _/_, _%_, _^_, _≤_, _<_, min}
-use mathlib.Core.Bool.{Bool, true, false}
+use mathlib.Core.Bool.{Bool, true, false, not, _&&_}
 use mathlib.Core.List.{List, [], _∷_, _++_}
 use mathlib.Core.Logic.{by-cases}
 use mathlib.Core.Path.{_≡_, refl, sym, _∙_, ap}
 use native.Mathlib.Omega.{arith}
+use lib.Dec.{eqb, leb}
 use lib.ListN.{drop, getD, length, length-drop, replicate, take-append-drop}
 use lib.Seq.{ext-getD, getD-drop, getD-take, length-sets, length-take-le}
 use Rattle.wire.specs.Words.{word}
 use Rattle.geometry.specs.declared.Geometry.{Geometry}
-use Rattle.geometry.specs.Drive.{B, C, S}
+use Rattle.geometry.specs.Drive.{B, C, S, byHead}
 use Rattle.geometry.proofs.Same.{geometry-is}
 use Rattle.unit.proofs.Decided.{record-is}
 use Rattle.unit.proofs.Holders.{holder-back}
@@ -19,7 +20,7 @@ use Rattle.unit.specs.declared.Holder.the-variants.{Nobody, TheFirst, TheSecond
 use Rattle.unit.specs.Standing.{UnitRecord, byValue, cylinder, geometry, holder, initialized, noTracks, pairs, table, unitOf}
 use Rattle.board.specs.Chain.{Ending}
 use Rattle.abi.specs.Calls.{recordLeft, standsIn?}
-use Rattle.abi.specs.Layouts.{endingBytes, geometryBytes, holderIn, openingBytes, outcomeLength, pairsIn, recordBytes, recordIn, recordLength, saysInitialized, trackBytes, tracksIn, wordsFrom}
+use Rattle.abi.specs.Layouts.{endingBytes, geometryBytes, holderIn, openingBytes, orderByte, outcomeLength, pairsIn, recordBytes, recordIn, recordLength, saysInitialized, trackBytes, tracksIn, wordsFrom}
 use Rattle.abi.proofs.Left.{left-anew, left-as-it-came, same-tracks}
 use Rattle.abi.proofs.Tracks.{at-the-head, length-tracks, length-words, past-written, tracks-back, words-past}
 use Rattle.spares.specs.Lands.{BlankPast, counted}
@@ -53,22 +54,34 @@ pub record Narrow (u : UnitRecord) : Type 0 where
 two-back : (n : ℕ) → n < 65536 → (0 * 256 + n / 256 % 256) * 256 + n % 256 ≡ n
 two-back n fits = omega arith
 
--- Flag and holder are read back, each whatever the other is.
-module _ (g : Geometry) (y : ℕ) (rest : List ℕ) where
-  abbrev headed : Bool → Holder → List ℕ
-  headed initialized h = openingBytes initialized ++ geometryBytes g ++ twoBytes y ++ (0x00 ∷ holderNumber h ∷ []) ++ rest
+-- The bytes of orders and of holders are those that a record may have.
+order-low : (by : Bool) → leb (orderByte by) 1 ≡ true
+order-low true = refl
+order-low false = refl
 
-  opening-back : (initialized : Bool) (h : Holder) → saysInitialized (headed initialized h) ≡ initialized
-  unfolding word
-  opening-back true Nobody = refl
-  opening-back true TheFirst = refl
-  opening-back true TheSecond = refl
-  opening-back false h = refl
+order-back : (by : Bool) → not (eqb (orderByte by) 1) ≡ by
+order-back true = refl
+order-back false = refl
 
-  holder-read-back : (initialized : Bool) (h : Holder) → holderIn (headed initialized h) ≡ h
+holder-low : (h : Holder) → leb (holderNumber h) 2 ≡ true
+holder-low Nobody = refl
+holder-low TheFirst = refl
+holder-low TheSecond = refl
+
+-- Flag, order and holder are read back, each whatever the others are.
+module _ (g : Geometry) (y : ℕ) (rest : List ℕ) (by : Bool) (h : Holder) where
+  abbrev headed : Bool → List ℕ
+  headed initialized = openingBytes initialized ++ geometryBytes g ++ twoBytes y ++ (orderByte by ∷ holderNumber h ∷ []) ++ rest
+
+  opening-back : (initialized : Bool) → saysInitialized (headed initialized) ≡ initialized
   unfolding word
-  holder-read-back true h = holder-back h
-  holder-read-back false h = holder-back h
+  opening-back true = ap (λ (x : Bool). x && leb (holderNumber h) 2) (order-low by) ∙ holder-low h
+  opening-back false = refl
+
+  holder-read-back : (initialized : Bool) → holderIn (headed initialized) ≡ h
+  unfolding word
+  holder-read-back true = holder-back h
+  holder-read-back false = holder-back h
 
 pub zeros : (n i : ℕ) → _≡_ {A = ℕ} (getD (replicate n 0) i 0) 0
 zeros zero i = refl
@@ -112,14 +125,14 @@ module _ (u : UnitRecord) (n : Narrow u) (blank : BlankPast (pairs u) (table u))
       let g = geometry u in
       let ts = counted (pairs u) (table u) in
       let tracks = trackBytes ts in
-      let opening = openingBytes (initialized u) ++ geometryBytes g ++ twoBytes (cylinder u) ++ (0x00 ∷ holderNumber (holder u) ∷ []) ++ twoBytes (pairs u) in
+      let opening = openingBytes (initialized u) ++ geometryBytes g ++ twoBytes (cylinder u) ++ (orderByte (byHead g) ∷ holderNumber (holder u) ∷ []) ++ twoBytes (pairs u) in
       let after = twoBytes (pairs u) ++ tracks ++ rest in
       let many = pairs-count u (blank .long) in
       reads-as (recordBytes u ++ rest) u
-      (record-is _ (byValue u) (opening-back g (cylinder u) after (initialized u) (holder u))
-      (geometry-is _ g (two-back (C g) (n .few-cylinders)) (two-back (S g) (n .few-sectors)) (two-back (B g) (n .few-bytes)) refl refl)
+      (record-is _ (byValue u) (opening-back g (cylinder u) after (byHead g) (holder u) (initialized u))
+      (geometry-is _ g (two-back (C g) (n .few-cylinders)) (two-back (S g) (n .few-sectors)) (two-back (B g) (n .few-bytes)) refl refl (order-back (byHead g)))
       (two-back (cylinder u) (n .low-cylinder)) (two-back (pairs u) (n .few-pairs))
-      (holder-read-back g (cylinder u) after (initialized u) (holder u)))
+      (holder-read-back g (cylinder u) after (byHead g) (holder u) (initialized u)))
       (words-past opening (tracks ++ rest) 0 (2 * min (pairs u) 32) ∙
       rw many at
       (tracks-back ts rest (λ i less. rw (getD-take (2 * min (pairs u) 32) (table u) i 0 (omega arith)) (n .low-tracks i))))

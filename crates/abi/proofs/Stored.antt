@@ -30,13 +30,13 @@ unfolding written stored
 geometry-stored bytes c s b v w = refl
 
 pub record-stored :
-    (bytes : List ℕ) (i : Bool) (g : Geometry) (y h n : ℕ) (ts : List ℕ) →
+    (bytes : List ℕ) (i : Bool) (g : Geometry) (y o h n : ℕ) (ts : List ℕ) →
     written
-    (with16 (written (with16 (written (written bytes 0 (openingBytes i)) 4 (geometryBytes g)) 14 y) 16 (0x00 ∷ h ∷ [])) 18 n)
+    (with16 (written (with16 (written (written bytes 0 (openingBytes i)) 4 (geometryBytes g)) 14 y) 16 (o ∷ h ∷ [])) 18 n)
     20 (trackBytes ts)
-    ≡ written bytes 0 (openingBytes i ++ geometryBytes g ++ twoBytes y ++ (0x00 ∷ h ∷ []) ++ twoBytes n ++ trackBytes ts)
+    ≡ written bytes 0 (openingBytes i ++ geometryBytes g ++ twoBytes y ++ (o ∷ h ∷ []) ++ twoBytes n ++ trackBytes ts)
 unfolding written stored
-record-stored bytes i g y h n ts = refl
+record-stored bytes i g y o h n ts = refl
 
 -- An outcome, in the same way.
 pub outcome-stored :

@@ -12,12 +12,12 @@
 --   10, 11    volume 0: start head, heads               8..11  blocks run
 --   12, 13    volume 1: start head, heads              12..15  sectors moved
 --   14, 15    the cylinder that the heads stand on
---   16        the order of tracks, 00
---   17        the holder: 00 nobody, 01 the first controller, 02 the second
+--   16        the order of tracks: 00 by head, 01 by cylinder, any other not initialized
+--   17        the holder: 00 nobody, 01 the first controller, 02 the second, any other not initialized
 --   18, 19    the pairs that count
 --   20..275   32 pairs of tracks, bad and spare: cylinder (2), head, 00
 use Prim.Native.Nat.{ℕ, zero, suc, _+_, _*_, min}
-use mathlib.Core.Bool.{Bool, cond, _&&_}
+use mathlib.Core.Bool.{Bool, cond, not, _&&_}
 use mathlib.Core.List.{List, [], _∷_, _++_}
 use lib.Dec.{eqb, leb}
 use lib.ListN.{getD}
@@ -25,7 +25,7 @@ use Rattle.wire.specs.Words.{be16, be32, fourBytes}
 use Rattle.geometry.specs.declared.Geometry.{Geometry}
 use Rattle.geometry.specs.declared.Volume.{Volume}
 use Rattle.geometry.specs.declared.VolumeNumber.the-variants.{Zero, One}
-use Rattle.geometry.specs.Drive.{B, C, N, S, geometryOf, start, volume, volumeOf}
+use Rattle.geometry.specs.Drive.{B, C, N, S, byHead, geometryOf, start, volume, volumeOf, withIncrement}
 use Rattle.unit.specs.declared.Holder.{Holder}
 use Rattle.unit.specs.declared.Holder.the-variants.{Nobody}
 use Rattle.unit.specs.Standing.{UnitRecord, cylinder, geometry, heldBy, holder, initialized, noTracks, pairs, table}
@@ -42,11 +42,11 @@ recordLength = 276
 abbrev pub outcomeLength : ℕ
 outcomeLength = 16
 
--- A record says that its unit is initialized where it opens with 02 01 01 14: this version, the flag, and this length; and where the order is 00
--- and the holder at most 02. With any other bytes it does not, so that cleared memory, erased flash and a record of another version all count as
+-- A record says that its unit is initialized where it opens with 02 01 01 14: this version, the flag, and this length; and where the order is at most
+-- 01 and the holder at most 02. With any other bytes it does not, so that cleared memory, erased flash and a record of another version all count as
 -- not initialized.
 abbrev pub saysInitialized : List ℕ → Bool
-saysInitialized bytes = eqb (be32 bytes 0) 0x02010114 && (eqb (getD bytes 16 0) 0 && leb (getD bytes 17 0) 2)
+saysInitialized bytes = eqb (be32 bytes 0) 0x02010114 && (leb (getD bytes 16 0) 1 && leb (getD bytes 17 0) 2)
 
 -- Who holds the drive (02, K10). The byte is believed where version and length are those of this layout, whatever the flag says; any other number
 -- is nobody's.
@@ -56,9 +56,13 @@ holderIn bytes = cond (eqb (getD bytes 0 0) 2 && eqb (be16 bytes 2) 0x0114) (hol
 abbrev pub volumeIn : List ℕ → ℕ → Volume
 volumeIn bytes at = volumeOf (getD bytes at 0) (getD bytes (at + 1) 0)
 
+-- The order (02, K4): 01 is by cylinder, and any other by head. With one that is neither 00 nor 01 the unit is not initialized (`saysInitialized`).
+abbrev pub byHeadIn : List ℕ → Bool
+byHeadIn bytes = not (eqb (getD bytes 16 0) 1)
+
 abbrev pub geometryIn : List ℕ → Geometry
 geometryIn bytes =
-    geometryOf (be16 bytes 4) (be16 bytes 6) (be16 bytes 8) (volumeIn bytes 10) (volumeIn bytes 12)
+    withIncrement (byHeadIn bytes) (geometryOf (be16 bytes 4) (be16 bytes 6) (be16 bytes 8) (volumeIn bytes 10) (volumeIn bytes 12))
 
 abbrev pub pairsIn : List ℕ → ℕ
 pairsIn bytes = be16 bytes 18
@@ -80,9 +84,16 @@ recordIn bytes =
 abbrev pub volumeBytes : Volume → List ℕ
 volumeBytes v = start v ∷ N v ∷ []
 
+-- A geometry but for its order, which stands apart.
 abbrev pub geometryBytes : Geometry → List ℕ
 geometryBytes g =
     twoBytes (C g) ++ twoBytes (S g) ++ twoBytes (B g) ++ volumeBytes (volume g Zero) ++ volumeBytes (volume g One)
+
+abbrev pub orderByte : (byHead : Bool) → ℕ
+orderByte by = cond by 0x00 0x01
+
+abbrev pub orderAndHolder : UnitRecord → List ℕ
+orderAndHolder u = orderByte (byHead (geometry u)) ∷ holderNumber (holder u) ∷ []
 
 abbrev pub openingBytes : Bool → List ℕ
 openingBytes initialized = 0x02 ∷ cond initialized 0x01 0x00 ∷ 0x01 ∷ 0x14 ∷ []
@@ -94,7 +105,7 @@ trackBytes (t ∷ ts) = fourBytes t ++ trackBytes ts
 -- The bytes of a record, to the last pair that counts. Those past it are not stored: an initialize, after which none counts, leaves them all.
 abbrev pub recordBytes : UnitRecord → List ℕ
 recordBytes u =
-    openingBytes (initialized u) ++ geometryBytes (geometry u) ++ twoBytes (cylinder u) ++ (0x00 ∷ holderNumber (holder u) ∷ []) ++ twoBytes (pairs u) ++
+    openingBytes (initialized u) ++ geometryBytes (geometry u) ++ twoBytes (cylinder u) ++ orderAndHolder u ++ twoBytes (pairs u) ++
     trackBytes (counted (pairs u) (table u))
 
 -- The bytes of an outcome.

@@ -10,7 +10,8 @@ ghost use mathlib.Core.Path.{_≡_};
 ghost use Prim.Native.Nat.{_+_, _*_, _≤_, min};
 ghost use lib.ListN.{length};
 ghost use Rattle.abi.specs.Calls.{StandsIn, recordLeft};
-ghost use Rattle.abi.specs.Layouts.{geometryBytes, geometryIn, holderIn, openingBytes, outcomeBytes, recordBytes, recordIn, saysInitialized, trackBytes, volumeBytes, volumeIn, wordsFrom};
+ghost use Rattle.abi.specs.Layouts.{geometryBytes, geometryIn, holderIn, openingBytes, orderAndHolder, orderByte, outcomeBytes, recordBytes, recordIn, saysInitialized, trackBytes, volumeBytes, volumeIn, wordsFrom};
+ghost use Rattle.unit.specs.Made.{bare};
 ghost use Rattle.unit.specs.Standing.{byValue, unitOf};
 ghost use Rattle.wire.specs.Promise.{Says};
 ghost use Rattle.spares.specs.Lands.{counted};
@@ -24,7 +25,7 @@ fn volume(bytes: &[u8], at: usize) -> Volume
 }
 
 fn geometry(bytes: &[u8]) -> Geometry
-    requires { ⌜ 16 ≤ length (now bytes) ⌝ }
+    requires { ⌜ 17 ≤ length (now bytes) ⌝ }
     ensures { λ r. ⌜ r ≡ geometryIn (now (bytes .entry)) ⌝ }
 {
     Geometry::new(
@@ -33,7 +34,7 @@ fn geometry(bytes: &[u8]) -> Geometry
         wire::be16(bytes, 8),
         volume(bytes, 10),
         volume(bytes, 12),
-    )
+    ).with_increment(bytes[16] != 1)
 }
 
 // Whether the record in some bytes says that its unit is initialized.
@@ -44,7 +45,7 @@ fn says_initialized(bytes: &[u8]) -> bool
     if wire::be32(bytes, 0) != 0x0201_0114 {
         return false;
     }
-    if bytes[16] != 0 {
+    if 1 < bytes[16] {
         return false;
     }
     bytes[17] <= 2
@@ -140,6 +141,13 @@ fn flag(initialized: bool) -> u8
     if initialized { 0x01 } else { 0x00 }
 }
 
+// The byte of an order.
+fn order_byte(by_head: bool) -> u8
+    ensures { λ r. ⌜ r ≡ orderByte «by_head» ⌝ }
+{
+    if by_head { 0x00 } else { 0x01 }
+}
+
 fn put_opening(bytes: &mut [u8], initialized: bool)
     requires { ⌜ 16 ≤ length (now bytes) ⌝ }
     ensures { λ _. ⌜ now (bytes .exit) ≡ written (now (bytes .entry)) 0 (openingBytes initialized) ⌝ }
@@ -157,6 +165,14 @@ fn put_geometry(bytes: &mut [u8], g: Geometry)
     wire::put16(bytes, 8, g.bytes_a_sector());
     put_volume(bytes, 10, g.volume(VolumeNumber::Zero));
     put_volume(bytes, 12, g.volume(VolumeNumber::One));
+}
+
+fn put_order_and_holder(bytes: &mut [u8], u: Record)
+    requires { ⌜ 18 ≤ length (now bytes) ⌝ }
+    ensures { λ _. ⌜ now (bytes .exit) ≡ written (now (bytes .entry)) 16 (orderAndHolder (bare u)) ⌝ }
+{
+    let order = order_byte(u.geometry().by_head());
+    put_two(bytes, 16, order, u.holder().number());
 }
 
 // Stores the tracks of the pairs that count, and no others: bytes past them stay as they are.
@@ -181,7 +197,7 @@ fn put_record(bytes: &mut [u8], u: Record, table: &[u32; 64])
     put_opening(bytes, u.initialized());
     put_geometry(bytes, u.geometry());
     wire::put16(bytes, 14, u.cylinder());
-    put_two(bytes, 16, 0x00, u.holder().number());
+    put_order_and_holder(bytes, u);
     wire::put16(bytes, 18, u.pairs());
     put_tracks(bytes, table, u.pairs());
 }

@@ -1,4 +1,5 @@
--- Counting by sector, head, cylinder, over plain numbers: (c * H + h) * S + s, on tracks of S sectors and cylinders of H heads.
+-- Counting by sector, head, cylinder, over plain numbers: (c * H + h) * S + s, on tracks of S sectors and cylinders of H heads. An order that
+-- exchanges the two has its slower number for c and its quicker one for h.
 -- Each law goes by the last digit twice: first the sector off the track, then the head off the cylinder.
 use Prim.Native.Nat.{ℕ, _+_, _*_, _/_, _%_, _<_}
 use mathlib.Core.Path.{_≡_, sym, ap, _∙_}

@@ -4,7 +4,7 @@ use Prim.Native.Nat.{ℕ, _+_, _-_, _*_, _/_, _%_, _≤_, _<_}
 use mathlib.Core.Logic.{by-cases, if-neg, if-pos, ite}
 use mathlib.Core.Path.{_≡_, refl, sym, ap, _∙_}
 use native.Mathlib.Decide.{decLt}
-use native.Mathlib.Nat.{add-assoc, add-mul, add-sub-cancel-left, add-zero, mul-le-mul, mul-le-mul-left, mul-le-mul-right}
+use native.Mathlib.Nat.{add-mul, add-sub-cancel-left, mul-le-mul, mul-le-mul-left, mul-le-mul-right}
 use native.Mathlib.Omega.{arith}
 use lib.Arith.{digits-div}
 use Rattle.geometry.specs.declared.Address.{Address}
@@ -12,25 +12,18 @@ use Rattle.geometry.specs.declared.Geometry.{Geometry}
 use Rattle.geometry.specs.declared.VolumeNumber.{VolumeNumber}
 use Rattle.geometry.specs.declared.VolumeNumber.the-variants.{Zero, One}
 use Rattle.geometry.specs.Default.{table11}
-use Rattle.geometry.specs.Drive.{B, C, N, S, driveHeads, driveSectors, end, marksAt, need, start, volume, volumeSectors}
+use Rattle.geometry.specs.Drive.{B, C, N, S, byHead, driveHeads, driveSectors, marksAt, need, start, volume, volumeSectors}
 use Rattle.geometry.specs.Drive.Inside.{driveSectors-is, marksAt-is, need-is, volumeSectors-is}
 use Rattle.geometry.specs.Limits.{Has, Present, VolumesWithin, Within}
 use Rattle.geometry.specs.Following.{next, InVolume}
+use Rattle.geometry.specs.Orders.{ordered}
 use Rattle.geometry.specs.SectorBytes.{SectorByte}
-use Rattle.geometry.specs.Sectors.{OnDrive, address, addressOf, firstByte, markByte, numberOf, placeOf}
+use Rattle.geometry.specs.Sectors.{OnDrive, address, addressOf, firstByte, markByte, numberOf, placeOf, tracksEach}
 use Rattle.geometry.specs.SectorBytes.SectorByte.{data-byte, mark-byte}
 use Rattle.geometry.specs.Sectors.Inside.{addressOf-is, firstByte-is, markByte-is, numberOf-is, placeOf-is}
 use Rattle.geometry.proofs.Counting.{Digits, counted-back, counted-below, counted-once, cylinder-back, digits-of, head-back, sector-back}
 use Rattle.geometry.proofs.Ends.{end-present, end-reached, heads-of-within, heads-reached}
-
-next-is :
-    (g : Geometry) (v : VolumeNumber) (a : Address) →
-    next g v a ≡
-    ite (decLt (a .sector + 1) (S g)) (address (a .cylinder) (a .head) (a .sector + 1))
-    (ite (decLt (a .head + 1) (end (volume g v))) (address (a .cylinder) (a .head + 1) 0)
-    (address (a .cylinder + 1) (start (volume g v)) 0))
-unfolding next
-next-is g v a = refl
+use Rattle.geometry.proofs.Orders.{ordered-back, ordered-below, ordered-product}
 
 -- ---- over the whole drive
 
@@ -93,87 +86,112 @@ module _ (g : Geometry) (v : VolumeNumber) where
   abbrev Nv : ℕ
   Nv = N (volume g v)
 
-  -- The number that a physical address has leads back to that address.
-  pub number-leads-back :
-      (c h s : ℕ) → h < Nv → s < S g → addressOf g v (numberOf g v c h s) ≡ address c (start (volume g v) + h) s
-  number-leads-back c h s h< s< =
-      rw (
-        numberOf-is,
-        addressOf-is,
-        cylinder-back Nv (S g) c h s h< s<,
-        head-back Nv (S g) c h s h< s<,
-        sector-back Nv (S g) c h s s<,
-      )
+  -- The radices: how often the slower of cylinder and head goes on, and the quicker.
+  abbrev pub most : ℕ
+  most = ordered (byHead g) (C g, Nv) .0
 
-  leads-to :
-      (m c h s : ℕ) → h < Nv → s < S g → m ≡ (c * Nv + h) * S g + s → addressOf g v m ≡ address c (start (volume g v) + h) s
-  leads-to m c h s h< s< is = rw (is ∙ sym (numberOf-is g v c h s)) (number-leads-back c h s h< s<)
+  abbrev each : ℕ
+  each = tracksEach g v
 
-  pub number-inside : (c h s : ℕ) → InVolume g v c h s → numberOf g v c h s < volumeSectors g v
-  number-inside c h s in-it =
-      rw (numberOf-is, volumeSectors-is)
-      (counted-below Nv (S g) (C g) c h s (in-it .cylinder) (in-it .head) (in-it .sector))
+  all-counted : volumeSectors g v ≡ most * each * S g
+  all-counted = volumeSectors-is g v ∙ ap (λ (x : ℕ). x * S g) (sym (ordered-product (byHead g) (C g, Nv)))
+
+  -- The address of a sector on the track that slower and quicker name.
+  abbrev counted : ℕ × ℕ → ℕ → Address
+  counted steps s = address (ordered (byHead g) steps .0) (start (volume g v) + ordered (byHead g) steps .1) s
+
+  leads-to : (m a b s : ℕ) → b < each → s < S g → m ≡ (a * each + b) * S g + s → addressOf g v m ≡ counted (a, b) s
+  leads-to m a b s b< s< is =
+      rw (is, addressOf-is, cylinder-back each (S g) a b s b< s<, head-back each (S g) a b s b< s<, sector-back each (S g) a b s s<)
+
+  module _ (c h s : ℕ) (in-it : InVolume g v c h s) where
+    abbrev steps : ℕ × ℕ
+    steps = ordered (byHead g) (c, h)
+
+    below : (steps .0 < most) × (steps .1 < each)
+    below = ordered-below (byHead g) (c, h) (C g, Nv) (in-it .cylinder) (in-it .head)
+
+    -- The number that a physical address has leads back to that address,
+    pub number-leads-back : addressOf g v (numberOf g v c h s) ≡ address c (start (volume g v) + h) s
+    number-leads-back =
+        leads-to (numberOf g v c h s) (steps .0) (steps .1) s (below .1) (in-it .sector) (numberOf-is g v c h s)
+        ∙ ap (λ (p : ℕ × ℕ). address (p .0) (start (volume g v) + p .1) s) (ordered-back (byHead g) (c, h))
+
+    -- and is one of the volume's.
+    pub number-inside : numberOf g v c h s < volumeSectors g v
+    number-inside =
+        rw (numberOf-is, all-counted) (counted-below each (S g) most (steps .0) (steps .1) s (below .0) (below .1) (in-it .sector))
 
   module _ (n : ℕ) (inside : n < volumeSectors g v) where
-    abbrev cyl : ℕ
-    cyl = n / (S g * Nv)
+    abbrev slow : ℕ
+    slow = n / (S g * each)
 
-    abbrev hd : ℕ
-    hd = n / S g % Nv
+    abbrev quick : ℕ
+    quick = n / S g % each
 
     abbrev sec : ℕ
     sec = n % S g
 
-    digits : Digits Nv (S g) (C g) n
-    digits = digits-of Nv (S g) (C g) n (rw volumeSectors-is at inside)
+    pub digits : Digits each (S g) most n
+    digits = digits-of each (S g) most n (rw all-counted at inside)
 
-    number-of-digits : numberOf g v cyl hd sec ≡ n
-    number-of-digits = numberOf-is g v cyl hd sec ∙ counted-back Nv (S g) n
+    -- Cylinder and head, counted in the volume, are what the volume has.
+    abbrev its-track : ℕ × ℕ
+    its-track = ordered (byHead g) (slow, quick)
+
+    pub in-volume : (its-track .0 < C g) × (its-track .1 < Nv)
+    in-volume =
+        rw (ordered-back (byHead g) (C g, Nv)) at
+        (ordered-below (byHead g) (slow, quick) (ordered (byHead g) (C g, Nv)) (digits .cylinder) (digits .head))
+
+    number-of-digits : numberOf g v (its-track .0) (its-track .1) sec ≡ n
+    number-of-digits =
+        numberOf-is g v (its-track .0) (its-track .1) sec
+        ∙ ap (λ (p : ℕ × ℕ). (p .0 * each + p .1) * S g + sec) (ordered-back (byHead g) (slow, quick))
+        ∙ counted-back each (S g) n
 
     -- A number of a volume leads to an address on the drive.
     pub address-on-drive : OnDrive g (addressOf g v n)
     address-on-drive =
-        rw addressOf-is (omega (arith, digits, end-present (volume g v) (digits .heads), end-reached g v))
+        rw addressOf-is (omega (arith, digits, in-volume, end-present (volume g v) (omega (arith, in-volume)), end-reached g v))
 
     -- It is one of the volume's: its head is one of the volume's heads.
     pub address-in-volume : Has (volume g v) (addressOf g v n .head)
     unfolding Has
-    address-in-volume = rw addressOf-is (omega (arith, digits))
+    address-in-volume = rw addressOf-is (omega (arith, in-volume))
 
     -- The address that a number leads to has that number.
     pub address-leads-back :
         numberOf g v (addressOf g v n .cylinder) (addressOf g v n .head - start (volume g v)) (addressOf g v n .sector) ≡ n
     address-leads-back = rw (addressOf-is, add-sub-cancel-left) number-of-digits
 
-    next-track : (sec + 1 < S g → ⊥) → hd + 1 < Nv → addressOf g v (n + 1) ≡ address cyl (start (volume g v) + hd + 1) 0
-    next-track at-end more =
-        rw add-assoc
-        (leads-to (n + 1) cyl (hd + 1) 0 more (digits .sectors) (omega (arith, digits, counted-back Nv (S g) n)))
+    -- After a track's last sector the quicker of cylinder and head goes on, and after the last of these the slower.
+    next-track :
+        (sec + 1 < S g → ⊥) →
+        addressOf g v (n + 1) ≡ counted (ite (decLt (quick + 1) each) (slow, quick + 1) (slow + 1, 0)) 0
+    next-track at-end =
+        let more = decLt (quick + 1) each in
+        by-cases more
+        (λ q<.
+        leads-to (n + 1) slow (quick + 1) 0 q< (digits .sectors) (omega (arith, digits, counted-back each (S g) n))
+        ∙ ap (λ (p : ℕ × ℕ). counted p 0) (sym (if-pos more q< _ _)))
+        (λ at-last.
+        let full : quick + 1 ≡ each = omega (arith, digits) in
+        leads-to (n + 1) (slow + 1) 0 0 (digits .heads) (digits .sectors)
+        (omega (arith, digits, counted-back each (S g) n, ap (λ (x : ℕ). x * S g) full))
+        ∙ ap (λ (p : ℕ × ℕ). counted p 0) (sym (if-neg more at-last _ _)))
 
-    next-cylinder :
-        (sec + 1 < S g → ⊥) → (hd + 1 < Nv → ⊥) → addressOf g v (n + 1) ≡ address (cyl + 1) (start (volume g v)) 0
-    next-cylinder at-end at-last =
-        let full : hd + 1 ≡ Nv = omega (arith, digits) in
-        leads-to (n + 1) (cyl + 1) 0 0 (digits .heads) (digits .sectors)
-        (omega (arith, digits, counted-back Nv (S g) n, ap (λ (x : ℕ). x * S g) full))
-        ∙ simp add-zero
-
-    -- Consecutive numbers go by sector, head, cylinder.
+    -- Consecutive numbers go in the drive's order.
     pub numbers-consecutive : addressOf g v (n + 1) ≡ next g v (addressOf g v n)
+    unfolding next
     numbers-consecutive =
-        let last = end-present (volume g v) (digits .heads) in
         let on-track = decLt (sec + 1) (S g) in
-        let on-cylinder = decLt (start (volume g v) + hd + 1) (end (volume g v)) in
-        rw (next-is, addressOf-is g v n)
+        rw (addressOf-is g v n, add-sub-cancel-left, ordered-back (byHead g) (slow, quick))
         (by-cases on-track
         (λ s<.
-        leads-to (n + 1) cyl hd (sec + 1) (digits .head) s< (omega (arith, counted-back Nv (S g) n))
+        leads-to (n + 1) slow quick (sec + 1) (digits .head) s< (omega (arith, counted-back each (S g) n))
         ∙ sym (if-pos on-track s< _ _))
-        (λ at-end.
-        by-cases on-cylinder
-        (λ h<. next-track at-end (omega arith) ∙ sym (if-pos on-cylinder h< _ _))
-        (λ at-last. next-cylinder at-end (λ h<. at-last (omega arith)) ∙ sym (if-neg on-cylinder at-last _ _))
-        ∙ sym (if-neg on-track at-end _ _)))
+        (λ at-end. next-track at-end ∙ sym (if-neg on-track at-end _ _)))
 
     -- The rest of a track is consecutive in the volume.
     pub track-numbers :
@@ -181,16 +199,15 @@ module _ (g : Geometry) (v : VolumeNumber) where
         addressOf g v (n + k) ≡
         address (addressOf g v n .cylinder) (addressOf g v n .head) (addressOf g v n .sector + k)
     track-numbers k rest =
-        let back = counted-back Nv (S g) n in
+        let back = counted-back each (S g) n in
         rw (addressOf-is g v n)
-        (leads-to (n + k) cyl hd (sec + k) (digits .head) (rw addressOf-is at rest) (omega arith))
+        (leads-to (n + k) slow quick (sec + k) (digits .head) (rw addressOf-is at rest) (omega arith))
 
     pub track-inside : (k : ℕ) → addressOf g v n .sector + k < S g → n + k < volumeSectors g v
     track-inside k rest =
         let more : sec + k < S g = rw addressOf-is at rest in
-        let is : n + k ≡ numberOf g v cyl hd (sec + k) =
-        omega (arith, numberOf-is g v cyl hd (sec + k), counted-back Nv (S g) n) in
-        rw is (number-inside cyl hd (sec + k) (omega (arith, digits)))
+        let is : n + k ≡ (slow * each + quick) * S g + (sec + k) = omega (arith, counted-back each (S g) n) in
+        rw (is, all-counted) (counted-below each (S g) most slow quick (sec + k) (digits .cylinder) (digits .head) more)
 
     pub track-places :
         (k : ℕ) → addressOf g v n .sector + k < S g → placeOf g (addressOf g v (n + k)) ≡ placeOf g (addressOf g v n) + k

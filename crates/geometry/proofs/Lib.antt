@@ -3,5 +3,6 @@ pub mod Counting
 pub mod Decided
 pub mod Ends
 pub mod Laws
+pub mod Orders
 pub mod Outcomes
 pub mod Same

@@ -4,6 +4,7 @@ use mathlib.Core.Path.{_∙_, sym}
 use Rattle.wire.specs.Promise.{OneResult}
 use Rattle.wire.proofs.Promises.{says-once}
 use Rattle.geometry.proofs.Geometry.address.Reads as address
+use Rattle.geometry.proofs.Geometry.by_head.Reads as by-head
 use Rattle.geometry.proofs.Geometry.bytes_a_sector.Reads as bytes-a-sector
 use Rattle.geometry.proofs.Geometry.cylinders.Reads as cylinders
 use Rattle.geometry.proofs.Geometry.default.Reads as default
@@ -20,6 +21,7 @@ use Rattle.geometry.proofs.Geometry.sector.Reads as sector
 use Rattle.geometry.proofs.Geometry.sectors_a_track.Reads as sectors-a-track
 use Rattle.geometry.proofs.Geometry.volume.Reads as volume
 use Rattle.geometry.proofs.Geometry.volume_sectors.Reads as volume-sectors
+use Rattle.geometry.proofs.Geometry.with_increment.Reads as with-increment
 use Rattle.geometry.proofs.Volume.heads.Reads as volume-heads
 use Rattle.geometry.proofs.Volume.is_present.Reads as volume-is-present
 use Rattle.geometry.proofs.Volume.new.Reads as volume-new
@@ -28,6 +30,9 @@ use Rattle.geometry.proofs.Volume.start_head.Reads as volume-start-head
 
 address-once : OneResult address.Post
 address-once κ a x y e f p q = p ∙ sym q
+
+by-head-once : OneResult by-head.Post
+by-head-once κ a x y e f p q = p ∙ sym q
 
 bytes-a-sector-once : OneResult bytes-a-sector.Post
 bytes-a-sector-once κ a x y e f p q = p ∙ sym q
@@ -76,6 +81,9 @@ volume-once κ a x y e f p q = p ∙ sym q
 
 volume-sectors-once : OneResult volume-sectors.Post
 volume-sectors-once κ a x y e f p q = p ∙ sym q
+
+with-increment-once : OneResult with-increment.Post
+with-increment-once κ a x y e f p q = p ∙ sym q
 
 volume-heads-once : OneResult volume-heads.Post
 volume-heads-once κ a x y e f p q = p ∙ sym q

@@ -1,6 +1,7 @@
 -- The shape of a drive (01, Geometry), in the paper's letters but for H, which is driveHeads: in a contract H is taken.
 -- Ends and sizes are shut: other crates cite the laws of proofs/Laws, and Inside, the module below, opens them for this crate.
 use Prim.Native.Nat.{ℕ, _+_, _*_, max}
+use mathlib.Core.Bool.{Bool, true}
 use mathlib.Core.Logic.{ite}
 use native.Mathlib.Decide.{decLt}
 use Rattle.geometry.specs.declared.Geometry.{Geometry}
@@ -13,10 +14,11 @@ pub mod Inside
 abbrev pub volumeOf : ℕ → ℕ → Volume
 volumeOf start heads = record { «start_head» = start; heads = heads }
 
--- A geometry as it came: cylinders, sectors a track, bytes a sector, volume 0, volume 1.
+-- A geometry of cylinders, sectors a track, bytes a sector, volume 0 and volume 1, judged or not. Its tracks go by head, the "single order" of 01 (02,
+-- K4), unless `withIncrement` says otherwise.
 abbrev pub geometryOf : ℕ → ℕ → ℕ → Volume → Volume → Geometry
 geometryOf c s b v0 v1 =
-    record { cylinders = c; «sectors_a_track» = s; «bytes_a_sector» = b; volume0 = v0; volume1 = v1 }
+    record { cylinders = c; «sectors_a_track» = s; «bytes_a_sector» = b; volume0 = v0; volume1 = v1; «by_head» = true }
 
 -- "cylinders C", "sectors a track S", "bytes a sector B"
 abbrev pub C : Geometry → ℕ
@@ -27,6 +29,14 @@ S g = g .«sectors_a_track»
 
 abbrev pub B : Geometry → ℕ
 B g = g .«bytes_a_sector»
+
+-- "the UIB attribute for increment by head" (02, K4), and the same drive with it on or off.
+abbrev pub byHead : Geometry → Bool
+byHead g = g .«by_head»
+
+abbrev pub withIncrement : (byHead : Bool) → Geometry → Geometry
+withIncrement by g =
+    record { cylinders = C g; «sectors_a_track» = S g; «bytes_a_sector» = B g; volume0 = g .volume0; volume1 = g .volume1; «by_head» = by }
 
 -- "two volumes a unit" (01, What the board answers for)
 abbrev pub volume : Geometry → VolumeNumber → Volume

@@ -4,7 +4,7 @@
 ghost use mathlib.Core.Path.{_≡_};
 ghost use Prim.Native.Nat.{_<_};
 ghost use Rattle.geometry.specs.Default.{table11};
-ghost use Rattle.geometry.specs.Drive.{B, C, N, S, end, geometryOf, start, volume, volumeOf};
+ghost use Rattle.geometry.specs.Drive.{B, C, N, S, byHead, end, geometryOf, start, volume, volumeOf, withIncrement};
 ghost use Rattle.geometry.specs.Limits.{Present};
 ghost use Rattle.wire.specs.Promise.{Says};
 
@@ -24,13 +24,15 @@ pub struct Volume {
     heads: u8,
 }
 
-// A geometry as it stands in a record or came out of a UIB: any numbers, inside the limits or not.
+// A geometry as it stands in a record or came out of a UIB: any numbers, inside the limits or not. Its tracks go by head, the next track having the next
+// head, or by cylinder.
 pub struct Geometry {
     cylinders: u16,
     sectors_a_track: u16,
     bytes_a_sector: u16,
     volume0: Volume,
     volume1: Volume,
+    by_head: bool,
 }
 
 // A sector of the drive. Its head is counted over the whole drive, since 8C and a spare track reach heads that no volume has.
@@ -126,7 +128,7 @@ impl Geometry {
 
     pub const HEADS_MOST: u16 = 64;
 
-    // A geometry of any numbers; `is_within` judges them.
+    // A geometry of any numbers, whose tracks go by head; `is_within` judges them.
     pub fn new(
         cylinders: u16,
         sectors: u16,
@@ -142,6 +144,23 @@ impl Geometry {
             bytes_a_sector: bytes,
             volume0,
             volume1,
+            by_head: true,
+        }
+    }
+
+    // The same drive with the attribute for increment by head on or off.
+    pub fn with_increment(self, by_head: bool) -> Geometry
+        ensures { λ r. ⌜ r ≡ withIncrement «by_head» self ⌝ }
+    {
+        let volume0 = self.volume0;
+        let volume1 = self.volume1;
+        Geometry {
+            cylinders: self.cylinders,
+            sectors_a_track: self.sectors_a_track,
+            bytes_a_sector: self.bytes_a_sector,
+            volume0,
+            volume1,
+            by_head,
         }
     }
 
@@ -179,7 +198,13 @@ impl Geometry {
         }
     }
 
-    // Whether the two hold the same numbers, inside the limits or not.
+    pub fn by_head(self) -> bool
+        ensures { λ r. ⌜ r ≡ byHead self ⌝ }
+    {
+        self.by_head
+    }
+
+    // Whether the two hold the same, inside the limits or not.
     pub fn same(self, other: Geometry) -> bool
         ensures { λ r. ⌜ Says r (self ≡ other) ⌝ }
     {
@@ -195,7 +220,10 @@ impl Geometry {
         if !self.volume0.same(other.volume0) {
             return false;
         }
-        self.volume1.same(other.volume1)
+        if !self.volume1.same(other.volume1) {
+            return false;
+        }
+        self.by_head == other.by_head
     }
 
     // A volume's start head, and its heads, as the wider numbers that sums are made of.

@@ -8,14 +8,29 @@ use crate::Sector;
 use crate::VolumeNumber;
 ghost use mathlib.Core.Path.{_≡_};
 ghost use Prim.Native.Nat.{_+_, _*_};
+ghost use Rattle.geometry.specs.Orders.{ordered};
 ghost use Rattle.geometry.specs.Sectors.{numbered};
 ghost use Rattle.geometry.specs.Answers.{found, placed, sectorAt};
 
-// Sectors counted by sector, head, cylinder, on tracks of `sectors` and cylinders of `heads`.
-fn count(cylinder: u16, heads: u16, head: u16, sectors: u16, sector: u16) -> u64
-    ensures { λ r. ⌜ r ≡ (cylinder * heads + head) * sectors + sector ⌝ }
+// Of what is said of cylinders and of heads, that which goes on slower, and that which goes on quicker; and of the slower and the quicker, what is said of
+// cylinders and of heads.
+fn slower(by_head: bool, cylinders: u16, heads: u16) -> u16
+    ensures { λ r. ⌜ r ≡ ordered «by_head» (cylinders, heads) .0 ⌝ }
 {
-    ((cylinder as u64) * (heads as u64) + (head as u64)) * (sectors as u64) + (sector as u64)
+    if by_head { cylinders } else { heads }
+}
+
+fn quicker(by_head: bool, cylinders: u16, heads: u16) -> u16
+    ensures { λ r. ⌜ r ≡ ordered «by_head» (cylinders, heads) .1 ⌝ }
+{
+    if by_head { heads } else { cylinders }
+}
+
+// Sectors counted on tracks of `sectors`: a slow number goes on once for `each` of a quick one.
+fn count(slow: u16, each: u16, quick: u16, sectors: u16, sector: u16) -> u64
+    ensures { λ r. ⌜ r ≡ (slow * each + quick) * sectors + sector ⌝ }
+{
+    ((slow as u64) * (each as u64) + (quick as u64)) * (sectors as u64) + (sector as u64)
 }
 
 impl Geometry {
@@ -26,14 +41,15 @@ impl Geometry {
         if self.volume_sectors(v) <= number {
             return Found::Outside;
         }
+        let by_head = self.by_head;
         let sectors = self.sectors_a_track as u64;
-        let heads = self.heads_of(v) as u64;
-        let cylinder = (number / (sectors * heads)) as u16;
-        let head = (number / sectors % heads) as u16;
+        let each = quicker(by_head, self.cylinders, self.heads_of(v)) as u64;
+        let slow = (number / (sectors * each)) as u16;
+        let quick = (number / sectors % each) as u16;
         let sector = (number % sectors) as u16;
         Found::At(Address {
-            cylinder,
-            head: self.start_of(v) + head,
+            cylinder: slower(by_head, slow, quick),
+            head: self.start_of(v) + quicker(by_head, slow, quick),
             sector,
         })
     }
@@ -52,7 +68,10 @@ impl Geometry {
         if self.sectors_a_track <= sector {
             return Number::Outside;
         }
-        Number::Is(count(cylinder, heads, head, self.sectors_a_track, sector))
+        let each = quicker(self.by_head, self.cylinders, heads);
+        let slow = slower(self.by_head, cylinder, head);
+        let quick = quicker(self.by_head, cylinder, head);
+        Number::Is(count(slow, each, quick, self.sectors_a_track, sector))
     }
 
     // The place in the image of an address on the drive.

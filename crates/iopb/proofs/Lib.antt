@@ -1,4 +1,5 @@
 pub mod Answers
+pub mod Attributes
 pub mod Locality
 pub mod Lookup
 pub mod Outcomes

@@ -7,7 +7,7 @@ use mathlib.Core.Path.{_≡_, sym, ap, _∙_}
 use native.Mathlib.Omega.{arith}
 use borrow.Author.Tests.{ne-eqb}
 use lib.ListN.{getD, length}
-use Rattle.geometry.specs.Drive.{geometryOf, volumeOf}
+use Rattle.geometry.specs.Drive.{geometryOf, volumeOf, withIncrement}
 use Rattle.request.specs.declared.Shape.{Shape}
 use Rattle.request.specs.declared.Task.{Task}
 use Rattle.wire.proofs.Decided.{inMemory?}
@@ -17,7 +17,7 @@ use Rattle.wire.proofs.Laws.{word-same}
 use Rattle.wire.proofs.Memory.{range-same}
 use Rattle.iopb.specs.declared.Block.{Block}
 use Rattle.iopb.specs.Ask.{shapeAt, taskOf}
-use Rattle.iopb.specs.Layout.{uibAt}
+use Rattle.iopb.specs.Layout.{bit, uibAt}
 use Rattle.iopb.proofs.Answers.{shapeAt-inside, shapeAt-outside}
 
 module _ (h k : List ℕ) (long : length h ≡ length k) where
@@ -28,8 +28,9 @@ module _ (h k : List ℕ) (long : length h ≡ length k) where
       let low = word-same 2 h k (at + 6) (at + 6) (λ x x<. alike (at + 6 + x) (omega arith)) in
       let high = word-same 2 h k (at + 12) (at + 12) (λ x x<. alike (at + 12 + x) (omega arith)) in
       λ i.
-      geometryOf (high i) (byte 4 (omega arith) i) (low i) (volumeOf (first i) (byte 1 (omega arith) i))
-      (volumeOf (byte 2 (omega arith) i) (byte 3 (omega arith) i))
+      withIncrement (bit 2 (byte 14 (omega arith) i))
+      (geometryOf (high i) (byte 4 (omega arith) i) (low i) (volumeOf (first i) (byte 1 (omega arith) i))
+      (volumeOf (byte 2 (omega arith) i) (byte 3 (omega arith) i)))
 
   pub shape-local :
       (at : ℕ) → (InMemory h at 18 → (x : ℕ) → Among at 18 x → getD h x 0 ≡ getD k x 0) → shapeAt h at ≡ shapeAt k at

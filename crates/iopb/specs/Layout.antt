@@ -6,7 +6,7 @@ use lib.Dec.{eqb}
 use lib.ListN.{getD}
 use Rattle.wire.specs.Words.{be16, be32}
 use Rattle.geometry.specs.declared.Geometry.{Geometry}
-use Rattle.geometry.specs.Drive.{geometryOf, volumeOf}
+use Rattle.geometry.specs.Drive.{geometryOf, volumeOf, withIncrement}
 use Rattle.iopb.specs.declared.Block.{Block}
 use Rattle.iopb.specs.declared.Options.{Options}
 
@@ -55,9 +55,11 @@ blockAt bytes at =
       elements = byte bytes (at + 27);
     }
 
--- Table 10: start head and heads of volume 0 at 0 and 1, of volume 1 at 2 and 3, sectors a track at 4, bytes a sector at 6, cylinders at 12.
+-- Table 10: start head and heads of volume 0 at 0 and 1, of volume 1 at 2 and 3, sectors a track at 4, bytes a sector at 6, cylinders at 12; and of the
+-- attributes at 14 bit 2, increment by head (02, K4).
 abbrev pub uibAt : List ℕ → ℕ → Geometry
 uibAt bytes at =
-    geometryOf (be16 bytes (at + 12)) (byte bytes (at + 4)) (be16 bytes (at + 6))
+    withIncrement (bit 2 (byte bytes (at + 14)))
+    (geometryOf (be16 bytes (at + 12)) (byte bytes (at + 4)) (be16 bytes (at + 6))
     (volumeOf (byte bytes at) (byte bytes (at + 1)))
-    (volumeOf (byte bytes (at + 2)) (byte bytes (at + 3)))
+    (volumeOf (byte bytes (at + 2)) (byte bytes (at + 3))))

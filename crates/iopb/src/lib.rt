@@ -102,13 +102,14 @@ pub fn uib(host: &[u8], at: usize) -> Geometry
 {
     let volume0 = Volume::new(host[at], host[at + 1]);
     let volume1 = Volume::new(host[at + 2], host[at + 3]);
+    let by_head = host[at + 14] / 4 % 2 == 1;
     Geometry::new(
         wire::be16(host, at + 12),
         host[at + 4] as u16,
         wire::be16(host, at + 6),
         volume0,
         volume1,
-    )
+    ).with_increment(by_head)
 }
 
 // An answer's number, and its error byte.

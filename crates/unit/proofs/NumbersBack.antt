@@ -7,7 +7,7 @@ use native.Mathlib.Nat.{mod-eq-of-lt}
 use lib.Dec.{eqb}
 use Rattle.geometry.specs.declared.Volume.{Volume}
 use Rattle.geometry.specs.declared.VolumeNumber.the-variants.{Zero, One}
-use Rattle.geometry.specs.Drive.{N, start, volume}
+use Rattle.geometry.specs.Drive.{N, byHead, start, volume}
 use Rattle.unit.specs.declared.Record.{Record}
 use Rattle.unit.specs.RecordNumbers.{asNumbers, inNumbers}
 use Rattle.unit.proofs.Holders.{holder-back}
@@ -31,4 +31,5 @@ record-back r zero one =
       mod-eq-of-lt (one .heads),
       flag-back (r .initialized),
       holder-back (r .holder),
+      flag-back (byHead (r .geometry)),
     )

@@ -10,11 +10,11 @@ ghost use mathlib.Core.Path.{_≡_};
 ghost use Prim.Native.Nat.{_%_};
 ghost use Rattle.unit.specs.RecordNumbers.{asNumbers, inNumbers};
 
-// Whether the record says that its unit is initialized, as a number.
-fn flag(initialized: bool) -> u16
-    ensures { λ r. ⌜ r ≡ cond initialized 1 0 ⌝ }
+// A yes or no as a number.
+fn flag(yes: bool) -> u16
+    ensures { λ r. ⌜ r ≡ cond yes 1 0 ⌝ }
 {
-    if initialized { 1 } else { 0 }
+    if yes { 1 } else { 0 }
 }
 
 // A byte as a wider number.
@@ -32,7 +32,7 @@ fn low_byte(n: u16) -> u8
 
 impl Record {
     // How many numbers a record has. Whoever lends one says its length by this name.
-    pub const NUMBERS: usize = 11;
+    pub const NUMBERS: usize = 12;
 
     // The numbers of the record, but for its table. It comes back from them.
     pub fn numbers(self) -> [u16; Record::NUMBERS]
@@ -54,6 +54,7 @@ impl Record {
             self.cylinder,
             self.pairs,
             wide(holder.number()),
+            flag(g.by_head()),
         ]
     }
 
@@ -63,7 +64,7 @@ impl Record {
     {
         let zero = Volume::new(low_byte(n[4]), low_byte(n[5]));
         let one = Volume::new(low_byte(n[6]), low_byte(n[7]));
-        let geometry = Geometry::new(n[1], n[2], n[3], zero, one);
+        let geometry = Geometry::new(n[1], n[2], n[3], zero, one).with_increment(n[11] == 1);
         let holder = Holder::of(n[10]);
         Record {
             initialized: n[0] == 1,

@@ -1,7 +1,7 @@
 -- How a yes or no that was computed comes to speak of a statement.
 -- Each law takes the answer's two values apart.
 use Prim.Native.Nat.{ℕ, suc, _<_, _≤_}
-use mathlib.Core.Bool.{Bool, true, false, not, _&&_, false≢true, true≢false}
+use mathlib.Core.Bool.{Bool, Bool·beq, true, false, not, _&&_, false≢true, true≢false}
 use mathlib.Core.Logic.{ite}
 use mathlib.Core.Path.{_≡_, refl}
 use native.Mathlib.Omega.{arith}
@@ -28,6 +28,12 @@ says-eqb a b P yes-is no-is = by-value (eqb a b) refl
     by-value : (t : Bool) → eqb a b ≡ t → Says t P
     by-value true e = yes-is (eqb-true a b e)
     by-value false e = no-is (eqb-false a b e)
+
+pub says-beq : (s t : Bool) → Says (Bool·beq s t) (s ≡ t)
+says-beq true true = refl
+says-beq true false = true≢false
+says-beq false true = false≢true
+says-beq false false = refl
 
 -- Two answers, about what holds below a bound and at it, make one about what holds up to it.
 pub says-all-more :

@@ -28,8 +28,8 @@ use Rattle.unit.specs.Landing.{landed}
 use Rattle.unit.specs.Standing.{CountsAsInitialized, UnitRecord, mapped, noTracks, pairs, table}
 use Rattle.unit.proofs.Apart.{bad-lands-on-its-spare, number-lands, spare-lands-on-itself}
 use Rattle.unit.proofs.Laws.{lands-where-it-says}
-use Rattle.worked.specs.SmallDrive.{All, Holds, drive, spared, unit, withSpares}
-use Rattle.worked.specs.SmallDrive.Line.{lands, meet}
+use Rattle.worked.specs.SmallDrive.{All, Holds, drive, lands, spared, unit, withSpares}
+use Rattle.worked.specs.SmallDrive.Line.{meet}
 use Rattle.worked.proofs.Drive.{counts, heads-3, sectors-40, sectors-80}
 use Rattle.worked.proofs.Starred.{_and_}
 use Rattle.unit.specs.Bytes.{BadAndItsSpare, Paired, trackNamed}

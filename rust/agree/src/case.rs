@@ -1,6 +1,6 @@
 //! A case: all that is handed to a run, and what is asked of it afterwards.
 
-use model::{Controller, Geometry, Holder, Pair, Record, Table, Track, Volume};
+use model::{Controller, Geometry, Holder, Order, Pair, Record, Table, Track, Volume};
 
 pub const RECORD_LEN: usize = 276;
 
@@ -32,7 +32,7 @@ pub struct Case {
 /// The bytes with which the record of an initialized unit opens: version 2, the flag, length 276.
 pub const OPENING: [u8; 4] = [0x02, 0x01, 0x01, 0x14];
 
-/// Where the order stands, which is 0 where a unit is initialized, and where the holder does.
+/// Where the order of the tracks stands, and where the holder does.
 pub const ORDER_AT: usize = 16;
 pub const HOLDER_AT: usize = 17;
 
@@ -60,13 +60,14 @@ pub fn record_in(bytes: &RecordBytes) -> Record {
     };
     Record {
         initialized: bytes[..4] == OPENING
-            && bytes[ORDER_AT] == 0
+            && Order::is_one(bytes[ORDER_AT])
             && Holder::is_one(bytes[HOLDER_AT]),
         geometry: Geometry {
             cylinders: word(4),
             sectors_a_track: word(6),
             bytes_a_sector: word(8),
             volumes: [volume(10), volume(12)],
+            order: Order::said(bytes[ORDER_AT]),
         },
         cylinder: word(14),
         table: Table::saying(word(PAIRS_AT), |k| Pair {
@@ -96,7 +97,7 @@ fn stored(before: &RecordBytes, record: &Record) -> RecordBytes {
         bytes[11 + 2 * k] = volume.heads;
     }
     bytes[14..16].copy_from_slice(&record.cylinder.to_be_bytes());
-    bytes[ORDER_AT] = 0;
+    bytes[ORDER_AT] = g.order.number();
     bytes[HOLDER_AT] = record.holder.number();
     bytes[PAIRS_AT..TABLE_AT].copy_from_slice(&record.table.count().to_be_bytes());
     for (k, pair) in record.table.pairs().iter().enumerate() {

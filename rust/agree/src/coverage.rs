@@ -3,7 +3,7 @@
 use crate::case::{record_in, Case, RecordBytes, HOLDER_AT, ORDER_AT};
 use crate::sides::Left;
 use crate::worlds::{TableWay, Theme, Way};
-use model::{Holder, Outcome, Pair, Record, Table, Taken, Trace, Track, Visit};
+use model::{Holder, Order, Outcome, Pair, Record, Table, Taken, Trace, Track, Visit};
 use model::{CHECKS, COMMANDS, STOPS};
 use std::collections::BTreeMap;
 
@@ -117,6 +117,86 @@ const TABLE_TRAPS: [Trap; 33] = [
     }),
 ];
 
+fn by_cylinder(visit: &Visit) -> bool {
+    visit.course.order == Order::ByCylinder
+}
+
+fn transfer(visit: &Visit) -> bool {
+    matches!(visit.command, 0x81 | 0x82 | 0xa1 | 0xa2)
+}
+
+/// What a block can walk into where drives are by cylinder.
+const ORDER_TRAPS: [Trap; 26] = [
+    ("81 by cylinder, ended 80", |v| ended_on(v, 0x81)),
+    ("82 by cylinder, ended 80", |v| ended_on(v, 0x82)),
+    ("8A by cylinder, ended 80", |v| ended_on(v, 0x8a)),
+    ("such a seek by number", |v| {
+        ended_on(v, 0x8a) && !v.course.physical
+    }),
+    ("8C by cylinder, ended 80", |v| ended_on(v, 0x8c)),
+    ("A1 by cylinder, ended 80", |v| ended_on(v, 0xa1)),
+    ("A2 by cylinder, ended 80", |v| ended_on(v, 0xa2)),
+    ("85 by cylinder, ended 80", |v| ended_on(v, 0x85)),
+    ("to the next cylinder at a track's end", |v| {
+        by_cylinder(v) && v.course.next_cylinder
+    }),
+    ("the same from a physical start", |v| {
+        by_cylinder(v) && v.course.next_cylinder && v.course.physical
+    }),
+    ("the same with a list", |v| {
+        by_cylinder(v) && v.course.next_cylinder && matches!(v.command, 0xa1 | 0xa2)
+    }),
+    ("the same on volume 1", |v| {
+        by_cylinder(v) && v.course.next_cylinder && v.on_volume_1
+    }),
+    ("from cylinder C - 1 to the next head's 0", |v| {
+        by_cylinder(v) && v.course.next_head
+    }),
+    ("such a way from a physical start", |v| {
+        by_cylinder(v) && v.course.next_head && v.course.physical
+    }),
+    ("over more than one cylinder in one transfer", |v| {
+        by_cylinder(v) && v.course.cylinders > 1
+    }),
+    ("read stopped after a track's end", |v| {
+        by_cylinder(v) && v.course.next_cylinder && v.answer == 20
+    }),
+    ("bad track on the way by cylinder", |v| {
+        by_cylinder(v) && transfer(v) && v.landing.on_spare
+    }),
+    ("a way by cylinder in part on a spare", |v| {
+        by_cylinder(v) && transfer(v) && v.landing.in_part
+    }),
+    ("seek by cylinder to a spare", |v| {
+        ended_on(v, 0x8a) && v.landing.on_spare
+    }),
+    ("16 for the last sector by cylinder alone", |v| {
+        by_cylinder(v) && v.course.outside_alone
+    }),
+    ("16 for the last sector by head alone", |v| {
+        !by_cylinder(v) && v.course.outside_alone
+    }),
+    ("block overwritten, then by cylinder", |v| {
+        v.overwritten_with_other_bytes && by_cylinder(v) && v.sectors > 0
+    }),
+    ("87 that makes by cylinder of by head", |v| {
+        !by_cylinder(v) && v.course.changed
+    }),
+    ("87 that makes by head of by cylinder", |v| {
+        by_cylinder(v) && v.course.changed
+    }),
+    ("87 refused on a drive by cylinder", |v| {
+        by_cylinder(v) && v.command == 0x87 && v.answer != 0
+    }),
+    ("crossed a cylinder by head", |v| {
+        !by_cylinder(v) && v.crossed_cylinder
+    }),
+];
+
+fn ended_on(visit: &Visit, command: u8) -> bool {
+    by_cylinder(visit) && visit.command == command && visit.answer == 0
+}
+
 fn added(visit: &Visit) -> bool {
     visit.command == 0x85 && visit.answer == 0
 }
@@ -143,6 +223,7 @@ pub struct Coverage {
     /// Inspections that found a sector, and that found none.
     found: [u64; 2],
     table_traps: [u64; TABLE_TRAPS.len()],
+    order_traps: [u64; ORDER_TRAPS.len()],
     /// 11 for a record that its table alone spoils.
     table_ways: [u64; TableWay::ALL.len()],
     /// A block on a spare that an 85 of the same chain named.
@@ -152,6 +233,8 @@ pub struct Coverage {
     found_spare: u64,
     /// Inspections of nothing, for the table alone.
     found_no_table: u64,
+    /// Inspections that found a sector of a drive by cylinder.
+    found_by_cylinder: u64,
     /// Records that came with bytes after the pairs that count, and were stored anew.
     tails: u64,
 }
@@ -171,11 +254,13 @@ impl Coverage {
             opening: 0,
             found: [0; 2],
             table_traps: [0; TABLE_TRAPS.len()],
+            order_traps: [0; ORDER_TRAPS.len()],
             table_ways: [0; TableWay::ALL.len()],
             own_pairs: 0,
             found_bad: 0,
             found_spare: 0,
             found_no_table: 0,
+            found_by_cylinder: 0,
             tails: 0,
         }
     }
@@ -222,6 +307,8 @@ impl Coverage {
             };
             self.found_bad += stands(|pair| pair.bad) as u64;
             self.found_spare += stands(|pair| pair.spare) as u64;
+            let by_cylinder = record.geometry.order == Order::ByCylinder;
+            self.found_by_cylinder += (*found && by_cylinder) as u64;
         }
     }
 
@@ -237,6 +324,9 @@ impl Coverage {
         }
         for (k, (_, trap)) in TABLE_TRAPS.iter().enumerate() {
             self.table_traps[k] += trap(visit) as u64;
+        }
+        for (k, (_, trap)) in ORDER_TRAPS.iter().enumerate() {
+            self.order_traps[k] += trap(visit) as u64;
         }
     }
 
@@ -274,11 +364,13 @@ impl Coverage {
         add_all(&mut self.ways, &other.ways);
         add_all(&mut self.found, &other.found);
         add_all(&mut self.table_traps, &other.table_traps);
+        add_all(&mut self.order_traps, &other.order_traps);
         add_all(&mut self.table_ways, &other.table_ways);
         self.own_pairs += other.own_pairs;
         self.found_bad += other.found_bad;
         self.found_spare += other.found_spare;
         self.found_no_table += other.found_no_table;
+        self.found_by_cylinder += other.found_by_cylinder;
         self.tails += other.tails;
     }
 
@@ -288,10 +380,10 @@ impl Coverage {
 
     /// Each thing that has to occur, with how often it did.
     fn things(&self) -> Vec<(String, u64)> {
-        if self.theme.tables() {
-            self.things_of_tables()
-        } else {
-            self.plain_things()
+        match self.theme {
+            Theme::Plain => self.plain_things(),
+            Theme::Orders => self.things_of_orders(),
+            _ => self.things_of_tables(),
         }
     }
 
@@ -347,6 +439,20 @@ impl Coverage {
         ] {
             things.push((name.to_string(), count));
         }
+        things
+    }
+
+    fn things_of_orders(&self) -> Vec<(String, u64)> {
+        let mut things = Vec::new();
+        for number in [11, 13, 16, 17, 19, 20] {
+            things.push((format!("block answer {}", number), self.answered(&number)));
+        }
+        for ((name, _), count) in ORDER_TRAPS.iter().zip(self.order_traps) {
+            things.push((name.to_string(), count));
+        }
+        let no_order = format!("11 for {} alone", TableWay::Order.says());
+        things.push((no_order, self.table_ways[TableWay::Order as usize]));
+        things.push(("inspection by cylinder".to_string(), self.found_by_cylinder));
         things
     }
 
@@ -459,7 +565,7 @@ fn table_ways(bytes: &RecordBytes) -> Vec<TableWay> {
         TableWay::BadTwice => bad > 0,
         TableWay::SpareTwice => spare > 0,
         TableWay::BadAndSpare => all > bad + spare + equal,
-        TableWay::Order => order != 0,
+        TableWay::Order => !Order::is_one(order),
         TableWay::Holder => !Holder::is_one(holder),
     };
     TableWay::ALL.into_iter().filter(so).collect()

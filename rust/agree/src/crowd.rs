@@ -137,6 +137,11 @@ impl Crowd {
         themes.any(|theme| self.catches_in(theme, fault, index))
     }
 
+    /// The same in the world with an index whose drives are of either order.
+    pub fn catches_by_order(&self, fault: Fault, index: u64) -> bool {
+        self.catches_in(Theme::Orders, fault, index)
+    }
+
     /// The world is made and the other side is run without the fault.
     fn catches_in(&self, theme: Theme, fault: Fault, index: u64) -> bool {
         let case = world(theme, self.seed, index);

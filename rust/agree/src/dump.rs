@@ -2,7 +2,7 @@
 
 use crate::case::{record_in, Case, TABLE_AT};
 use crate::sides::{memory_at_fetch, model_side};
-use model::{Block, Controller, Element, Geometry, Holder, Record, Track, Visit};
+use model::{Block, Controller, Element, Geometry, Holder, Order, Record, Track, Visit};
 use std::fmt::Write;
 
 /// The blocks shown at most.
@@ -59,14 +59,18 @@ fn holder_words(holder: Holder) -> &'static str {
 
 pub fn geometry_words(g: &Geometry) -> String {
     format!(
-        "C {} S {} B {} volumes {}+{} and {}+{}",
+        "C {} S {} B {} volumes {}+{} and {}+{}, {}",
         g.cylinders,
         g.sectors_a_track,
         g.bytes_a_sector,
         g.volumes[0].start_head,
         g.volumes[0].heads,
         g.volumes[1].start_head,
-        g.volumes[1].heads
+        g.volumes[1].heads,
+        match g.order {
+            Order::ByHead => "by head",
+            Order::ByCylinder => "by cylinder",
+        }
     )
 }
 

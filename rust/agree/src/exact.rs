@@ -3,11 +3,12 @@
 //! changes that it names, so that every other byte has to stay.
 
 mod holders;
+mod orders;
 mod spares;
 
 use crate::case::{record_bytes, Case, Inspection, RecordBytes, RECORD_LEN, TABLE_AT};
 use crate::sides::{model_side, Left, Opponent};
-use model::{Block, Controller, Geometry, Holder, Outcome, Part, Record, Table, Volume};
+use model::{Block, Controller, Geometry, Holder, Order, Outcome, Part, Record, Table, Volume};
 
 const UN: u8 = 0x80;
 const VO: u8 = 0x40;
@@ -249,6 +250,7 @@ pub fn run(opponent: Opponent) -> Sheet {
     inspections(&mut sheet);
     spares::all(&mut sheet);
     holders::all(&mut sheet);
+    orders::all(&mut sheet);
     sheet
 }
 
@@ -814,6 +816,7 @@ fn inspections(sheet: &mut Sheet) {
                 heads: 0,
             },
         ],
+        order: Order::ByHead,
     };
     case.records[0] = record_bytes(&Record {
         initialized: true,

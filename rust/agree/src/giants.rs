@@ -6,7 +6,7 @@ use std::fs::{File, OpenOptions};
 use std::os::fd::AsRawFd;
 use std::path::PathBuf;
 use vsmd3200::{
-    inspect, run, BlockAnswer, Geometry, Outcome, Pair, Record, RunAnswer, Track, Volume,
+    inspect, run, BlockAnswer, Geometry, Order, Outcome, Pair, Record, RunAnswer, Track, Volume,
 };
 
 /// Host memory that goes on after the last address.
@@ -229,6 +229,7 @@ fn few_sectors() -> (Record, Vec<u8>) {
             },
             Volume::default(),
         ],
+        order: Order::ByHead,
     };
     let mut image: Vec<u8> = (0..17 * B)
         .map(|k| (k * 7 + k / B * 13 + 1) as u8)
@@ -323,6 +324,7 @@ fn largest() -> Record {
             },
             Volume::default(),
         ],
+        order: Order::ByHead,
     };
     Record::from_parts(true, geometry, 0)
 }

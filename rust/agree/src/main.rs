@@ -40,11 +40,14 @@ agree --faults [--worlds N] [--seed S] [--itself]        faults seeded in the mo
 agree --exact [--itself]                                 the paper's worked examples and the limits
 agree --tables N [--seed S] [--threads N] [--itself]     compare on worlds with bad tracks and spares
 agree --table I [--seed S] [--itself]                    one of these worlds, and show it
+agree --orders N [--seed S] [--threads N] [--itself]     compare on worlds with drives by head and by cylinder
+agree --order I [--seed S] [--itself]                    one of these worlds, and show it
 agree --sessions N PROGRAM WORD..                        the session program on generated sessions
 agree --table-sessions N PROGRAM WORD..                  the same on sessions with bad tracks and spares
 agree --pairs N [--seed S] [--itself]                    N pairs of chains that demand 3 lets run in either order
 agree --pair I [--seed S] [--itself]                     one of these pairs, and show it
 agree --table-pairs N, agree --table-pair I              the same of pairs with bad tracks and spares
+agree --order-pairs N, agree --order-pair I              the same of pairs with drives by head and by cylinder
 agree --machine-pairs N, agree --machine-pair I          the same on one controller and on two, with drives that are held
 agree --machines N [--seed S] [--threads N] [--itself]   N contests of two machines that run in turn on the same drives
 agree --machine I [--seed S] [--itself]                  one of these contests, and show it
@@ -129,6 +132,16 @@ fn asked() -> Option<Asked> {
                     _ => asked.pair = number,
                 }
             }
+            "--orders" | "--order" | "--order-pairs" | "--order-pair" => {
+                asked.crowd.theme = Theme::Orders;
+                let number = Some(number()?);
+                match word.as_str() {
+                    "--orders" => asked.crowd.worlds = number?,
+                    "--order" => asked.world = number,
+                    "--order-pairs" => asked.pairs = number,
+                    _ => asked.pair = number,
+                }
+            }
             "--sessions" | "--table-sessions" => {
                 if word == "--table-sessions" {
                     asked.crowd.theme = Theme::FreshTables;
@@ -144,7 +157,8 @@ fn asked() -> Option<Asked> {
 
 /// The fault in the rules that says so.
 fn fault(says: &str) -> Option<Fault> {
-    let mut faults = Fault::IN_RULES.into_iter().chain(Fault::IN_HOLDERS);
+    let rules = Fault::IN_RULES.into_iter().chain(Fault::IN_HOLDERS);
+    let mut faults = rules.chain(Fault::IN_ORDERS);
     faults.find(|fault| fault.says() == says)
 }
 
@@ -247,10 +261,10 @@ fn worlds(crowd: &Crowd) -> bool {
         println!(
             "agree: the library and the model differ; again with --seed {} --{} {}",
             crowd.seed,
-            if crowd.theme.tables() {
-                "table"
-            } else {
-                "world"
+            match crowd.theme {
+                Theme::Plain => "world",
+                Theme::Orders => "order",
+                _ => "table",
             },
             found.index
         );
@@ -281,6 +295,7 @@ fn about(crowd: &Crowd) -> &'static str {
         Theme::Plain => "",
         Theme::Tables | Theme::FreshTables => " with tables",
         Theme::Held => " on one controller or two",
+        Theme::Orders => " by head and by cylinder",
     }
 }
 
@@ -300,6 +315,7 @@ fn pairs(crowd: &Crowd, count: u64) -> bool {
                     Theme::Plain => "pair",
                     Theme::Tables | Theme::FreshTables => "table-pair",
                     Theme::Held => "machine-pair",
+                    Theme::Orders => "order-pair",
                 },
                 found.index
             );
@@ -486,7 +502,8 @@ fn faults(crowd: &Crowd) -> bool {
     let places = faults_in(crowd, "drives", &Fault::IN_PLACES, places::catches);
     let holders = faults_in(crowd, "contests", &Fault::IN_HOLDERS, contests::catches);
     let held = faults_in(crowd, "pairs", &Fault::IN_HELD_FOOTPRINTS, pairs::sees_held);
-    rules && footprints && places && holders && held
+    let orders = faults_in(crowd, "worlds", &Fault::IN_ORDERS, Crowd::catches_by_order);
+    rules && footprints && places && holders && held && orders
 }
 
 /// Each of some faults, with the number of worlds or pairs that it took.

@@ -9,7 +9,7 @@ use crate::crowd::{Crowd, Disagreement};
 use crate::dump;
 use crate::sides::{model_side, Opponent};
 use crate::worlds::{pair, Theme};
-use model::{with_fault, Common, Fault, Holder, Outcome, Trace, Visit};
+use model::{with_fault, Common, Fault, Holder, Order, Outcome, Trace, Visit};
 
 /// Two chains over one starting state, each followed alone by the model.
 struct Followed {
@@ -242,6 +242,44 @@ const HELD_FEATURES: [Feature; 8] = [
     ),
 ];
 
+/// What it can be besides where drives are by cylinder.
+const ORDER_FEATURES: [Feature; 4] = [
+    (
+        "a transfer by cylinder",
+        |pair| any_block(pair, |visit| by_cylinder(visit) && visit.sectors > 0),
+        110,
+    ),
+    (
+        "a transfer by cylinder from track to track",
+        |pair| any_block(pair, goes_on_by_cylinder),
+        36,
+    ),
+    (
+        "data on both drives, one of either order",
+        |pair| {
+            let data = |is: fn(&Visit) -> bool| {
+                let mut blocks = pair.traces.iter().flat_map(|trace| &trace.blocks);
+                blocks.any(|visit| visit.sectors > 0 && is(visit))
+            };
+            data(by_cylinder) && data(|visit| !by_cylinder(visit))
+        },
+        33,
+    ),
+    (
+        "an order changed",
+        |pair| any_block(pair, |visit| visit.course.changed && visit.answer == 0),
+        25,
+    ),
+];
+
+fn by_cylinder(visit: &Visit) -> bool {
+    visit.course.order == Order::ByCylinder
+}
+
+fn goes_on_by_cylinder(visit: &Visit) -> bool {
+    by_cylinder(visit) && (visit.course.next_cylinder || visit.course.next_head)
+}
+
 /// Whether a block left its drive with another holder, and this one.
 fn changes_to(visit: &Visit, holder: Holder) -> bool {
     visit.holder != holder && visit.held_after == holder
@@ -298,6 +336,9 @@ impl Tally {
         let mut features = FEATURES.to_vec();
         if theme.tables() {
             features.extend(TABLE_FEATURES);
+        }
+        if theme == Theme::Orders {
+            features.extend(ORDER_FEATURES);
         }
         let breaks = if theme == Theme::Held {
             // where a block is refused by 24 the rest of its chain is not run

@@ -1,13 +1,14 @@
 //! What the library takes to run, as ratios to a plain program that makes the same transfers: on
 //! the same buffers, in one process and turn by turn, so that both see the same machine.
 
+mod orders;
 mod plain;
 mod tables;
 
 use plain::Drive;
 use std::hint::black_box;
 use std::time::Instant;
-use vsmd3200::{Geometry, Record, RunAnswer, Volume, EVENTS_LEN_LEAST};
+use vsmd3200::{Geometry, Order, Record, RunAnswer, Volume, EVENTS_LEN_LEAST};
 
 /// The tracks of the manual's Table 11, on so few cylinders that an image is soon filled.
 const DRIVE: Drive = Drive {
@@ -60,22 +61,26 @@ struct Stretch {
 }
 
 impl World {
+    fn new(command: u8, count: u16, kind: Blocks, stretch: Stretch) -> World {
+        World::on(DRIVE, command, count, kind, stretch)
+    }
+
     /// Every byte is stored here once, so that no page is there in name only. After that nothing
     /// is cleared or flushed: a turn finds memory and caches as the turn before left them.
-    fn new(command: u8, count: u16, kind: Blocks, stretch: Stretch) -> World {
+    fn on(drive: Drive, command: u8, count: u16, kind: Blocks, stretch: Stretch) -> World {
         let calls = SECTORS_A_TURN / usize::from(count);
         let blocks = if kind == Blocks::One { 1 } else { calls };
         let filled = |len: usize, step: usize| (0..len).map(|k| (k * step) as u8).collect();
         let mut world = World {
-            host: filled(DATA + SECTORS_A_TURN * DRIVE.bytes_a_sector, 7),
-            image: filled(DRIVE.image_len(), 13),
+            host: filled(DATA + SECTORS_A_TURN * drive.bytes_a_sector, 7),
+            image: filled(drive.image_len(), 13),
             events: [0; EVENTS_LEN_LEAST],
-            records: [record(), Record::UNINITIALIZED],
-            drive: black_box(DRIVE),
+            records: [record(&drive), Record::UNINITIALIZED],
+            drive: black_box(drive),
             blocks,
             times_each: calls / blocks,
         };
-        world.image[DRIVE.marks_at()..].fill(0);
+        world.image[drive.marks_at()..].fill(0);
         for k in 0..blocks {
             world.lay(k, command, count, stretch);
         }
@@ -87,7 +92,7 @@ impl World {
         let len = usize::from(count);
         let number = (k * 3001 * len + stretch.first) % (stretch.sectors - len);
         let slot = k * 29 % self.blocks;
-        let data = DATA + slot * len * DRIVE.bytes_a_sector;
+        let data = DATA + slot * len * self.drive.bytes_a_sector;
         let block = &mut self.host[BLOCK_STEP * k..BLOCK_STEP * (k + 1)];
         block.fill(0);
         block[0] = command;
@@ -98,16 +103,17 @@ impl World {
     }
 }
 
-fn record() -> Record {
+fn record(drive: &Drive) -> Record {
     let all = Volume {
         start_head: 0,
-        heads: DRIVE.heads as u8,
+        heads: drive.heads as u8,
     };
     let geometry = Geometry {
-        cylinders: DRIVE.cylinders as u16,
-        sectors_a_track: DRIVE.sectors_a_track as u16,
-        bytes_a_sector: DRIVE.bytes_a_sector as u16,
+        cylinders: drive.cylinders as u16,
+        sectors_a_track: drive.sectors_a_track as u16,
+        bytes_a_sector: drive.bytes_a_sector as u16,
         volumes: [all, Volume::default()],
+        order: Order::ByHead,
     };
     Record::from_parts(true, geometry, 0)
 }
@@ -218,4 +224,5 @@ fn main() {
         }
     }
     tables::tell();
+    orders::tell();
 }

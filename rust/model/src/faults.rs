@@ -133,6 +133,13 @@ pub enum Fault {
     HeldUnitForgotten,
     DrivesOfEachController,
     OneMemoryForBoth,
+    OrderMisplaced,
+    HeadsForCylinders,
+    SeekByHead,
+    PhysicalByHead,
+    OrderKept,
+    OrderOver1Accepted,
+    OrdersUnknown,
 }
 
 impl Fault {
@@ -251,6 +258,17 @@ impl Fault {
         Fault::HolderOver2Accepted,
         Fault::InspectionAsksHolder,
         Fault::HoldersUnknown,
+    ];
+
+    /// In the rules about the order of tracks: seen on drives that count by cylinder.
+    pub const IN_ORDERS: [Fault; 7] = [
+        Fault::OrderMisplaced,
+        Fault::HeadsForCylinders,
+        Fault::SeekByHead,
+        Fault::PhysicalByHead,
+        Fault::OrderKept,
+        Fault::OrderOver1Accepted,
+        Fault::OrdersUnknown,
     ];
 
     /// In footprints, which have too little or too much; every run is right.
@@ -417,6 +435,13 @@ impl Fault {
             Fault::HeldUnitForgotten => "footprint without the unit of a block refused by 24",
             Fault::DrivesOfEachController => "footprint with drives for each controller",
             Fault::OneMemoryForBoth => "footprint with one memory for both controllers",
+            Fault::OrderMisplaced => "order taken from another bit of the attributes",
+            Fault::HeadsForCylinders => "N for C where a drive counts by cylinder",
+            Fault::SeekByHead => "8A by head, whatever the order",
+            Fault::PhysicalByHead => "physical address numbered by head, whatever the order",
+            Fault::OrderKept => "order kept after 87",
+            Fault::OrderOver1Accepted => "record with an order over 1 taken",
+            Fault::OrdersUnknown => "no order known",
         }
     }
 }

@@ -5,6 +5,7 @@
 
 use crate::faults::{seeded, Fault};
 use crate::holders::Holder;
+use crate::order::Order;
 use crate::spares::{Table, Track};
 
 /// The heads of one volume: the first one and how many.
@@ -20,6 +21,8 @@ pub struct Geometry {
     pub sectors_a_track: u16,
     pub bytes_a_sector: u16,
     pub volumes: [Volume; 2],
+    /// Which track comes after which.
+    pub order: Order,
 }
 
 /// "A unit record holds whether the unit is initialized, its geometry and its cylinder", since K5 a
@@ -99,11 +102,13 @@ impl Geometry {
                     heads: 0,
                 },
             ],
+            // its attributes are 05
+            order: Order::ByHead,
         }
     }
 
-    /// The numbers a UIB has in the places of Table 10. "Anything else in the UIB is not kept or
-    /// judged."
+    /// The numbers a UIB has in the places of Table 10, and since K4 the order of its attributes.
+    /// "Anything else in the UIB is not kept or judged."
     pub fn from_uib(uib: &[u8; UIB_BYTES]) -> Geometry {
         Geometry {
             cylinders: uib[12] as u16 * 256 + uib[13] as u16,
@@ -119,6 +124,7 @@ impl Geometry {
                     heads: uib[3],
                 },
             ],
+            order: Order::from_attributes(uib[14]),
         }
     }
 
@@ -219,19 +225,40 @@ impl Geometry {
         self.marks_at() + self.drive_sectors()
     }
 
-    /// "Logical sector n means sector n mod S, head (n div S) mod N, cylinder n div (S × N)."
-    /// None when the volume has no such sector, so neither S nor N is zero at the divisions.
+    /// By head "logical sector n means sector n mod S, head (n div S) mod N, cylinder n div (S × N)",
+    /// by cylinder "sector n mod S, cylinder (n div S) mod C, head n div (S × C)". None when the volume
+    /// has no such sector, so none of S, N and C is zero at the divisions.
     pub fn address(&self, volume: u8, n: u64) -> Option<Address> {
         if n >= self.volume_sectors(volume) {
             return None;
         }
         let s = self.sectors_a_track as u64;
         let heads = self.volume(volume)?.heads as u64;
-        Some(Address {
-            cylinder: n / (s * heads),
-            head: (n / s) % heads,
-            sector: n % s,
-        })
+        let address = match self.order {
+            Order::ByHead => Address {
+                cylinder: n / (s * heads),
+                head: (n / s) % heads,
+                sector: n % s,
+            },
+            Order::ByCylinder => {
+                let cylinders = self.cylinders_in_a_row(heads);
+                Address {
+                    cylinder: (n / s) % cylinders,
+                    head: n / (s * cylinders),
+                    sector: n % s,
+                }
+            }
+        };
+        Some(address)
+    }
+
+    /// How many tracks follow one another under one head before the next head's turn.
+    fn cylinders_in_a_row(&self, heads: u64) -> u64 {
+        if seeded(Fault::HeadsForCylinders) {
+            // as many as there are heads, which is right by head
+            return heads;
+        }
+        self.cylinders as u64
     }
 
     /// Whether each part of an address lies in the volume.
@@ -246,8 +273,9 @@ impl Geometry {
         }
     }
 
-    /// The logical number of an address: "Consecutive sectors go by sector, head, cylinder", so
-    /// it counts the sectors of the volume that come before. None outside the volume.
+    /// The logical number of an address: the sectors of the volume that come before it. By head
+    /// "consecutive sectors go by sector, head, cylinder", by cylinder they go by sector, cylinder, head.
+    /// None outside the volume.
     pub fn logical(&self, volume: u8, address: Address) -> Option<u64> {
         // the fault lets a part that is too large be carried into the next
         if !self.in_volume(volume, address) && !seeded(Fault::PartsSummed) {
@@ -255,7 +283,17 @@ impl Geometry {
         }
         let s = self.sectors_a_track as u64;
         let heads = self.volume(volume)?.heads as u64;
-        Some((address.cylinder * heads + address.head) * s + address.sector)
+        let order = if seeded(Fault::PhysicalByHead) {
+            // as every drive counted once
+            Order::ByHead
+        } else {
+            self.order
+        };
+        let tracks = match order {
+            Order::ByHead => address.cylinder * heads + address.head,
+            Order::ByCylinder => address.head * self.cylinders_in_a_row(heads) + address.cylinder,
+        };
+        Some(tracks * s + address.sector)
     }
 
     /// "The place in the image is ((cylinder × H) + start head + head) × S + sector." None

@@ -5,6 +5,7 @@ use crate::answers::passed;
 use crate::block::{in_memory, odd, Block, Element, ELEMENT_BYTES};
 use crate::faults::{seeded, Fault};
 use crate::geometry::{Address, Geometry, Record, UIB_BYTES};
+use crate::order::Order;
 use crate::run::World;
 use crate::spares::{Pair, Track};
 
@@ -249,7 +250,7 @@ fn refused_spare(record: &Record, named: Track) -> bool {
 }
 
 /// The number of the first sector; None where check 16 fails.
-fn first_sector(record: &Record, block: &Block) -> Option<u64> {
+pub(crate) fn first_sector(record: &Record, block: &Block) -> Option<u64> {
     let geometry = &record.geometry;
     let volume = block.volume();
     let first = first_number(geometry, block)?;
@@ -278,7 +279,7 @@ fn first_number(geometry: &Geometry, block: &Block) -> Option<u64> {
     if block.logical() {
         return Some(block.logical_sector() as u64);
     }
-    geometry.logical(
+    aimed_by(geometry, block).logical(
         block.volume(),
         Address {
             cylinder: block.cylinder as u64,
@@ -286,6 +287,16 @@ fn first_number(geometry: &Geometry, block: &Block) -> Option<u64> {
             sector: block.sector as u64,
         },
     )
+}
+
+/// The geometry by whose order a block's sectors are counted: the drive's.
+pub(crate) fn aimed_by(geometry: &Geometry, block: &Block) -> Geometry {
+    let mut aimed_by = *geometry;
+    if seeded(Fault::SeekByHead) && block.command == 0x8a {
+        // nothing is moved, so no order is looked for
+        aimed_by.order = Order::ByHead;
+    }
+    aimed_by
 }
 
 /// Whether a list is one that is read: "a list of 1 to 64 elements that lies at an even address

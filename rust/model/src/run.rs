@@ -6,7 +6,7 @@ use crate::faults::{seeded, Fault};
 use crate::footprint::Fetched;
 use crate::geometry::{Found, Geometry, Record};
 use crate::holders::{Controller, Holder};
-use crate::judge::{judge, Accepted, Piece};
+use crate::judge::{aimed_by, judge, Accepted, Piece};
 use crate::spares::{Table, Track};
 use crate::trace::{visit_after, visit_before, Past, Trace, Visit};
 
@@ -323,7 +323,11 @@ impl Chain<'_> {
     fn initialize(&mut self, block: &Block, accepted: &Accepted) -> Done {
         let record = &mut self.world.records[block.unit() as usize];
         let old_cylinder = record.cylinder;
-        if let Some(geometry) = accepted.uib {
+        if let Some(mut geometry) = accepted.uib {
+            if seeded(Fault::OrderKept) && record.counts_as_initialized() {
+                // as if the drive were strapped for good
+                geometry.order = record.geometry.order;
+            }
             // the fault keeps a record that is good already
             if !(seeded(Fault::RecordKept) && record.counts_as_initialized()) {
                 *record = Record {
@@ -357,6 +361,7 @@ impl Chain<'_> {
             // nothing is moved, so nothing has to be spared
             drive.table = Table::NONE;
         }
+        drive.geometry = aimed_by(&drive.geometry, block);
         let first = accepted.first.unwrap_or(0);
         match drive.find(block.volume(), first) {
             Some(found) => self.move_heads(block, found.cylinder),

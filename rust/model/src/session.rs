@@ -2,6 +2,7 @@
 
 use crate::geometry::{Geometry, Record, Volume};
 use crate::holders::{Controller, Holder};
+use crate::order::Order;
 use crate::run::{run, World, LEAST_EVENT_BYTES};
 use crate::spares::Table;
 
@@ -51,6 +52,7 @@ fn empty_world() -> World {
         sectors_a_track: 0,
         bytes_a_sector: 0,
         volumes: [volume, volume],
+        order: Order::ByHead,
     };
     let record = Record {
         initialized: false,

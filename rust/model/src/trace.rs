@@ -5,7 +5,8 @@ use crate::block::{Block, BLOCK_BYTES};
 use crate::footprint::{Fetched, Footprint};
 use crate::geometry::{Found, Record};
 use crate::holders::{Controller, Holder};
-use crate::judge::{list_bytes, list_was_read, Accepted, Piece};
+use crate::judge::{first_sector, list_bytes, list_was_read, Accepted, Piece};
+use crate::order::Order;
 use crate::run::{Done, World};
 use crate::spares::{Taken, Track};
 
@@ -76,6 +77,8 @@ pub struct Visit {
     pub taken: Option<Taken>,
     /// What the table of the unit had to do with it.
     pub landing: Landing,
+    /// What the order of the unit's tracks had to do with it.
+    pub course: Course,
     /// Who ran it.
     pub controller: Controller,
     /// Who held the drive when the block was judged, and who did when it had ended.
@@ -110,6 +113,27 @@ pub struct Landing {
     pub bad_mark_passed: bool,
     /// A read stopped at a mark of a spare.
     pub stopped_on_spare: bool,
+}
+
+/// How a block went along the tracks of its volume. The tracks are those that are named, whichever serves
+/// them.
+#[derive(Clone, Copy, Debug, Default, PartialEq, Eq)]
+pub struct Course {
+    /// The order of the unit when the block was judged.
+    pub order: Order,
+    /// An accepted 81, 82, A1 or A2 went from a track to the one on the next cylinder under the same
+    /// head, though the volume has another head.
+    pub next_cylinder: bool,
+    /// Or went from cylinder C − 1 of a head to cylinder 0 of the next.
+    pub next_head: bool,
+    /// How many cylinders lie between the first and the last sector that it tried.
+    pub cylinders: u16,
+    /// XL was clear.
+    pub physical: bool,
+    /// Refused by 16, where a drive of the other order has all the sectors that the block names.
+    pub outside_alone: bool,
+    /// 87, accepted: the unit was initialized and had the other order.
+    pub changed: bool,
 }
 
 /// What earlier blocks have done to host memory: the bytes at the start of the run, and which
@@ -251,11 +275,31 @@ pub(crate) fn visit_before(
             pairs: record.table.count(),
             ..Landing::default()
         },
+        course: Course {
+            order: geometry.order,
+            physical: !block.logical(),
+            outside_alone: answer == 16 && inside_by_the_other(record, block),
+            changed: match judged {
+                Ok(Accepted { uib: Some(uib), .. }) => {
+                    record.counts_as_initialized() && uib.order != geometry.order
+                }
+                _ => false,
+            },
+            ..Course::default()
+        },
         controller: world.controller,
         holder: record.holder,
         held_after: record.holder,
         held_and_not_ready: answer == 24 && !record.counts_as_initialized(),
     }
+}
+
+/// Whether a transfer that 16 refuses would be let through on the same drive with the other order.
+fn inside_by_the_other(record: &Record, block: &Block) -> bool {
+    let mut other = *record;
+    other.geometry.order = record.geometry.order.other();
+    let transfer = matches!(block.command, 0x81 | 0x82 | 0xa1 | 0xa2);
+    transfer && first_sector(&other, block).is_some()
 }
 
 fn taken(record: &Record, block: &Block, answer: u8) -> Option<Taken> {
@@ -294,6 +338,12 @@ pub(crate) fn visit_after(
         stored_over_own_status: any_shares(&stored, before.at as u64 + 2, 2),
         stored_over_own_list: block.command == 0xa1 && any_shares(&stored, list, list_bytes(block)),
         landing: landing(before.landing, world, block, accepted, done),
+        course: if transfer {
+            let heads = record.geometry.volumes[block.volume() as usize].heads;
+            course(before.course, heads, &tried(record, block, accepted, done))
+        } else {
+            before.course
+        },
         ..before
     }
 }
@@ -351,6 +401,21 @@ fn landing(
         }),
         bad_mark_passed: reads && moved.iter().any(|found| passed_mark(world, unit, found)),
         stopped_on_spare: stopped && tried.last().is_some_and(|last| last.track != last.named),
+        ..before
+    }
+}
+
+fn course(before: Course, heads: u8, tried: &[Found]) -> Course {
+    let goes = |to: fn(Track, Track) -> bool| {
+        let mut steps = tried.windows(2);
+        steps.any(|two| to(two[0].named, two[1].named))
+    };
+    let along = goes(|from, to| from.head == to.head && from.cylinder + 1 == to.cylinder);
+    let cylinder = |found: Option<&Found>| found.map_or(0, |found| found.named.cylinder);
+    Course {
+        next_cylinder: along && heads > 1,
+        next_head: goes(|from, to| from.head + 1 == to.head && from.cylinder > to.cylinder),
+        cylinders: cylinder(tried.last()).abs_diff(cylinder(tried.first())),
         ..before
     }
 }

@@ -41,6 +41,10 @@ fn any_holder(draw: &mut Draw) -> Holder {
     }
 }
 
+fn any_order(draw: &mut Draw) -> Order {
+    Order::BOTH[draw.below(2) as usize]
+}
+
 fn record(draw: &mut Draw) -> Record {
     if draw.one_in(6) {
         // Any numbers at all.
@@ -62,6 +66,7 @@ fn record(draw: &mut Draw) -> Record {
                         heads: b[9],
                     },
                 ],
+                order: any_order(draw),
             },
             cylinder: word(10),
             table: any_table(draw, 0),
@@ -74,6 +79,7 @@ fn record(draw: &mut Draw) -> Record {
         holder: any_holder(draw),
         ..ready()
     };
+    record.geometry.order = any_order(draw);
     if draw.one_in(6) {
         record.geometry.volumes[1].heads = 0;
     }

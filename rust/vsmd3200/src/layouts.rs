@@ -35,6 +35,10 @@ const AT_TABLE: usize = 20;
 const PAIR_LEN: usize = 8;
 const TRACK_LEN: usize = 4;
 
+/// The order of a drive's tracks, by the number in a record.
+const ORDER_BY_HEAD: u8 = 0x00;
+const ORDER_BY_CYLINDER: u8 = 0x01;
+
 /// Who holds the drive, by the number in a record.
 const HOLDER_NONE: u8 = 0x00;
 const HOLDER_FIRST: u8 = 0x01;
@@ -69,6 +73,31 @@ pub struct Volume {
     pub heads: u8,
 }
 
+/// Which track of a volume comes after which: the order by which logical sectors are numbered and
+/// transfers go on. An initialize takes it from the UIB's attribute "increment by head", bit 04 of
+/// byte E. Where a sector stands in the image is the same in both.
+#[derive(Clone, Copy, Debug, Default, PartialEq, Eq, Hash)]
+#[repr(u8)]
+pub enum Order {
+    /// The heads of a cylinder one after the other, then the next cylinder. With N heads, logical
+    /// sector n is sector n mod S, head (n div S) mod N, cylinder n div (S × N).
+    #[default]
+    ByHead = ORDER_BY_HEAD,
+    /// The cylinders of a head one after the other, then the next head. Logical sector n is sector
+    /// n mod S, cylinder (n div S) mod C, head n div (S × C).
+    ByCylinder = ORDER_BY_CYLINDER,
+}
+
+impl Order {
+    /// Both of them, by number.
+    pub const ALL: [Order; 2] = [Order::ByHead, Order::ByCylinder];
+
+    /// The order's number in a record.
+    pub const fn number(self) -> u8 {
+        self as u8
+    }
+}
+
 /// The shape of a drive, as a record holds it. Any numbers can stand in one; the library judges
 /// them.
 #[derive(Clone, Copy, Debug, Default, PartialEq, Eq, Hash)]
@@ -81,6 +110,8 @@ pub struct Geometry {
     pub bytes_a_sector: u16,
     /// The two volumes; they share no head, and neither ends past head 64.
     pub volumes: [Volume; 2],
+    /// The order of the tracks of each volume.
+    pub order: Order,
 }
 
 /// A track: a cylinder, and a head counted over the whole drive. Any numbers can stand in one; the
@@ -130,6 +161,7 @@ impl Record {
         bytes[11] = zero.heads;
         bytes[12] = one.start_head;
         bytes[13] = one.heads;
+        bytes[AT_ORDER] = geometry.order.number();
         Record(with_word(bytes, 14, cylinder))
     }
 
@@ -150,8 +182,8 @@ impl Record {
     }
 
     /// The record of version 2 for one of version 1 that a board has kept: the same unit without
-    /// pairs, held by nobody. Any bytes that are not the record of an initialized unit there give
-    /// [`Record::UNINITIALIZED`].
+    /// pairs, by head and held by nobody. Any bytes that are not the record of an initialized unit
+    /// there give [`Record::UNINITIALIZED`].
     pub fn upgrade(old: &[u8; RECORD_LEN_V1]) -> Record {
         if old[..4] != OPENING_V1 {
             return Record::UNINITIALIZED;
@@ -180,7 +212,9 @@ impl Record {
     /// cylinder that the geometry does not have, or a table that the drive cannot have makes it
     /// count as not initialized all the same.
     pub fn initialized(&self) -> bool {
-        self.0[..4] == OPENING && self.0[AT_ORDER] == 0 && self.0[AT_HOLDER] <= HOLDER_SECOND
+        self.0[..4] == OPENING
+            && self.0[AT_ORDER] <= ORDER_BY_CYLINDER
+            && self.0[AT_HOLDER] <= HOLDER_SECOND
     }
 
     /// Which controller holds the drive, if one does. A record that is not of this layout, by its
@@ -210,13 +244,18 @@ impl Record {
         self.0[0] == OPENING[0] && self.0[2..4] == OPENING[2..]
     }
 
-    /// The geometry.
+    /// The geometry. A number in byte 16 that is no order's reads as by head; such a record counts as
+    /// not initialized.
     pub const fn geometry(&self) -> Geometry {
         Geometry {
             cylinders: self.word(4),
             sectors_a_track: self.word(6),
             bytes_a_sector: self.word(8),
             volumes: [self.volume(10), self.volume(12)],
+            order: match self.0[AT_ORDER] {
+                ORDER_BY_CYLINDER => Order::ByCylinder,
+                _ => Order::ByHead,
+            },
         }
     }
 

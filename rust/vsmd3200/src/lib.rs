@@ -40,15 +40,28 @@
 //! on a track that serves as a spare, share neither a byte of the image nor a mark. A spare that is
 //! named itself is where the sectors of its bad track are.
 //!
+//! A drive counts its tracks by head or by cylinder, as its UIB said or as a board makes its record:
+//!
+//! ```
+//! use vsmd3200::{Geometry, Order, Record};
+//!
+//! # let geometry = Geometry::default();
+//! let by_cylinder = Geometry { order: Order::ByCylinder, ..geometry };
+//! let record = Record::from_parts(true, by_cylinder, 0);
+//! assert_eq!(record.geometry().order, Order::ByCylinder);
+//! assert_eq!(Geometry::default().order, Order::ByHead);
+//! ```
+//!
 //! Two controllers may share the drives. Each runs its chains by [`run_as`] on a host memory and an
 //! event buffer of its own; images and records are those of both. The first takes drive 0 here, and
 //! the second is refused until the drive is given up:
 //!
 //! ```
-//! use vsmd3200::{run_as, BlockAnswer, Controller, Geometry, Record, Volume};
+//! use vsmd3200::{run_as, BlockAnswer, Controller, Geometry, Order, Record, Volume};
 //!
 //! # let volumes = [Volume { start_head: 0, heads: 1 }, Volume::default()];
-//! # let geometry = Geometry { cylinders: 2, sectors_a_track: 1, bytes_a_sector: 64, volumes };
+//! # let (cylinders, order) = (2, Order::ByHead);
+//! # let geometry = Geometry { cylinders, sectors_a_track: 1, bytes_a_sector: 64, volumes, order };
 //! let mut records = [Record::from_parts(true, geometry, 0), Record::UNINITIALIZED];
 //! let mut restore = |options, controller| {
 //!     let (mut host, mut events) = ([0u8; 28], [0u8; 512]);
@@ -79,7 +92,7 @@ mod layouts;
 pub use answers::{BlockAnswer, RunAnswer};
 pub use calls::{inspect, part_of, run, run_as, Part};
 pub use layouts::{
-    Controller, Geometry, Outcome, Pair, Record, Track, Volume, LAYOUT_VERSION, OUTCOME_LEN,
+    Controller, Geometry, Order, Outcome, Pair, Record, Track, Volume, LAYOUT_VERSION, OUTCOME_LEN,
     PAIRS_MOST, RECORD_LEN, RECORD_LEN_V1,
 };
 

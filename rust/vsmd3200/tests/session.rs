@@ -1,8 +1,8 @@
 //! The paper's session example through the wrapper, and the typed views of records and answers.
 
 use vsmd3200::{
-    inspect, part_of, run, run_as, BlockAnswer, Controller, Geometry, Outcome, Pair, Part, Record,
-    RunAnswer, Track, Volume, EVENTS_LEN_LEAST, PAIRS_MOST, RECORD_LEN,
+    inspect, part_of, run, run_as, BlockAnswer, Controller, Geometry, Order, Outcome, Pair, Part,
+    Record, RunAnswer, Track, Volume, EVENTS_LEN_LEAST, PAIRS_MOST, RECORD_LEN,
 };
 
 const UIB: [u8; 18] = [
@@ -25,6 +25,13 @@ const SMALL: Geometry = Geometry {
             heads: 1,
         },
     ],
+    order: Order::ByHead,
+};
+
+/// The same drive, counted by cylinder.
+const BY_CYLINDER: Geometry = Geometry {
+    order: Order::ByCylinder,
+    ..SMALL
 };
 
 fn image() -> Vec<u8> {
@@ -481,6 +488,93 @@ fn a_table_that_is_full() {
     let (outcome, _) = go(&remap, &mut [], &mut records);
     assert_eq!(outcome.failed, Some(BlockAnswer::TableFull));
     assert_eq!(records[0], record);
+}
+
+/// The small drive with a number where its order stands.
+fn ordered(number: u8) -> Record {
+    let mut bytes = *Record::from_parts(true, SMALL, 4).as_bytes();
+    bytes[16] = number;
+    Record::from_bytes(bytes)
+}
+
+#[test]
+fn orders_are_their_bytes() {
+    assert_eq!(Record::from_parts(true, SMALL, 4), ordered(0));
+    assert_eq!(Record::from_parts(true, BY_CYLINDER, 4), ordered(1));
+    for order in Order::ALL {
+        let record = ordered(order.number());
+        assert_eq!(record.parts(), (true, Geometry { order, ..SMALL }, 4));
+    }
+    for number in 2..=255 {
+        let record = ordered(number);
+        assert_eq!(record.parts(), (false, SMALL, 4));
+        // as the library sees it, which leaves such a record alone
+        let mut records = [record, Record::UNINITIALIZED];
+        let (outcome, _) = go(&[0x89], &mut [], &mut records);
+        assert_eq!(outcome.failed, Some(BlockAnswer::NotInitialized));
+        assert_eq!(records[0], record);
+    }
+}
+
+/// Logical 3 and 4 are places 3 and 12: the track of head 0 on cylinder 0 is followed by that on
+/// cylinder 1.
+#[test]
+fn a_drive_by_cylinder() {
+    let mut image = image();
+    let mut records = [
+        Record::from_parts(true, BY_CYLINDER, 0),
+        Record::UNINITIALIZED,
+    ];
+    let write = [0x82, 0x10, 0, 0, 0, 0, 0, 3, 0, 2, 0, 0, 0, 100];
+    let (outcome, _) = go(&write, &mut image, &mut records);
+    assert_eq!((outcome.answer, outcome.sectors), (RunAnswer::Done, 2));
+    assert_eq!(records[0].parts(), (true, BY_CYLINDER, 1));
+    assert_eq!(inspect(&image, &[], &records, 0, 3), &[0x33; 64]);
+    assert_eq!(inspect(&image, &[], &records, 0, 12), &[0x33; 64]);
+    assert_ne!(inspect(&image, &[], &records, 0, 4), &[0x33; 64]);
+
+    // From head 1 on cylinder 0 there are 40 sectors to the end of the volume.
+    let (mut host, mut events) = (vec![0; 2800], [0; EVENTS_LEN_LEAST]);
+    host[..14].copy_from_slice(&[0x81, 0, 0, 0, 0, 0, 1, 0, 0, 41, 0, 0, 0, 100]);
+    let mut read = |count| {
+        host[9] = count;
+        run(
+            &mut host,
+            &mut image,
+            &mut [],
+            &mut events,
+            &mut records,
+            0,
+            1,
+        )
+    };
+    assert_eq!(read(41).failed, Some(BlockAnswer::SectorOutside));
+    let outcome = read(40);
+    assert_eq!((outcome.answer, outcome.sectors), (RunAnswer::Done, 40));
+    assert_eq!(records[0].cylinder(), 9);
+    assert_eq!(host[100..164], image[4 * 64..5 * 64]);
+    assert_eq!(
+        host[100 + 39 * 64..100 + 40 * 64],
+        image[115 * 64..116 * 64]
+    );
+}
+
+#[test]
+fn an_initialize_takes_the_order() {
+    for (attributes, geometry) in [
+        (0x04, SMALL),
+        (0xff, SMALL),
+        (0x00, BY_CYLINDER),
+        (0xfb, BY_CYLINDER),
+    ] {
+        let (mut host, mut events) = (host(), [0; EVENTS_LEN_LEAST]);
+        host[1] = 0;
+        host[56 + 14] = attributes;
+        let mut records = [Record::UNINITIALIZED; 2];
+        let outcome = run(&mut host, &mut [], &mut [], &mut events, &mut records, 0, 1);
+        assert_eq!(outcome.answer, RunAnswer::Done);
+        assert_eq!(records[0], Record::from_parts(true, geometry, 0));
+    }
 }
 
 #[test]

@@ -4,13 +4,15 @@ use mathlib.Core.Path.{_≡_, refl}
 use Rattle.geometry.specs.declared.Address.{Address}
 use Rattle.geometry.specs.declared.Geometry.{Geometry}
 use Rattle.geometry.specs.declared.VolumeNumber.{VolumeNumber}
-use Rattle.geometry.specs.Drive.{B, N, S, driveHeads, marksAt, start, volume}
-use Rattle.geometry.specs.Sectors.{address, addressOf, firstByte, markByte, numberOf, placeOf}
+use Rattle.geometry.specs.Drive.{B, S, byHead, driveHeads, marksAt, start, volume}
+use Rattle.geometry.specs.Orders.{ordered}
+use Rattle.geometry.specs.Sectors.{address, addressOf, firstByte, markByte, numberOf, placeOf, tracksEach}
 
 pub addressOf-is :
     (g : Geometry) (v : VolumeNumber) (n : ℕ) →
     addressOf g v n ≡
-    address (n / (S g * N (volume g v))) (start (volume g v) + n / S g % N (volume g v)) (n % S g)
+    (let track = ordered (byHead g) (n / (S g * tracksEach g v), (n / S g) % tracksEach g v) in
+    address (track .0) (start (volume g v) + track .1) (n % S g))
 unfolding addressOf
 addressOf-is g v n = refl
 
@@ -19,7 +21,8 @@ unfolding placeOf
 placeOf-is g a = refl
 
 pub numberOf-is :
-    (g : Geometry) (v : VolumeNumber) (c h s : ℕ) → numberOf g v c h s ≡ (c * N (volume g v) + h) * S g + s
+    (g : Geometry) (v : VolumeNumber) (c h s : ℕ) →
+    numberOf g v c h s ≡ (let steps = ordered (byHead g) (c, h) in (steps .0 * tracksEach g v + steps .1) * S g + s)
 unfolding numberOf
 numberOf-is g v c h s = refl
 

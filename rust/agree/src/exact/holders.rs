@@ -133,7 +133,7 @@ fn not_initialized(sheet: &mut Sheet) {
         ("flag FF", 1, &[0xff]),
         ("S 256", 6, &[0x01, 0x00]),
         ("cylinder C", 15, &[10]),
-        ("order 01", 16, &[0x01]),
+        ("order 02", 16, &[0x02]),
         ("33 pairs", 18, &[0x00, 0x21]),
     ];
     for (name, at, bytes) in spoil {

@@ -430,7 +430,7 @@ fn tables_that_are_bad(sheet: &mut Sheet) {
         ("a spare that is bad", two(32, &track_bytes(BAD))),
         ("a bad track that is a spare", two(28, &track_bytes(SPARE))),
         ("a pair of one track", two(32, &track_bytes((2, 0)))),
-        ("order 01", two(16, &[0x01])),
+        ("order 02", two(16, &[0x02])),
         ("holder 03", two(17, &[0x03])),
         ("version 1", two(0, &[0x01, 0x01, 0x00, 0x10])),
     ];

@@ -2,10 +2,10 @@
 
 use super::drives::{geometry, ready, unready, wide_geometry, Way};
 use super::memory::Memory;
-use super::{tables, Theme};
+use super::{orders, tables, Theme};
 use crate::case::{record_bytes, RecordBytes};
 use crate::draw::Draw;
-use model::{Block, Geometry, Holder, Pair, Record, Table, COMMANDS};
+use model::{Block, Geometry, Holder, Order, Pair, Record, Table, COMMANDS};
 
 pub const UN: u8 = 0x80;
 pub const VO: u8 = 0x40;
@@ -15,6 +15,9 @@ pub const DE: u8 = 0x04;
 
 pub const BLOCK: u64 = 28;
 pub const UIB: usize = 18;
+
+/// The one attribute of a UIB, its byte 14, that is kept.
+const INCREMENT_BY_HEAD: u8 = 0x04;
 
 /// What the maker knows of a unit.
 #[derive(Clone)]
@@ -86,6 +89,7 @@ impl Unit {
             Theme::Tables => Unit::tabled(draw),
             Theme::FreshTables => Unit::fresh(draw),
             Theme::Held => Unit::held(draw),
+            Theme::Orders => Unit::ordered(draw),
         }
     }
 
@@ -361,6 +365,9 @@ impl Maker {
             count,
         };
         self.point(block, &g, aim);
+        if self.theme == Theme::Orders && self.draw.percent(8) {
+            self.end_between_orders(block, &g, volume);
+        }
         if self.slip() {
             self.miss(block, &g, volume, sectors);
         }
@@ -387,14 +394,18 @@ impl Maker {
 
     fn first(&mut self, g: &Geometry, volume: u8, sectors: u64, count: u64) -> u64 {
         let latest = sectors - count;
-        let a_cylinder = sectors / g.cylinders.max(1) as u64;
+        let row = match g.order {
+            Order::ByHead => sectors / g.cylinders.max(1) as u64,
+            Order::ByCylinder => self.row_by_cylinder(g),
+        };
         match self.draw.below(10) {
             0..=3 => self.draw.between(0, latest),
             4 | 5 => latest,
             6 => (volume as u64).min(latest),
-            // so that it goes over to the next cylinder, where there is one
+            // so that it goes over to the next cylinder, or to the next head by cylinder, where there is
+            // one
             _ => {
-                let next = a_cylinder * self.draw.between(1, g.cylinders.max(1) as u64);
+                let next = row * self.draw.between(1, (sectors / row.max(1)).max(1));
                 next.saturating_sub(self.draw.between(1, count)).min(latest)
             }
         }
@@ -545,13 +556,14 @@ impl Maker {
         let old = self.units[unit].meant;
         // what another controller was told of the drive is mostly to stay so
         let same = self.theme == Theme::Held && self.draw.percent(75);
-        let (new, wide) = match self.draw.below(20) {
+        let (mut new, wide) = match self.draw.below(20) {
             _ if same => (old, self.units[unit].wide),
             0..=8 => (old, self.units[unit].wide),
             9 => (wide_geometry(&mut self.draw), true),
             10 => (Geometry::table_11(), true),
             _ => (self.another_geometry(), false),
         };
+        self.draw_order(&mut new);
         let mut uib = self.uib(&new);
         if self.slip() {
             uib = self.spoiled_uib(&new);
@@ -572,7 +584,9 @@ impl Maker {
     }
 
     fn another_geometry(&mut self) -> Geometry {
-        if self.theme.tables() {
+        if self.theme == Theme::Orders {
+            orders::geometry(&mut self.draw)
+        } else if self.theme.tables() {
             tables::geometry(&mut self.draw)
         } else {
             geometry(&mut self.draw)
@@ -637,5 +651,9 @@ pub fn uib_of(draw: &mut Draw, g: &Geometry) -> [u8; UIB] {
     uib[4] = g.sectors_a_track as u8;
     uib[6..8].copy_from_slice(&g.bytes_a_sector.to_be_bytes());
     uib[12..14].copy_from_slice(&g.cylinders.to_be_bytes());
+    match g.order {
+        Order::ByHead => uib[14] |= INCREMENT_BY_HEAD,
+        Order::ByCylinder => uib[14] &= !INCREMENT_BY_HEAD,
+    }
     uib
 }

@@ -2,7 +2,7 @@
 
 use crate::case::{record_bytes, RecordBytes, OPENING, RECORD_LEN};
 use crate::draw::Draw;
-use model::{Geometry, Holder, Record, Table, Volume};
+use model::{Geometry, Holder, Order, Record, Table, Volume};
 
 /// The single ways in which a record can be outside: "a geometry outside the limits, or a
 /// cylinder of C or more".
@@ -113,7 +113,8 @@ fn share(draw: &mut Draw, g: &mut Geometry) {
     };
 }
 
-/// A geometry within the limits whose image stays small.
+/// A geometry within the limits whose image stays small. Here and below drives are by head; a theme that
+/// has others too draws their order apart.
 pub fn geometry(draw: &mut Draw) -> Geometry {
     let bytes = bytes_a_sector(draw);
     let sectors = (if bytes > 1000 { 60_000 } else { 20_000 }) / (bytes + 1);
@@ -124,6 +125,7 @@ pub fn geometry(draw: &mut Draw) -> Geometry {
         sectors_a_track: s as u16,
         bytes_a_sector: bytes as u16,
         volumes,
+        order: Order::ByHead,
     };
     let most = (sectors / g.drive_sectors().max(1)).clamp(1, 300);
     let usual = most.min(12);
@@ -215,6 +217,7 @@ pub fn wide_geometry(draw: &mut Draw) -> Geometry {
                 volume(0, (end - heads0) as u8),
             ],
         },
+        order: Order::ByHead,
     }
 }
 

@@ -6,6 +6,7 @@ mod drives;
 mod held;
 mod lists;
 mod memory;
+mod orders;
 mod pair;
 mod tables;
 
@@ -31,6 +32,8 @@ pub enum Theme {
     FreshTables,
     /// Records with tables and with any holder, for runs by either controller.
     Held,
+    /// Drives by head and by cylinder, with tables and without. In every other theme drives are by head.
+    Orders,
 }
 
 impl Theme {
@@ -45,6 +48,7 @@ impl Theme {
             Theme::Tables => seed ^ 0x7ab1_e500,
             Theme::FreshTables => seed ^ 0x7ab1_e50f,
             Theme::Held => seed ^ 0x0e1d_0e1d,
+            Theme::Orders => seed ^ 0x0c1b_7ead,
         }
     }
 }

@@ -5,7 +5,7 @@ use super::chain::{uib_of, Aim, Maker, Unit, UIB};
 use super::drives::{self, ready, volumes, wide_geometry};
 use crate::case::{record_bytes, RecordBytes, HOLDER_AT, ORDER_AT, PAIRS_AT, RECORD_LEN, TABLE_AT};
 use crate::draw::Draw;
-use model::{Block, Geometry, Pair, Record, Table, Track, MOST_PAIRS};
+use model::{Address, Block, Geometry, Order, Pair, Record, Table, Track, MOST_PAIRS};
 
 /// The single ways in which the table of a record, or what stands before it, makes the record one
 /// that counts as not initialized.
@@ -50,7 +50,7 @@ impl TableWay {
             TableWay::BadTwice => "a bad track twice",
             TableWay::SpareTwice => "a spare twice",
             TableWay::BadAndSpare => "a track bad and spare",
-            TableWay::Order => "the order byte not 00",
+            TableWay::Order => "an order byte that is no order",
             TableWay::Holder => "a holder byte that is no holder",
         }
     }
@@ -101,7 +101,7 @@ impl TableWay {
             TableWay::SpareTwice if pairs > 1 => same(spare[0], spare[1]),
             TableWay::BadAndSpare if pairs > 1 => same(bad[0], spare[1]),
             TableWay::BadTwice | TableWay::SpareTwice | TableWay::BadAndSpare => {}
-            TableWay::Order => bytes[ORDER_AT] = draw.pick(&[1, 2, 0x80, 0xff]),
+            TableWay::Order => bytes[ORDER_AT] = draw.pick(&[3, 2, 0x80, 0xff]),
             // the first two are holders: with one the record is good, with the other it is 24
             TableWay::Holder => bytes[HOLDER_AT] = draw.pick(&[1, 2, 0x80, 0xff]),
         }
@@ -121,6 +121,10 @@ fn unready(draw: &mut Draw, g: Geometry, table: Table) -> RecordBytes {
             let mut bytes = [0; RECORD_LEN];
             draw.fill(&mut bytes);
             bytes[..16].copy_from_slice(&record_bytes(&record)[..16]);
+            if bytes[ORDER_AT] == Order::ByCylinder.number() {
+                // by cylinder are only drives that are meant to be
+                bytes[ORDER_AT] = 2;
+            }
             bytes
         }
         _ => draw.pick(&TableWay::ALL).spoil(draw, &record),
@@ -141,6 +145,7 @@ pub fn geometry(draw: &mut Draw) -> Geometry {
         sectors_a_track: s as u16,
         bytes_a_sector: b as u16,
         volumes: volumes(draw, 9),
+        order: Order::ByHead,
     };
     let h = g.drive_heads();
     let least = if roomy { 66_u64.div_ceil(h) } else { 2 };
@@ -337,10 +342,16 @@ fn neighbour(draw: &mut Draw, g: &Geometry, table: &Table, track: Track) -> Opti
 
 /// The number in its volume of the first sector of a track.
 fn first_of(g: &Geometry, track: Track) -> Option<u64> {
-    let volume = g.volumes[volume_of(g, track)? as usize];
-    let before = track.cylinder as u64 * volume.heads as u64;
-    let head = track.head as u64 - volume.start_head as u64;
-    Some((before + head) * g.sectors_a_track as u64)
+    let volume = volume_of(g, track)?;
+    let start_head = g.volumes[volume as usize].start_head as u64;
+    g.logical(
+        volume,
+        Address {
+            cylinder: track.cylinder as u64,
+            head: track.head as u64 - start_head,
+            sector: 0,
+        },
+    )
 }
 
 /// The words of an 85 that name a pair; what it does not look at stays as it is.

@@ -1,7 +1,9 @@
 //! The small drive of the paper, and worlds laid out by hand.
 #![allow(dead_code)]
 
-use model::{Block, Controller, Geometry, Holder, Pair, Record, Table, Track, Volume, World};
+use model::{
+    Block, Controller, Geometry, Holder, Order, Pair, Record, Table, Track, Volume, World,
+};
 
 pub const UN: u8 = 0x80;
 pub const VO: u8 = 0x40;
@@ -38,6 +40,7 @@ pub fn small() -> Geometry {
                 heads: 1,
             },
         ],
+        order: Order::ByHead,
     }
 }
 

@@ -1,4 +1,4 @@
--- Each number is read where the layout has it.
+-- Each number is read where the layout has it, and so is the order.
 -- The constructors put together what was read.
 use borrow.Author.Needs.{needs}
 use Rattle.abi.proofs.layouts.geometry.Statement.{statement}
@@ -22,16 +22,24 @@ volume-requires-2 c κs = search needs
 new-requires : tie.Need-new-requires
 new-requires c κs = search needs
 
+shared-slice-read-with-increment : tie.Need-shared-slice-read-with-increment
+shared-slice-read-with-increment c = search needs
+
+with-increment-requires : tie.Need-with-increment-requires
+with-increment-requires c κs = search needs
+
 returns : tie.Need-returns
 returns c =
-    let numbers = c .before .before .before in
+    let made = c .before .before in
+    let numbers = made .before .before .before in
     rw (
-      c .new .ensures,
+      c .with-increment .ensures,
+      made .new .ensures,
       numbers .before .before .be16 .ensures,
       numbers .before .be162 .ensures,
       numbers .be163 .ensures,
-      c .before .before .volume .ensures,
-      c .before .volume2 .ensures,
+      made .before .before .volume .ensures,
+      made .before .volume2 .ensures,
     )
 
 pub geometry-spec : {M : Type 1} → statement M
@@ -44,4 +52,6 @@ geometry-spec =
     volume-requires
     volume-requires-2
     new-requires
+    shared-slice-read-with-increment
+    with-increment-requires
     returns)

@@ -1,6 +1,8 @@
 -- Six stores, one after the other, are the bytes of a record in a row.
 -- What is stored is what the record answered, and the tracks of the pairs that count.
 use Rattle.abi.proofs.Stored.{record-stored}
+use Rattle.abi.specs.Layouts.{orderByte}
+use Rattle.geometry.specs.Drive.{byHead}
 use Rattle.unit.specs.Standing.{cylinder, geometry, holder, initialized, pairs}
 use borrow.Author.Needs.{needs}
 use Rattle.abi.proofs.layouts.put_record.Statement.{statement}
@@ -27,14 +29,8 @@ cylinder-requires c κs = search needs
 put16-requires : tie.Need-put16-requires
 put16-requires c κs = search needs
 
-holder-requires : tie.Need-holder-requires
-holder-requires c κs = search needs
-
-number-requires : tie.Need-number-requires
-number-requires c κs = search needs
-
-put-two-requires : tie.Need-put-two-requires
-put-two-requires c κs = search needs
+put-order-and-holder-requires : tie.Need-put-order-and-holder-requires
+put-order-and-holder-requires c κs = search needs
 
 pairs-requires : tie.Need-pairs-requires
 pairs-requires c κs = search needs
@@ -56,7 +52,7 @@ returns c =
     let sixth = c .before .before in
     let fifth = sixth .before .before .before .before .before in
     let fourth = fifth .before .before .before .before .before in
-    let third = fourth .before .before .before .before .before .before in
+    let third = fourth .before .before .before .before in
     let second = third .before .before .before .before .before in
     let first = second .before .before .before .before .before in
     let a = first .before .before .before .before .args in
@@ -64,18 +60,16 @@ returns c =
     rw (
       sixth .put-tracks .ensures,
       fifth .put162 .ensures,
-      fourth .put-two .ensures,
+      fourth .put-order-and-holder .ensures,
       third .put16 .ensures,
       second .put-geometry .ensures,
       first .put-opening .ensures,
       sixth .before .pairs2 .ensures,
       fifth .before .pairs .ensures,
-      fourth .before .number .ensures,
-      fourth .before .before .holder .ensures,
       third .before .cylinder .ensures,
       second .before .geometry .ensures,
       first .before .initialized .ensures,
-    ) (record-stored (a .bytes .now) (initialized u) (geometry u) (cylinder u) (holderNumber (holder u)) (pairs u) (counted (pairs u) (a .table .now)))
+    ) (record-stored (a .bytes .now) (initialized u) (geometry u) (cylinder u) (orderByte (byHead (geometry u))) (holderNumber (holder u)) (pairs u) (counted (pairs u) (a .table .now)))
 
 pub put-record-spec : {M : Type 1} → statement M
 put-record-spec =
@@ -87,9 +81,7 @@ put-record-spec =
     put-geometry-requires
     cylinder-requires
     put16-requires
-    holder-requires
-    number-requires
-    put-two-requires
+    put-order-and-holder-requires
     pairs-requires
     put16-requires-2
     pairs-requires-2

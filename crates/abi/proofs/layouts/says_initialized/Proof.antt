@@ -2,7 +2,7 @@
 -- Each comparison that is made is one of the definition's.
 use mathlib.Core.Path.{_∙_}
 use native.Mathlib.Omega.{arith}
-use borrow.Author.Tests.{eq-eqb, ne-eqb}
+use borrow.Author.Tests.{eq-eqb, le-leb, lt-leb, ne-eqb}
 use lib.ListN.{getD}
 use Rattle.wire.specs.Words.{be32}
 use borrow.Author.Needs.{needs}
@@ -27,7 +27,7 @@ shared-slice-read-if2 c = search needs
 returns-2 : tie.Need-returns-2
 returns-2 c =
     let bytes = start (c .before) .args .bytes .now in
-    rw (eq-eqb (be32 bytes 0) 0x02010114 (omega arith), ne-eqb (getD bytes 16 0) 0 (omega arith))
+    rw (eq-eqb (be32 bytes 0) 0x02010114 (omega arith), lt-leb (getD bytes 16 0) 1 (omega arith))
 
 shared-slice-read-result : tie.Need-shared-slice-read-result
 shared-slice-read-result c = search needs
@@ -35,7 +35,7 @@ shared-slice-read-result c = search needs
 returns-3 : tie.Need-returns-3
 returns-3 c =
     let bytes = start (c .before .before) .args .bytes .now in
-    rw (eq-eqb (be32 bytes 0) 0x02010114 (omega arith), eq-eqb (getD bytes 16 0) 0 (omega arith))
+    rw (eq-eqb (be32 bytes 0) 0x02010114 (omega arith), le-leb (getD bytes 16 0) 1 (omega arith))
 
 pub says-initialized-spec : {M : Type 1} → statement M
 says-initialized-spec =

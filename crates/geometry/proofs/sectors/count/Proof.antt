@@ -10,8 +10,8 @@ use Rattle.geometry.proofs.sectors.count.Tie as tie
 mul-result : tie.Need-mul-result
 mul-result c = record { fits = product-below _ _ 65535 65535 _ (omega arith) (omega arith) tt }
 
-track : (c : tie.Start) → c .args .cylinder * c .args .heads + c .args .head ≤ 2 ^ 33
-track c = omega (arith, product-below (c .args .cylinder) (c .args .heads) 65535 65535 (2 ^ 32) (omega arith) (omega arith) tt)
+track : (c : tie.Start) → c .args .slow * c .args .each + c .args .quick ≤ 2 ^ 33
+track c = omega (arith, product-below (c .args .slow) (c .args .each) 65535 65535 (2 ^ 32) (omega arith) (omega arith) tt)
 
 add-result : tie.Need-add-result
 add-result c = omega (arith, track c)
@@ -21,7 +21,7 @@ mul-result-2 c = record { fits = product-below _ _ (2 ^ 33) 65535 _ (track c) (o
 
 add-result-2 : tie.Need-add-result-2
 add-result-2 c =
-    omega (arith, product-below (c .args .cylinder * c .args .heads + c .args .head) (c .args .sectors) (2 ^ 33) 65535 (2 ^ 49) (track c) (omega arith) tt)
+    omega (arith, product-below (c .args .slow * c .args .each + c .args .quick) (c .args .sectors) (2 ^ 33) 65535 (2 ^ 49) (track c) (omega arith) tt)
 
 returns : tie.Need-returns
 returns c = search needs

@@ -56,12 +56,20 @@ number-requires c κs = search needs
 wide-requires-5 : tie.Need-wide-requires-5
 wide-requires-5 c κs = search needs
 
+by-head-requires : tie.Need-by-head-requires
+by-head-requires c κs = search needs
+
+flag-requires-2 : tie.Need-flag-requires-2
+flag-requires-2 c κs = search needs
+
 returns : tie.Need-returns
 unfolding asNumbers
 returns c =
-    let start = c .before .before .before .before .before .before .before .before .before .before .before .before .before .before .before .before .before in
+    let start = c .before .before .before .before .before .before .before .before .before .before .before .before .before .before .before .before .before .before .before in
     let back = record-back (start .args .self) (record { start = omega arith; heads = omega arith }) (record { start = omega arith; heads = omega arith }) in
-    let at-number = c .before in
+    let at-by-head = c .before in
+    let at-wide5 = at-by-head .before in
+    let at-number = at-wide5 .before in
     let at-wide4 = at-number .before in
     let at-heads2 = at-wide4 .before in
     let at-wide3 = at-heads2 .before in
@@ -77,7 +85,9 @@ returns c =
     let at-volume2 = at-flag .before in
     let at-volume = at-volume2 .before in
     rw (
-      c .wide5 .ensures,
+      c .flag2 .ensures,
+      at-by-head .by-head .ensures,
+      at-wide5 .wide5 .ensures,
       at-number .number .ensures,
       at-wide4 .wide4 .ensures,
       at-heads2 .heads2 .ensures,
@@ -116,4 +126,6 @@ numbers-spec =
     wide-requires-4
     number-requires
     wide-requires-5
+    by-head-requires
+    flag-requires-2
     returns)

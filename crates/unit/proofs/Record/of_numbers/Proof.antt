@@ -47,26 +47,33 @@ element-copy-out-new-3 c = search needs
 new-requires-3 : tie.Need-new-requires-3
 new-requires-3 c κs = search needs
 
+element-copy-out-with-increment : tie.Need-element-copy-out-with-increment
+element-copy-out-with-increment c = search needs
+
+with-increment-requires : tie.Need-with-increment-requires
+with-increment-requires c κs = search needs
+
 element-copy-out-of : tie.Need-element-copy-out-of
 element-copy-out-of c = search needs
 
 of-requires : tie.Need-of-requires
 of-requires c κs = search needs
 
-element-copy-out-t24 : tie.Need-element-copy-out-t24
-element-copy-out-t24 c = search needs
-
-element-copy-out-t13 : tie.Need-element-copy-out-t13
-element-copy-out-t13 c = search needs
-
 element-copy-out-t9 : tie.Need-element-copy-out-t9
 element-copy-out-t9 c = search needs
+
+element-copy-out-t28 : tie.Need-element-copy-out-t28
+element-copy-out-t28 c = search needs
+
+element-copy-out-t25 : tie.Need-element-copy-out-t25
+element-copy-out-t25 c = search needs
 
 returns : tie.Need-returns
 unfolding inNumbers
 returns c =
     let of = c .before .before .before in
-    let new3 = of .before .before in
+    let increment = of .before .before in
+    let new3 = increment .before .before in
     let new2 = new3 .before .before .before .before in
     let low-byte4 = new2 .before in
     let low-byte3 = low-byte4 .before .before in
@@ -75,6 +82,7 @@ returns c =
     let low-byte = low-byte2 .before .before in
     rw (
       of .of .ensures,
+      increment .with-increment .ensures,
       new3 .new3 .ensures,
       new2 .new2 .ensures,
       low-byte4 .low-byte4 .ensures,
@@ -102,9 +110,11 @@ of-numbers-spec =
     element-copy-out-new-2
     element-copy-out-new-3
     new-requires-3
+    element-copy-out-with-increment
+    with-increment-requires
     element-copy-out-of
     of-requires
-    element-copy-out-t24
-    element-copy-out-t13
     element-copy-out-t9
+    element-copy-out-t28
+    element-copy-out-t25
     returns)

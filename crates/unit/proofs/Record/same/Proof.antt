@@ -1,10 +1,9 @@
 -- Records that differ in one of their parts differ.
 -- Past the tests before it the last one alone decides.
-use mathlib.Core.Bool.{Bool, true, false, Bool·beq, false≢true, true≢false}
-use mathlib.Core.Path.{_≡_, refl, sym, ap, _∙_}
+use mathlib.Core.Bool.{Bool·beq}
+use mathlib.Core.Path.{_≡_, sym, ap, _∙_}
 use native.Mathlib.Omega.{arith}
-use Rattle.wire.specs.Promise.{Says}
-use Rattle.wire.proofs.Promises.{denied, granted, says-same}
+use Rattle.wire.proofs.Promises.{denied, granted, says-beq, says-same}
 use Rattle.unit.specs.declared.Record.{Record}
 use Rattle.unit.proofs.Decided.{record-is}
 use Rattle.unit.proofs.Holders.{holders-differ}
@@ -12,12 +11,6 @@ use borrow.Author.Needs.{needs}
 use Rattle.unit.proofs.Record.same.Statement.{statement}
 use Rattle.unit.proofs.Record.same.Tie as tie
 use Rattle.unit.specs.HolderNumbers.{holderNumber}
-
-says-beq : (s t : Bool) → Says (Bool·beq s t) (s ≡ t)
-says-beq true true = refl
-says-beq true false = true≢false
-says-beq false true = false≢true
-says-beq false false = refl
 
 -- The places, from the last test: where the geometries are compared, where both holders' numbers are known, the call's beginning.
 abbrev compared : tie.After-struct-known6 → tie.After-same

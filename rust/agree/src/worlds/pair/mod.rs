@@ -12,7 +12,7 @@ mod steps;
 use super::chain::{Aim, Maker, Unit, BLOCK, UIB};
 use super::drives::geometry;
 use super::memory::Memory;
-use super::{tables, Theme};
+use super::{orders, tables, Theme};
 use crate::case::Case;
 use crate::draw::Draw;
 use model::{Block, Controller, Geometry, Record};
@@ -124,6 +124,9 @@ impl Plan {
             if theme == Theme::Held {
                 return Unit::held_as(&mut draw, meant);
             }
+            if theme == Theme::Orders {
+                return Unit::ordered_as(&mut draw, meant, false);
+            }
             if theme.tables() {
                 return Unit::tabled_as(&mut draw, meant, false);
             }
@@ -198,7 +201,9 @@ fn controllers(theme: Theme, draw: &mut Draw) -> [Controller; 2] {
 
 /// The smaller of two drives: its image is copied many times.
 fn small(theme: Theme, draw: &mut Draw) -> Geometry {
-    let any = if theme.tables() {
+    let any = if theme == Theme::Orders {
+        orders::geometry
+    } else if theme.tables() {
         tables::geometry
     } else {
         geometry

@@ -186,11 +186,12 @@ impl Plan {
     /// The UIB. One that is refused is misplaced, and then not read, or outside the limits.
     fn initialize(&mut self, chain: usize, unit: usize, end: End, step: &mut Step) {
         let draw = &mut self.maker.draw;
-        let new = if draw.percent(60) {
+        let mut new = if draw.percent(60) {
             step.drive.geometry
         } else {
             small(self.maker.theme, draw)
         };
+        self.maker.draw_order(&mut new);
         let draw = &mut self.maker.draw;
         step.odd = end == End::Refused && draw.percent(40);
         step.uib = self.maker.uib(&new);
