@@ -30,6 +30,143 @@
 extern "C" {
 #endif
 
+/* ---- the block -------------------------------------------------------------------------------------------------------------------
+ *
+ * What a host lays out in its memory to ask for something. 28 bytes at an even address, numbers big-endian:
+ *
+ *    0       command
+ *    1       options
+ *    2, 3    status and error. Out: the final ones of the block
+ *    4, 5    cylinder                                     with XL these four are one number, the
+ *    6       head, counted from the volume's start head   logical sector in the volume
+ *    7       sector
+ *    8, 9    sector count
+ *   10..13   address of the data; for 87 that of the UIB, for A1 and A2 that of the list
+ *   14, 15   memory type, address modifier; not judged
+ *   16       interrupt level
+ *   17       interrupt vector where the block ends with status 80
+ *   18       not used
+ *   19       interrupt vector where the block ends with status 82
+ *   20..23   address of the next block, where LK is set
+ *   24, 25   memory type and address modifier of the link; not judged
+ *   26       skew; not used
+ *   27       for A1 and A2 how many elements the list has, 1 to 64
+ *
+ * Some commands have other things there. 85 names the bad track's cylinder in 4 and 5 and its head in 6, the spare's cylinder in 8 and 9 and
+ * its head in 10. 8C takes the cylinder and the head of its track, and stores the last sector formatted in 7 and their number in 8 and 9
+ * where it ends with status 80. Heads of 85 and 8C are counted over the whole drive. 86 stores the board's identity in 4 to 15. */
+#define VSMD_BLOCK_LEN 28u
+
+#define VSMD_BLOCK_AT_COMMAND 0u
+#define VSMD_BLOCK_AT_OPTIONS 1u
+#define VSMD_BLOCK_AT_STATUS 2u
+#define VSMD_BLOCK_AT_ERROR 3u
+#define VSMD_BLOCK_AT_CYLINDER 4u
+#define VSMD_BLOCK_AT_HEAD 6u
+#define VSMD_BLOCK_AT_SECTOR 7u
+#define VSMD_BLOCK_AT_LOGICAL 4u /* in the place of cylinder, head and sector, where XL is set */
+#define VSMD_BLOCK_AT_COUNT 8u
+#define VSMD_BLOCK_AT_ADDRESS 10u
+#define VSMD_BLOCK_AT_MEMORY_TYPE 14u
+#define VSMD_BLOCK_AT_MODIFIER 15u
+#define VSMD_BLOCK_AT_LEVEL 16u
+#define VSMD_BLOCK_AT_NORMAL_VECTOR 17u
+#define VSMD_BLOCK_AT_ERROR_VECTOR 19u
+#define VSMD_BLOCK_AT_LINK 20u
+#define VSMD_BLOCK_AT_LINK_MEMORY_TYPE 24u
+#define VSMD_BLOCK_AT_LINK_MODIFIER 25u
+#define VSMD_BLOCK_AT_SKEW 26u
+#define VSMD_BLOCK_AT_ELEMENTS 27u
+
+#define VSMD_BLOCK_AT_SPARE_CYLINDER 8u /* of 85 */
+#define VSMD_BLOCK_AT_SPARE_HEAD 10u    /* of 85 */
+#define VSMD_BLOCK_AT_LAST_FORMATTED 7u /* left by 8C */
+#define VSMD_BLOCK_AT_FORMATTED 8u      /* left by 8C */
+#define VSMD_BLOCK_AT_IDENTITY 4u       /* left by 86: 3200 0103 0000 0611 07C3 0000 hex */
+#define VSMD_IDENTITY_LEN 12u
+
+/* The commands. Any other is VSMD_COMMAND_UNKNOWN. */
+#define VSMD_COMMAND_READ 0x81u
+#define VSMD_COMMAND_WRITE 0x82u
+#define VSMD_COMMAND_MAP_TRACK 0x85u
+#define VSMD_COMMAND_HANDSHAKE 0x86u
+#define VSMD_COMMAND_INITIALIZE 0x87u
+#define VSMD_COMMAND_RESTORE 0x89u
+#define VSMD_COMMAND_SEEK 0x8Au
+#define VSMD_COMMAND_FORMAT 0x8Cu
+#define VSMD_COMMAND_SCATTER 0xA1u
+#define VSMD_COMMAND_GATHER 0xA2u
+
+/* The options, by the letters that the manual has for them. */
+#define VSMD_OPTION_UN 0x80u /* unit 1; clear for unit 0 */
+#define VSMD_OPTION_VO 0x40u /* volume 1; clear for volume 0. For 81, 82, 8A, A1 and A2 */
+#define VSMD_OPTION_LK 0x20u /* the block has a link, followed where it ends with status 80 */
+#define VSMD_OPTION_XL 0x10u /* a logical sector; clear for cylinder, head and sector. For 81, 82, 8A, A1 and A2 */
+#define VSMD_OPTION_RV 0x08u /* reserves the drive; clear gives it up */
+#define VSMD_OPTION_DE 0x04u /* 81 and A1 move unreadable sectors too, and go on */
+#define VSMD_OPTION_IE 0x02u /* asks for an interrupt: level and vector stand in the event entry */
+#define VSMD_OPTION_EC 0x01u /* correction; not judged */
+
+/* What stands in the status byte. An event entry has a final one, 80 or 82. */
+#define VSMD_STATUS_OK 0x80u
+#define VSMD_STATUS_IN_PROGRESS 0x81u /* stored when the block is accepted, until its final status takes its place */
+#define VSMD_STATUS_FAILED 0x82u
+
+/* ---- the list of a scatter or a gather -------------------------------------------------------------------------------------------
+ *
+ * 1 to 64 elements of 8 bytes, one after the other from an even address on, numbers big-endian. The pieces that they name are joined in
+ * their order; the sum of their byte counts is that of the sectors.
+ *
+ *    0, 1    byte count, even and not 0
+ *    2..5    address, even
+ *    6, 7    memory type, address modifier; not judged */
+#define VSMD_ELEMENTS_MOST 64u
+#define VSMD_ELEMENT_LEN 8u
+
+#define VSMD_ELEMENT_AT_COUNT 0u
+#define VSMD_ELEMENT_AT_ADDRESS 2u
+#define VSMD_ELEMENT_AT_MEMORY_TYPE 6u
+#define VSMD_ELEMENT_AT_MODIFIER 7u
+
+/* ---- the UIB ---------------------------------------------------------------------------------------------------------------------
+ *
+ * What an initialize takes a drive's geometry and order from, by the manual's Table 10. 18 bytes at an even address, numbers big-endian:
+ *
+ *    0, 1    volume 0: start head, heads
+ *    2, 3    volume 1: start head, heads
+ *    4       sectors a track S
+ *    5       skew
+ *    6, 7    bytes a sector B
+ *    8, 9    gaps 1 and 2
+ *   10       interleave
+ *   11       retries
+ *   12, 13   cylinders C
+ *   14       attributes: 04, increment by head, is set for by head and clear for by cylinder
+ *   15       four units, extended addressing
+ *   16, 17   level and vector of the status change interrupt
+ *
+ * Skew, gaps, interleave, retries, every other attribute and the last three bytes are neither judged nor kept. */
+#define VSMD_UIB_LEN 18u
+
+#define VSMD_UIB_AT_VOLUME0_START_HEAD 0u
+#define VSMD_UIB_AT_VOLUME0_HEADS 1u
+#define VSMD_UIB_AT_VOLUME1_START_HEAD 2u
+#define VSMD_UIB_AT_VOLUME1_HEADS 3u
+#define VSMD_UIB_AT_SECTORS_A_TRACK 4u
+#define VSMD_UIB_AT_SKEW 5u
+#define VSMD_UIB_AT_BYTES_A_SECTOR 6u
+#define VSMD_UIB_AT_GAP1 8u
+#define VSMD_UIB_AT_GAP2 9u
+#define VSMD_UIB_AT_INTERLEAVE 10u
+#define VSMD_UIB_AT_RETRIES 11u
+#define VSMD_UIB_AT_CYLINDERS 12u
+#define VSMD_UIB_AT_ATTRIBUTES 14u
+#define VSMD_UIB_AT_EXTENDED 15u
+#define VSMD_UIB_AT_CHANGE_LEVEL 16u
+#define VSMD_UIB_AT_CHANGE_VECTOR 17u
+
+#define VSMD_UIB_INCREMENT_BY_HEAD 0x04u
+
 /* ---- the unit record -----------------------------------------------------------------------------------------------------------
  *
  * What the board knows of a unit: whether it is initialized, its geometry, the order of its tracks, the cylinder that its heads stand
@@ -174,9 +311,6 @@ extern "C" {
 #define VSMD_EVENT_AT_LEVEL 2u
 #define VSMD_EVENT_AT_VECTOR 3u
 #define VSMD_EVENT_AT_TRAVEL 4u
-
-#define VSMD_STATUS_OK 0x80u
-#define VSMD_STATUS_FAILED 0x82u
 
 /* ---- answers ---------------------------------------------------------------------------------------------------------------------*/
 

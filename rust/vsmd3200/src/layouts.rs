@@ -1,18 +1,19 @@
 //! The layouts in which records and outcomes cross, version 2: bytes, numbers big-endian.
 
 use crate::answers::{BlockAnswer, RunAnswer};
+use crate::bytes::{holder, order, outcome, pair, record, track};
 
 /// The version of the layouts that this crate was written for.
 pub const LAYOUT_VERSION: u32 = 2;
 
 /// The bytes of a record.
-pub const RECORD_LEN: usize = 276;
+pub const RECORD_LEN: usize = record::LEN;
 
 /// The bytes that a record had in version 1 of the layouts, which [`Record::upgrade`] takes.
-pub const RECORD_LEN_V1: usize = 16;
+pub const RECORD_LEN_V1: usize = record::LEN_V1;
 
 /// The bytes of an outcome.
-pub const OUTCOME_LEN: usize = 16;
+pub const OUTCOME_LEN: usize = outcome::LEN;
 
 /// The most pairs that the table of a record has.
 pub const PAIRS_MOST: usize = 32;
@@ -26,23 +27,6 @@ const OPENING_V1: [u8; 4] = [0x01, 0x01, 0x00, 0x10];
 
 /// The four bytes with which an outcome opens: version, 00, and the length in two bytes.
 const OUTCOME_OPENING: [u8; 4] = [LAYOUT_VERSION as u8, 0x00, 0x00, OUTCOME_LEN as u8];
-
-/// Where the parts of a record stand.
-const AT_ORDER: usize = 16;
-const AT_HOLDER: usize = 17;
-const AT_PAIRS: usize = 18;
-const AT_TABLE: usize = 20;
-const PAIR_LEN: usize = 8;
-const TRACK_LEN: usize = 4;
-
-/// The order of a drive's tracks, by the number in a record.
-const ORDER_BY_HEAD: u8 = 0x00;
-const ORDER_BY_CYLINDER: u8 = 0x01;
-
-/// Who holds the drive, by the number in a record.
-const HOLDER_NONE: u8 = 0x00;
-const HOLDER_FIRST: u8 = 0x01;
-const HOLDER_SECOND: u8 = 0x02;
 
 /// One of the two controllers that can share the drives. Unit n of both is drive n.
 #[derive(Clone, Copy, Debug, PartialEq, Eq, Hash)]
@@ -82,10 +66,10 @@ pub enum Order {
     /// The heads of a cylinder one after the other, then the next cylinder. With N heads, logical
     /// sector n is sector n mod S, head (n div S) mod N, cylinder n div (S × N).
     #[default]
-    ByHead = ORDER_BY_HEAD,
+    ByHead = order::BY_HEAD,
     /// The cylinders of a head one after the other, then the next head. Logical sector n is sector
     /// n mod S, cylinder (n div S) mod C, head n div (S × C).
-    ByCylinder = ORDER_BY_CYLINDER,
+    ByCylinder = order::BY_CYLINDER,
 }
 
 impl Order {
@@ -153,16 +137,16 @@ impl Record {
         bytes[1] = if initialized { OPENING[1] } else { 0x00 };
         bytes[2] = OPENING[2];
         bytes[3] = OPENING[3];
-        bytes = with_word(bytes, 4, geometry.cylinders);
-        bytes = with_word(bytes, 6, geometry.sectors_a_track);
-        bytes = with_word(bytes, 8, geometry.bytes_a_sector);
+        bytes = with_word(bytes, record::AT_CYLINDERS, geometry.cylinders);
+        bytes = with_word(bytes, record::AT_SECTORS_A_TRACK, geometry.sectors_a_track);
+        bytes = with_word(bytes, record::AT_BYTES_A_SECTOR, geometry.bytes_a_sector);
         let [zero, one] = geometry.volumes;
-        bytes[10] = zero.start_head;
-        bytes[11] = zero.heads;
-        bytes[12] = one.start_head;
-        bytes[13] = one.heads;
-        bytes[AT_ORDER] = geometry.order.number();
-        Record(with_word(bytes, 14, cylinder))
+        bytes[record::AT_VOLUME0_START_HEAD] = zero.start_head;
+        bytes[record::AT_VOLUME0_HEADS] = zero.heads;
+        bytes[record::AT_VOLUME1_START_HEAD] = one.start_head;
+        bytes[record::AT_VOLUME1_HEADS] = one.heads;
+        bytes[record::AT_ORDER] = geometry.order.number();
+        Record(with_word(bytes, record::AT_CYLINDER, cylinder))
     }
 
     /// The same record with these pairs and no other. None where they are over 32, which no table has
@@ -172,13 +156,13 @@ impl Record {
         if pairs.len() > PAIRS_MOST {
             return None;
         }
-        let mut record = Record(with_word(self.0, AT_PAIRS, pairs.len() as u16));
-        for (room, pair) in record.0[AT_TABLE..].chunks_exact_mut(PAIR_LEN).zip(pairs) {
-            let (bad, spare) = room.split_at_mut(TRACK_LEN);
-            put_track(bad, pair.bad);
-            put_track(spare, pair.spare);
+        let mut bytes = with_word(self.0, record::AT_PAIRS, pairs.len() as u16);
+        let rooms = bytes[record::AT_TABLE..].chunks_exact_mut(pair::LEN);
+        for (room, pair) in rooms.zip(pairs) {
+            put_track(&mut room[pair::AT_BAD..], pair.bad);
+            put_track(&mut room[pair::AT_SPARE..], pair.spare);
         }
-        Some(record)
+        Some(Record(bytes))
     }
 
     /// The record of version 2 for one of version 1 that a board has kept: the same unit without
@@ -213,17 +197,17 @@ impl Record {
     /// count as not initialized all the same.
     pub fn initialized(&self) -> bool {
         self.0[..4] == OPENING
-            && self.0[AT_ORDER] <= ORDER_BY_CYLINDER
-            && self.0[AT_HOLDER] <= HOLDER_SECOND
+            && self.0[record::AT_ORDER] <= order::BY_CYLINDER
+            && self.0[record::AT_HOLDER] <= holder::SECOND
     }
 
     /// Which controller holds the drive, if one does. A record that is not of this layout, by its
     /// version or its length, is held by nobody, and so is one that has any other number there;
     /// whether it says that its unit is initialized does not matter.
     pub fn holder(&self) -> Option<Controller> {
-        match self.0[AT_HOLDER] {
-            HOLDER_FIRST if self.of_this_layout() => Some(Controller::First),
-            HOLDER_SECOND if self.of_this_layout() => Some(Controller::Second),
+        match self.0[record::AT_HOLDER] {
+            holder::FIRST if self.of_this_layout() => Some(Controller::First),
+            holder::SECOND if self.of_this_layout() => Some(Controller::Second),
             _ => None,
         }
     }
@@ -235,7 +219,7 @@ impl Record {
     pub fn release(&mut self) -> bool {
         let held = self.holder().is_some();
         if held {
-            self.0[AT_HOLDER] = HOLDER_NONE;
+            self.0[record::AT_HOLDER] = holder::NONE;
         }
         held
     }
@@ -248,12 +232,15 @@ impl Record {
     /// not initialized.
     pub const fn geometry(&self) -> Geometry {
         Geometry {
-            cylinders: self.word(4),
-            sectors_a_track: self.word(6),
-            bytes_a_sector: self.word(8),
-            volumes: [self.volume(10), self.volume(12)],
-            order: match self.0[AT_ORDER] {
-                ORDER_BY_CYLINDER => Order::ByCylinder,
+            cylinders: self.word(record::AT_CYLINDERS),
+            sectors_a_track: self.word(record::AT_SECTORS_A_TRACK),
+            bytes_a_sector: self.word(record::AT_BYTES_A_SECTOR),
+            volumes: [
+                self.volume(record::AT_VOLUME0_START_HEAD),
+                self.volume(record::AT_VOLUME1_START_HEAD),
+            ],
+            order: match self.0[record::AT_ORDER] {
+                order::BY_CYLINDER => Order::ByCylinder,
                 _ => Order::ByHead,
             },
         }
@@ -261,7 +248,7 @@ impl Record {
 
     /// The cylinder that the heads stand on.
     pub const fn cylinder(&self) -> u16 {
-        self.word(14)
+        self.word(record::AT_CYLINDER)
     }
 
     /// Whether the record is initialized, its geometry and its cylinder.
@@ -272,7 +259,7 @@ impl Record {
     /// How many pairs the record says that its table has. One that says over 32 counts as not
     /// initialized.
     pub const fn pairs_said(&self) -> u16 {
-        self.word(AT_PAIRS)
+        self.word(record::AT_PAIRS)
     }
 
     /// The pairs of the table in the order in which they were added, at most 32.
@@ -287,17 +274,17 @@ impl Record {
     }
 
     const fn pair_at(&self, index: usize) -> Pair {
-        let at = AT_TABLE + PAIR_LEN * index;
+        let at = record::AT_TABLE + pair::LEN * index;
         Pair {
-            bad: self.track(at),
-            spare: self.track(at + TRACK_LEN),
+            bad: self.track(at + pair::AT_BAD),
+            spare: self.track(at + pair::AT_SPARE),
         }
     }
 
     const fn track(&self, at: usize) -> Track {
         Track {
-            cylinder: self.word(at),
-            head: self.0[at + 2],
+            cylinder: self.word(at + track::AT_CYLINDER),
+            head: self.0[at + track::AT_HEAD],
         }
     }
 
@@ -322,9 +309,9 @@ const fn with_word(mut bytes: [u8; RECORD_LEN], at: usize, word: u16) -> [u8; RE
 }
 
 fn put_track(room: &mut [u8], track: Track) {
-    room[..2].copy_from_slice(&track.cylinder.to_be_bytes());
-    room[2] = track.head;
-    room[3] = 0x00;
+    room[track::AT_CYLINDER..track::AT_HEAD].copy_from_slice(&track.cylinder.to_be_bytes());
+    room[track::AT_HEAD] = track.head;
+    room[track::AT_LAST] = 0x00;
 }
 
 impl Default for Record {

@@ -6,7 +6,8 @@
 //! records and outcomes in the bytes of their layouts, and gives the numbers names.
 //!
 //! [`run`] runs a chain of blocks on host memory, two images and two unit records, and [`run_as`]
-//! does so for either of two controllers. [`inspect`] lends one sector of an image.
+//! does so for either of two controllers. [`inspect`] lends one sector of an image. What is where in
+//! a block, a list, a UIB and the other layouts has its names in [`bytes`].
 //!
 //! ```
 //! use vsmd3200::{run, Record, RunAnswer};
@@ -86,6 +87,7 @@
 #![warn(missing_docs)]
 
 mod answers;
+pub mod bytes;
 mod calls;
 mod layouts;
 
@@ -101,7 +103,7 @@ pub const EVENTS_LEN_LEAST: usize = 512;
 
 /// The bytes of one entry of the event buffer: status, error, level, vector, and the travel of
 /// the heads as a big-endian number in two's complement.
-pub const EVENT_LEN: usize = 8;
+pub const EVENT_LEN: usize = bytes::event::LEN;
 
 /// The largest allowance that a run takes; the smallest is 1.
 pub const ALLOWANCE_MOST: u32 = 64;

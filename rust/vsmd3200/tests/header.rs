@@ -1,0 +1,172 @@
+//! The header for C and this crate say the same, and so does docs/LAYOUTS.md. The header is not read
+//! here but for its names: it is compiled into a C program, which prints what it has.
+
+use std::collections::BTreeMap;
+use std::fmt::Debug;
+use std::path::{Path, PathBuf};
+use std::process::Command;
+use std::sync::LazyLock;
+use std::{env, fs};
+use vsmd3200::{bytes, BlockAnswer, Controller, RunAnswer};
+
+/// A file of the project.
+fn project(path: &str) -> PathBuf {
+    Path::new(env!("CARGO_MANIFEST_DIR"))
+        .join("../..")
+        .join(path)
+}
+
+fn text_of(path: &str) -> String {
+    let path = project(path);
+    fs::read_to_string(&path).unwrap_or_else(|error| panic!("{}: {error}", path.display()))
+}
+
+/// What a C program prints that includes the header and has this body, a line each.
+fn printed(name: &str, program: &str) -> Vec<String> {
+    let directory = Path::new(env!("CARGO_TARGET_TMPDIR"));
+    let (source, binary) = (directory.join(format!("{name}.c")), directory.join(name));
+    let program = format!("#include \"vsmd3200.h\"\n#include <stdio.h>\n{program}");
+    fs::write(&source, program).unwrap();
+    let compiled = Command::new(env::var_os("CC").unwrap_or("cc".into()))
+        .args(["-std=c99", "-Wall", "-Wextra", "-Wpedantic", "-Werror"])
+        .arg("-I")
+        .arg(project("include"))
+        .arg("-o")
+        .args([&binary, &source])
+        .status()
+        .expect("a C compiler, which Rust links with too");
+    assert!(compiled.success(), "{} does not compile", source.display());
+    let output = Command::new(&binary).output().unwrap();
+    assert!(output.status.success(), "{} failed", binary.display());
+    let lines = String::from_utf8(output.stdout).unwrap();
+    lines.lines().map(str::to_string).collect()
+}
+
+/// The header's constants that are numbers, with what C takes them for. Several tests ask.
+static OF_HEADER: LazyLock<BTreeMap<String, u64>> = LazyLock::new(|| {
+    let header = text_of("include/vsmd3200.h");
+    let names = header.lines().filter_map(|line| {
+        let (name, value) = line.strip_prefix("#define ")?.split_once(' ')?;
+        value
+            .starts_with(|first: char| first.is_ascii_digit())
+            .then_some(name)
+    });
+    let print = |name| format!("    printf(\"{name} %lu\\n\", (unsigned long){name});\n");
+    let prints: String = names.map(print).collect();
+    let program = format!("int main(void)\n{{\n{prints}    return 0;\n}}\n");
+    let lines = printed("constants", &program);
+    let pairs = lines.iter().map(|line| {
+        let (name, value) = line.split_once(' ').unwrap();
+        (name.to_string(), value.parse().unwrap())
+    });
+    pairs.collect()
+});
+
+/// The name in C of a case of an enum: `EventsShort` is `VSMD_EVENTS_SHORT`.
+fn name_of(case: impl Debug) -> String {
+    let mut name = "VSMD".to_string();
+    for letter in format!("{case:?}").chars() {
+        if letter.is_ascii_uppercase() {
+            name.push('_');
+        }
+        name.push(letter.to_ascii_uppercase());
+    }
+    name
+}
+
+macro_rules! constants {
+    ($($prefix:literal: $module:ident { $($name:ident)* })*) => {
+        [$($((concat!("VSMD_", $prefix, "_", stringify!($name)), bytes::$module::$name as u64)),*),*]
+    };
+}
+
+/// The same of this crate.
+fn of_wrapper() -> BTreeMap<String, u64> {
+    let of_bytes = constants! {
+        "BLOCK": block {
+            LEN AT_COMMAND AT_OPTIONS AT_STATUS AT_ERROR AT_CYLINDER AT_HEAD AT_SECTOR AT_LOGICAL AT_COUNT
+            AT_ADDRESS AT_MEMORY_TYPE AT_MODIFIER AT_LEVEL AT_NORMAL_VECTOR AT_ERROR_VECTOR AT_LINK
+            AT_LINK_MEMORY_TYPE AT_LINK_MODIFIER AT_SKEW AT_ELEMENTS AT_SPARE_CYLINDER AT_SPARE_HEAD
+            AT_LAST_FORMATTED AT_FORMATTED AT_IDENTITY
+        }
+        "COMMAND": command {
+            READ WRITE MAP_TRACK HANDSHAKE INITIALIZE RESTORE SEEK FORMAT SCATTER GATHER
+        }
+        "OPTION": option { UN VO LK XL RV DE IE EC }
+        "STATUS": status { OK IN_PROGRESS FAILED }
+        "ELEMENT": element { LEN AT_COUNT AT_ADDRESS AT_MEMORY_TYPE AT_MODIFIER }
+        "UIB": uib {
+            LEN AT_VOLUME0_START_HEAD AT_VOLUME0_HEADS AT_VOLUME1_START_HEAD AT_VOLUME1_HEADS
+            AT_SECTORS_A_TRACK AT_SKEW AT_BYTES_A_SECTOR AT_GAP1 AT_GAP2 AT_INTERLEAVE AT_RETRIES
+            AT_CYLINDERS AT_ATTRIBUTES AT_EXTENDED AT_CHANGE_LEVEL AT_CHANGE_VECTOR INCREMENT_BY_HEAD
+        }
+        "RECORD": record {
+            LEN LEN_V1 AT_VERSION AT_INITIALIZED AT_LENGTH AT_CYLINDERS AT_SECTORS_A_TRACK
+            AT_BYTES_A_SECTOR AT_VOLUME0_START_HEAD AT_VOLUME0_HEADS AT_VOLUME1_START_HEAD
+            AT_VOLUME1_HEADS AT_CYLINDER AT_ORDER AT_HOLDER AT_PAIRS AT_TABLE
+        }
+        "ORDER": order { BY_HEAD BY_CYLINDER }
+        "HOLDER": holder { NONE FIRST SECOND }
+        "PAIR": pair { LEN AT_BAD AT_SPARE }
+        "TRACK": track { AT_CYLINDER AT_HEAD AT_LAST }
+        "OUTCOME": outcome { LEN AT_VERSION AT_LENGTH AT_ANSWER AT_FAILED AT_BLOCKS AT_SECTORS }
+        "EVENT": event { LEN AT_STATUS AT_ERROR AT_LEVEL AT_VECTOR AT_TRAVEL }
+    };
+    let others = [
+        ("VSMD_IDENTITY_LEN", bytes::IDENTITY_LEN as u64),
+        ("VSMD_ELEMENTS_MOST", bytes::ELEMENTS_MOST as u64),
+        ("VSMD_LAYOUT_VERSION", vsmd3200::LAYOUT_VERSION.into()),
+        ("VSMD_PAIRS_MOST", vsmd3200::PAIRS_MOST as u64),
+        ("VSMD_EVENTS_LEN_LEAST", vsmd3200::EVENTS_LEN_LEAST as u64),
+        ("VSMD_ALLOWANCE_MOST", vsmd3200::ALLOWANCE_MOST.into()),
+        ("VSMD_CONTROLLER_FIRST", Controller::First.number().into()),
+        ("VSMD_CONTROLLER_SECOND", Controller::Second.number().into()),
+        ("VSMD_RECORD0_SHORT", 0x1F1),
+        ("VSMD_RECORD1_SHORT", 0x1F2),
+        ("VSMD_OUTCOME_SHORT", 0x1F3),
+        ("VSMD_CONTROLLER_UNKNOWN", 0x1F4),
+    ];
+    let named = of_bytes.into_iter().chain(others);
+    let named = named.map(|(name, value)| (name.to_string(), value));
+    let runs = RunAnswer::ALL.map(|answer| (name_of(answer), answer.number().into()));
+    let blocks = BlockAnswer::ALL.map(|answer| (name_of(answer), answer.number().into()));
+    named.chain(runs).chain(blocks).collect()
+}
+
+/// A row of a table of docs/LAYOUTS.md that names a constant: its number, what it is, its name.
+fn of_page() -> Vec<(u64, String, String)> {
+    let page = text_of("docs/LAYOUTS.md");
+    let (mut rows, mut radix) = (Vec::new(), 10);
+    for line in page.lines() {
+        let cells: Vec<&str> = line.split('|').map(str::trim).collect();
+        let ["", number, what, name, ""] = cells[..] else {
+            continue;
+        };
+        if name == "Name" {
+            radix = if number == "Hex" { 16 } else { 10 };
+        } else if let Some(name) = name.strip_prefix("`VSMD_") {
+            let end = number.find(|c: char| !c.is_digit(radix));
+            let number = &number[..end.unwrap_or(number.len())];
+            let number = u64::from_str_radix(number, radix).unwrap_or_else(|_| panic!("{line}"));
+            let name = format!("VSMD_{}", name.trim_end_matches('`'));
+            rows.push((number, what.to_string(), name));
+        }
+    }
+    rows
+}
+
+#[test]
+fn constants_are_the_headers() {
+    assert_eq!(of_wrapper(), *OF_HEADER);
+}
+
+#[test]
+fn the_page_of_layouts_has_each_constant_once() {
+    let rows = of_page();
+    let page: BTreeMap<String, u64> = rows
+        .iter()
+        .map(|(number, _, name)| (name.clone(), *number))
+        .collect();
+    assert_eq!(page, *OF_HEADER);
+    assert_eq!(rows.len(), page.len(), "a name stands in two rows");
+}
