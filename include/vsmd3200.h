@@ -558,6 +558,17 @@ static inline uint16_t vsmd_record_cylinder(const uint8_t *record)
     return vsmd_get16(record + VSMD_RECORD_AT_CYLINDER);
 }
 
+static inline uint8_t vsmd_outcome_answer(const uint8_t *outcome)
+{
+    return outcome[VSMD_OUTCOME_AT_ANSWER];
+}
+
+/* Why the last block failed, where the answer is VSMD_BLOCK_FAILED; else 0. */
+static inline uint8_t vsmd_outcome_failed(const uint8_t *outcome)
+{
+    return outcome[VSMD_OUTCOME_AT_FAILED];
+}
+
 static inline uint32_t vsmd_outcome_blocks(const uint8_t *outcome)
 {
     return vsmd_get32(outcome + VSMD_OUTCOME_AT_BLOCKS);
@@ -573,6 +584,69 @@ static inline int32_t vsmd_event_travel(const uint8_t *entry)
 {
     uint32_t bits = vsmd_get32(entry + VSMD_EVENT_AT_TRAVEL);
     return bits < 0x80000000u ? (int32_t)bits : -(int32_t)(0xFFFFFFFFu - bits) - 1;
+}
+
+/* ---- texts -----------------------------------------------------------------------------------------------------------------------*/
+
+/* An answer in words, for a log or a console: of a run, of a block that failed, or of a call that was refused. The numbers of the three are
+ * apart, so that one call serves for what vsmd_run returned and for vsmd_outcome_failed. The text is never NULL; a number that is no answer has
+ * one as well. It is for people: a program goes by the number. */
+static inline const char *vsmd_answer_text(uint32_t code)
+{
+    switch (code) {
+    case VSMD_DONE:
+        return "the last block had no link and ended with status 80";
+    case VSMD_EVENTS_SHORT:
+        return "the event buffer has fewer than 512 bytes";
+    case VSMD_ALLOWANCE_BAD:
+        return "the allowance is 0 or over 64";
+    case VSMD_FIRST_BAD:
+        return "the first block is at an odd address or not wholly in host memory";
+    case VSMD_BLOCK_FAILED:
+        return "a block ended with status 82";
+    case VSMD_LINK_BAD:
+        return "a link leads to a block at an odd address or not wholly in host memory";
+    case VSMD_ALLOWANCE_SPENT:
+        return "the allowance is spent and the last block has a link";
+    case VSMD_COMMAND_UNKNOWN:
+        return "the command is not one of the ten";
+    case VSMD_NOT_INITIALIZED:
+        return "the unit is not initialized";
+    case VSMD_UIB_MISPLACED:
+        return "the UIB is at an odd address or not wholly in host memory";
+    case VSMD_UIB_OUTSIDE_LIMITS:
+        return "the UIB is outside the limits of a geometry";
+    case VSMD_VOLUME_ABSENT:
+        return "the unit has no volume 1";
+    case VSMD_COUNT_ZERO:
+        return "the sector count is 0";
+    case VSMD_SECTOR_OUTSIDE:
+        return "the first sector or the last is outside the volume, or a track outside the drive";
+    case VSMD_IMAGE_SHORT:
+        return "the image is shorter than the geometry needs";
+    case VSMD_LIST_BAD:
+        return "the list has no elements or over 64, is misplaced, or has wrong byte counts";
+    case VSMD_DATA_MISPLACED:
+        return "a data address is odd or its range not in host memory";
+    case VSMD_UNREADABLE:
+        return "a sector is marked unreadable; the sectors before it were moved";
+    case VSMD_TRACKS_TAKEN:
+        return "the bad track and the spare are one, or one of them is in the table already";
+    case VSMD_TABLE_FULL:
+        return "the table has 32 pairs";
+    case VSMD_DRIVE_HELD:
+        return "the other controller holds the drive";
+    case VSMD_RECORD0_SHORT:
+        return "record 0 is shorter than its layout";
+    case VSMD_RECORD1_SHORT:
+        return "record 1 is shorter than its layout";
+    case VSMD_OUTCOME_SHORT:
+        return "the outcome is shorter than its layout";
+    case VSMD_CONTROLLER_UNKNOWN:
+        return "there is no controller with that number";
+    default:
+        return "no answer of this library";
+    }
 }
 
 #ifdef __cplusplus

@@ -1,4 +1,7 @@
-//! The answers of a run and of a failed block, by their numbers.
+//! The answers of a run and of a failed block, and the codes of a refused call, by their numbers and in
+//! words. The words are those of `vsmd_answer_text` in `include/vsmd3200.h`.
+
+use core::fmt;
 
 /// How a run ended.
 #[derive(Clone, Copy, Debug, PartialEq, Eq, Hash)]
@@ -55,6 +58,51 @@ pub enum BlockAnswer {
     DriveHeld = 24,
 }
 
+/// Why a call was refused: what the library returns in the place of a run's answer. No run was made,
+/// and nothing was changed.
+///
+/// This crate lends buffers that are long enough and names controllers that there are, so that none of
+/// its calls is refused. The codes are for whoever hears of a call that was made through C.
+#[derive(Clone, Copy, Debug, PartialEq, Eq, Hash)]
+#[repr(u16)]
+pub enum RefusedCall {
+    /// Record 0 is shorter than its layout.
+    Record0Short = 0x1F1,
+    /// Record 1 is shorter than its layout.
+    Record1Short = 0x1F2,
+    /// The outcome is shorter than its layout.
+    OutcomeShort = 0x1F3,
+    /// There is no controller with that number.
+    ControllerUnknown = 0x1F4,
+}
+
+/// What is said of a number that is no answer.
+const NO_ANSWER: &str = "no answer of this library";
+
+/// An answer in words by its number: of a run, of a block that failed, or of a call that was refused.
+/// Their numbers are apart. A number that is no answer has a text as well.
+///
+/// ```
+/// assert_eq!(vsmd3200::answer_text(11), "the unit is not initialized");
+/// assert_eq!(vsmd3200::answer_text(21), "no answer of this library");
+/// ```
+pub fn answer_text(code: u32) -> &'static str {
+    if let Some(refused) = RefusedCall::from_number(code) {
+        return refused.text();
+    }
+    let Ok(number) = u8::try_from(code) else {
+        return NO_ANSWER;
+    };
+    match (
+        RunAnswer::from_number(number),
+        BlockAnswer::from_number(number),
+    ) {
+        (Some(run), _) => run.text(),
+        (None, Some(block)) => block.text(),
+        (None, None) => NO_ANSWER,
+    }
+}
+
 impl RunAnswer {
     /// All of them, by number.
     pub const ALL: [RunAnswer; 7] = [
@@ -66,6 +114,23 @@ impl RunAnswer {
         RunAnswer::LinkBad,
         RunAnswer::AllowanceSpent,
     ];
+
+    /// The answer in words, for a log or a console.
+    pub const fn text(self) -> &'static str {
+        match self {
+            RunAnswer::Done => "the last block had no link and ended with status 80",
+            RunAnswer::EventsShort => "the event buffer has fewer than 512 bytes",
+            RunAnswer::AllowanceBad => "the allowance is 0 or over 64",
+            RunAnswer::FirstBad => {
+                "the first block is at an odd address or not wholly in host memory"
+            }
+            RunAnswer::BlockFailed => "a block ended with status 82",
+            RunAnswer::LinkBad => {
+                "a link leads to a block at an odd address or not wholly in host memory"
+            }
+            RunAnswer::AllowanceSpent => "the allowance is spent and the last block has a link",
+        }
+    }
 
     /// The answer with a number, 0 to 6.
     pub fn from_number(number: u8) -> Option<RunAnswer> {
@@ -97,6 +162,36 @@ impl BlockAnswer {
         BlockAnswer::DriveHeld,
     ];
 
+    /// The answer in words, for a log or a console.
+    pub const fn text(self) -> &'static str {
+        match self {
+            BlockAnswer::CommandUnknown => "the command is not one of the ten",
+            BlockAnswer::NotInitialized => "the unit is not initialized",
+            BlockAnswer::UibMisplaced => {
+                "the UIB is at an odd address or not wholly in host memory"
+            }
+            BlockAnswer::UibOutsideLimits => "the UIB is outside the limits of a geometry",
+            BlockAnswer::VolumeAbsent => "the unit has no volume 1",
+            BlockAnswer::CountZero => "the sector count is 0",
+            BlockAnswer::SectorOutside => {
+                "the first sector or the last is outside the volume, or a track outside the drive"
+            }
+            BlockAnswer::ImageShort => "the image is shorter than the geometry needs",
+            BlockAnswer::ListBad => {
+                "the list has no elements or over 64, is misplaced, or has wrong byte counts"
+            }
+            BlockAnswer::DataMisplaced => "a data address is odd or its range not in host memory",
+            BlockAnswer::Unreadable => {
+                "a sector is marked unreadable; the sectors before it were moved"
+            }
+            BlockAnswer::TracksTaken => {
+                "the bad track and the spare are one, or one of them is in the table already"
+            }
+            BlockAnswer::TableFull => "the table has 32 pairs",
+            BlockAnswer::DriveHeld => "the other controller holds the drive",
+        }
+    }
+
     /// The answer with a number, 10 to 20 or 22 to 24.
     pub fn from_number(number: u8) -> Option<BlockAnswer> {
         let mut all = BlockAnswer::ALL.into_iter();
@@ -112,5 +207,54 @@ impl BlockAnswer {
     /// The answer's number.
     pub const fn number(self) -> u8 {
         self as u8
+    }
+}
+
+impl RefusedCall {
+    /// All of them, by number.
+    pub const ALL: [RefusedCall; 4] = [
+        RefusedCall::Record0Short,
+        RefusedCall::Record1Short,
+        RefusedCall::OutcomeShort,
+        RefusedCall::ControllerUnknown,
+    ];
+
+    /// The refusal in words, for a log or a console.
+    pub const fn text(self) -> &'static str {
+        match self {
+            RefusedCall::Record0Short => "record 0 is shorter than its layout",
+            RefusedCall::Record1Short => "record 1 is shorter than its layout",
+            RefusedCall::OutcomeShort => "the outcome is shorter than its layout",
+            RefusedCall::ControllerUnknown => "there is no controller with that number",
+        }
+    }
+
+    /// The refusal with a number, 1F1 to 1F4 (hex).
+    pub fn from_number(number: u32) -> Option<RefusedCall> {
+        let mut all = RefusedCall::ALL.into_iter();
+        all.find(|refused| refused.number() == number)
+    }
+
+    /// The refusal's number.
+    pub const fn number(self) -> u32 {
+        self as u32
+    }
+}
+
+impl fmt::Display for RunAnswer {
+    fn fmt(&self, f: &mut fmt::Formatter) -> fmt::Result {
+        f.pad(self.text())
+    }
+}
+
+impl fmt::Display for BlockAnswer {
+    fn fmt(&self, f: &mut fmt::Formatter) -> fmt::Result {
+        f.pad(self.text())
+    }
+}
+
+impl fmt::Display for RefusedCall {
+    fn fmt(&self, f: &mut fmt::Formatter) -> fmt::Result {
+        f.pad(self.text())
     }
 }

@@ -1,5 +1,6 @@
 //! The foreign calls, and the safe functions around them.
 
+use crate::answers::answer_text;
 use crate::layouts::{Controller, Outcome, Record, LAYOUT_VERSION, OUTCOME_LEN, RECORD_LEN};
 
 /// The functions of the archive, as `include/vsmd3200.h` declares them. Each lent slice crosses
@@ -203,7 +204,10 @@ pub fn run_as(
 fn told(outcome: &[u8; OUTCOME_LEN], answer: u32) -> Outcome {
     match Outcome::from_bytes(outcome) {
         Some(outcome) if u32::from(outcome.answer.number()) == answer => outcome,
-        _ => panic!("the linked library left no outcome of this crate's layout"),
+        _ => panic!(
+            "the linked library left no outcome of this crate's layout, and answered {answer:#X}: {}",
+            answer_text(answer)
+        ),
     }
 }
 

@@ -91,7 +91,7 @@ pub mod bytes;
 mod calls;
 mod layouts;
 
-pub use answers::{BlockAnswer, RunAnswer};
+pub use answers::{answer_text, BlockAnswer, RefusedCall, RunAnswer};
 pub use calls::{inspect, part_of, run, run_as, Part};
 pub use layouts::{
     Controller, Geometry, Order, Outcome, Pair, Record, Track, Volume, LAYOUT_VERSION, OUTCOME_LEN,

@@ -7,7 +7,7 @@ use std::path::{Path, PathBuf};
 use std::process::Command;
 use std::sync::LazyLock;
 use std::{env, fs};
-use vsmd3200::{bytes, BlockAnswer, Controller, RunAnswer};
+use vsmd3200::{answer_text, bytes, BlockAnswer, Controller, RefusedCall, RunAnswer};
 
 /// A file of the project.
 fn project(path: &str) -> PathBuf {
@@ -121,16 +121,13 @@ fn of_wrapper() -> BTreeMap<String, u64> {
         ("VSMD_ALLOWANCE_MOST", vsmd3200::ALLOWANCE_MOST.into()),
         ("VSMD_CONTROLLER_FIRST", Controller::First.number().into()),
         ("VSMD_CONTROLLER_SECOND", Controller::Second.number().into()),
-        ("VSMD_RECORD0_SHORT", 0x1F1),
-        ("VSMD_RECORD1_SHORT", 0x1F2),
-        ("VSMD_OUTCOME_SHORT", 0x1F3),
-        ("VSMD_CONTROLLER_UNKNOWN", 0x1F4),
     ];
     let named = of_bytes.into_iter().chain(others);
     let named = named.map(|(name, value)| (name.to_string(), value));
     let runs = RunAnswer::ALL.map(|answer| (name_of(answer), answer.number().into()));
     let blocks = BlockAnswer::ALL.map(|answer| (name_of(answer), answer.number().into()));
-    named.chain(runs).chain(blocks).collect()
+    let refused = RefusedCall::ALL.map(|refused| (name_of(refused), refused.number().into()));
+    named.chain(runs).chain(blocks).chain(refused).collect()
 }
 
 /// A row of a table of docs/LAYOUTS.md that names a constant: its number, what it is, its name.
@@ -169,4 +166,48 @@ fn the_page_of_layouts_has_each_constant_once() {
         .collect();
     assert_eq!(page, *OF_HEADER);
     assert_eq!(rows.len(), page.len(), "a name stands in two rows");
+}
+
+/// Every number that a byte can be, those of refused calls, and some that share a low byte with an answer.
+#[test]
+fn texts_are_the_headers() {
+    let codes: Vec<u32> = (0..=0x200).chain([0x10A, 0x1_000A, u32::MAX]).collect();
+    let prints: String = codes
+        .iter()
+        .map(|code| format!("    puts(vsmd_answer_text({code}u));\n"))
+        .collect();
+    let program = format!("int main(void)\n{{\n{prints}    return 0;\n}}\n");
+    let texts: Vec<&str> = codes.iter().map(|&code| answer_text(code)).collect();
+    assert_eq!(printed("texts", &program), texts);
+}
+
+#[test]
+fn an_answer_is_displayed_by_its_text() {
+    let runs = RunAnswer::ALL.map(|answer| (u32::from(answer.number()), answer.to_string()));
+    let blocks = BlockAnswer::ALL.map(|answer| (u32::from(answer.number()), answer.to_string()));
+    let refused = RefusedCall::ALL.map(|refused| (refused.number(), refused.to_string()));
+    let texts: BTreeMap<u32, String> = runs.into_iter().chain(blocks).chain(refused).collect();
+    let none = answer_text(u32::MAX);
+    for code in 0..=0x200 {
+        let text = texts.get(&code).map_or(none, String::as_str);
+        assert_eq!(answer_text(code), text);
+    }
+    // no two answers in the same words
+    let mut words: Vec<&String> = texts.values().collect();
+    words.sort();
+    words.dedup();
+    assert_eq!(words.len(), texts.len());
+    assert_eq!(format!("{:>8.4}|", RunAnswer::Done), "    the |");
+}
+
+#[test]
+fn the_page_of_layouts_has_each_text() {
+    let answers = RunAnswer::ALL.map(name_of).into_iter();
+    let answers = answers.chain(BlockAnswer::ALL.map(name_of));
+    let answers: Vec<String> = answers.chain(RefusedCall::ALL.map(name_of)).collect();
+    let rows = of_page().into_iter();
+    let rows = rows.filter(|(_, _, name)| answers.contains(name));
+    for (number, text, name) in rows {
+        assert_eq!(answer_text(number as u32), text, "{name}");
+    }
 }
