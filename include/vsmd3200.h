@@ -366,7 +366,8 @@ size_t vsmd_outcome_len(void);
  *   host             host memory; its first byte has address 0. In: the blocks, and what they name. Out: the status word of each
  *                    block run, the identity in words 2 to 7 of a handshake, the last sector formatted in the lower byte of word 3
  *                    and their number in word 4 of a format that ended with status 80, and the data that reads and scatters moved.
- *   image0, image1   the images of units 0 and 1. Out: the data that writes, gathers and formats moved. Their lengths may be 0.
+ *   image0, image1   the images of units 0 and 1. Out: the data that writes, gathers and formats moved. Their lengths may be 0;
+ *                    vsmd_no_image is an address for such a one.
  *   events           the event buffer. Out: an entry for each block run.
  *   record0, record1 the records of units 0 and 1. Out: stored anew up to the last pair that counts where a block changed the record
  *                    (an initialize, heads that stand elsewhere, a pair more, another holder), and otherwise byte for byte as they
@@ -429,6 +430,27 @@ static inline void vsmd_put16(uint8_t *bytes, uint16_t number)
 {
     bytes[0] = (uint8_t)(number >> 8);
     bytes[1] = (uint8_t)(number & 0xFFu);
+}
+
+static inline void vsmd_put32(uint8_t *bytes, uint32_t number)
+{
+    vsmd_put16(bytes, (uint16_t)(number >> 16));
+    vsmd_put16(bytes + 2, (uint16_t)(number & 0xFFFFu));
+}
+
+/* Whether the library that is linked has the layouts of this header. Ask once, at start: where it says 0, an archive and a header of two
+ * versions have come together, and no record or outcome means what it says here. */
+static inline int vsmd_layouts_match(void)
+{
+    return vsmd_layout_version() == VSMD_LAYOUT_VERSION && vsmd_record_len() == VSMD_RECORD_LEN && vsmd_outcome_len() == VSMD_OUTCOME_LEN;
+}
+
+/* An address to hand over, with length 0, for the image of a unit that has none; it serves for any empty buffer. NULL does not: the library's
+ * language has no slice at NULL, an empty one included, so that nothing of what was proved is said of a call with one. */
+static inline uint8_t *vsmd_no_image(void)
+{
+    static uint8_t none[1];
+    return none;
 }
 
 /* Makes the record of a unit that is not initialized. */
@@ -577,6 +599,33 @@ static inline uint32_t vsmd_outcome_blocks(const uint8_t *outcome)
 static inline uint32_t vsmd_outcome_sectors(const uint8_t *outcome)
 {
     return vsmd_get32(outcome + VSMD_OUTCOME_AT_SECTORS);
+}
+
+/* The entry of a block in the event buffer, by how many blocks were run before it: from 0 to vsmd_outcome_blocks - 1. */
+static inline const uint8_t *vsmd_event_entry(const uint8_t *events, size_t before)
+{
+    return events + VSMD_EVENT_LEN * before;
+}
+
+/* VSMD_STATUS_OK or VSMD_STATUS_FAILED. */
+static inline uint8_t vsmd_event_status(const uint8_t *entry)
+{
+    return entry[VSMD_EVENT_AT_STATUS];
+}
+
+static inline uint8_t vsmd_event_error(const uint8_t *entry)
+{
+    return entry[VSMD_EVENT_AT_ERROR];
+}
+
+static inline uint8_t vsmd_event_level(const uint8_t *entry)
+{
+    return entry[VSMD_EVENT_AT_LEVEL];
+}
+
+static inline uint8_t vsmd_event_vector(const uint8_t *entry)
+{
+    return entry[VSMD_EVENT_AT_VECTOR];
 }
 
 /* The travel in an event entry, -4095 to 4095. */

@@ -1,5 +1,5 @@
-//! The answers of a run and of a failed block, and the codes of a refused call, by their numbers and in
-//! words. The words are those of `vsmd_answer_text` in `include/vsmd3200.h`.
+//! The answers of a run and of a failed block, and the codes of a refused call, by their numbers
+//! and in words. The words are those of `vsmd_answer_text` in `include/vsmd3200.h`.
 
 use core::fmt;
 
@@ -58,11 +58,11 @@ pub enum BlockAnswer {
     DriveHeld = 24,
 }
 
-/// Why a call was refused: what the library returns in the place of a run's answer. No run was made,
-/// and nothing was changed.
+/// Why a call was refused: what the library returns in the place of a run's answer. No run was
+/// made, and nothing was changed.
 ///
-/// This crate lends buffers that are long enough and names controllers that there are, so that none of
-/// its calls is refused. The codes are for whoever hears of a call that was made through C.
+/// This crate lends buffers that are long enough and names controllers that there are, so that none
+/// of its calls is refused. The codes are for whoever hears of a call that was made through C.
 #[derive(Clone, Copy, Debug, PartialEq, Eq, Hash)]
 #[repr(u16)]
 pub enum RefusedCall {
@@ -79,8 +79,8 @@ pub enum RefusedCall {
 /// What is said of a number that is no answer.
 const NO_ANSWER: &str = "no answer of this library";
 
-/// An answer in words by its number: of a run, of a block that failed, or of a call that was refused.
-/// Their numbers are apart. A number that is no answer has a text as well.
+/// An answer in words by its number: of a run, of a block that failed, or of a call that was
+/// refused. Their numbers are apart. A number that is no answer has a text as well.
 ///
 /// ```
 /// assert_eq!(vsmd3200::answer_text(11), "the unit is not initialized");

@@ -74,8 +74,9 @@ pub struct Part {
     pub bytes: usize,
 }
 
-/// The layouts of the archive have to be those that this crate lays its bytes out by.
-fn assert_layouts() {
+/// Whether the linked library has the layouts of this crate. Every call here asks it and panics
+/// where it has not; a board that asks at its start can tell before it runs anything.
+pub fn layouts_match() -> bool {
     // SAFETY: the three functions take nothing, touch nothing, and return a constant.
     let (version, record, outcome) = unsafe {
         (
@@ -84,8 +85,15 @@ fn assert_layouts() {
             foreign::vsmd_outcome_len(),
         )
     };
+    version == LAYOUT_VERSION
+        && record as u64 == RECORD_LEN as u64
+        && outcome as u64 == OUTCOME_LEN as u64
+}
+
+/// The layouts of the archive have to be those that this crate lays its bytes out by.
+fn assert_layouts() {
     assert!(
-        version == LAYOUT_VERSION && record == RECORD_LEN && outcome == OUTCOME_LEN,
+        layouts_match(),
         "the linked library has other layouts than this crate was written for"
     );
 }

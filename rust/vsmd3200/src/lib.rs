@@ -6,8 +6,8 @@
 //! records and outcomes in the bytes of their layouts, and gives the numbers names.
 //!
 //! [`run`] runs a chain of blocks on host memory, two images and two unit records, and [`run_as`]
-//! does so for either of two controllers. [`inspect`] lends one sector of an image. What is where in
-//! a block, a list, a UIB and the other layouts has its names in [`bytes`].
+//! does so for either of two controllers. [`inspect`] lends one sector of an image. What is where
+//! in a block, a list, a UIB and the other layouts has its names in [`bytes`].
 //!
 //! ```
 //! use vsmd3200::{run, Record, RunAnswer};
@@ -89,10 +89,12 @@
 mod answers;
 pub mod bytes;
 mod calls;
+mod event;
 mod layouts;
 
 pub use answers::{answer_text, BlockAnswer, RefusedCall, RunAnswer};
-pub use calls::{inspect, part_of, run, run_as, Part};
+pub use calls::{inspect, layouts_match, part_of, run, run_as, Part};
+pub use event::Event;
 pub use layouts::{
     Controller, Geometry, Order, Outcome, Pair, Record, Track, Volume, LAYOUT_VERSION, OUTCOME_LEN,
     PAIRS_MOST, RECORD_LEN, RECORD_LEN_V1,
@@ -102,7 +104,7 @@ pub use layouts::{
 pub const EVENTS_LEN_LEAST: usize = 512;
 
 /// The bytes of one entry of the event buffer: status, error, level, vector, and the travel of
-/// the heads as a big-endian number in two's complement.
+/// the heads as a big-endian number in two's complement. [`Outcome::events`] reads the entries.
 pub const EVENT_LEN: usize = bytes::event::LEN;
 
 /// The largest allowance that a run takes; the smallest is 1.

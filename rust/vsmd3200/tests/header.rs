@@ -1,5 +1,5 @@
-//! The header for C and this crate say the same, and so does docs/LAYOUTS.md. The header is not read
-//! here but for its names: it is compiled into a C program, which prints what it has.
+//! The header for C and this crate say the same, and so does docs/LAYOUTS.md. The header is not
+//! read here but for its names: it is compiled into a C program, which prints what it has.
 
 use std::collections::BTreeMap;
 use std::fmt::Debug;
@@ -7,7 +7,7 @@ use std::path::{Path, PathBuf};
 use std::process::Command;
 use std::sync::LazyLock;
 use std::{env, fs};
-use vsmd3200::{answer_text, bytes, BlockAnswer, Controller, RefusedCall, RunAnswer};
+use vsmd3200::{answer_text, bytes, BlockAnswer, Controller, Event, RefusedCall, RunAnswer};
 
 /// A file of the project.
 fn project(path: &str) -> PathBuf {
@@ -76,7 +76,10 @@ fn name_of(case: impl Debug) -> String {
 
 macro_rules! constants {
     ($($prefix:literal: $module:ident { $($name:ident)* })*) => {
-        [$($((concat!("VSMD_", $prefix, "_", stringify!($name)), bytes::$module::$name as u64)),*),*]
+        [$($((
+            concat!("VSMD_", $prefix, "_", stringify!($name)),
+            bytes::$module::$name as u64
+        )),*),*]
     };
 }
 
@@ -84,10 +87,10 @@ macro_rules! constants {
 fn of_wrapper() -> BTreeMap<String, u64> {
     let of_bytes = constants! {
         "BLOCK": block {
-            LEN AT_COMMAND AT_OPTIONS AT_STATUS AT_ERROR AT_CYLINDER AT_HEAD AT_SECTOR AT_LOGICAL AT_COUNT
-            AT_ADDRESS AT_MEMORY_TYPE AT_MODIFIER AT_LEVEL AT_NORMAL_VECTOR AT_ERROR_VECTOR AT_LINK
-            AT_LINK_MEMORY_TYPE AT_LINK_MODIFIER AT_SKEW AT_ELEMENTS AT_SPARE_CYLINDER AT_SPARE_HEAD
-            AT_LAST_FORMATTED AT_FORMATTED AT_IDENTITY
+            LEN AT_COMMAND AT_OPTIONS AT_STATUS AT_ERROR AT_CYLINDER AT_HEAD AT_SECTOR AT_LOGICAL
+            AT_COUNT AT_ADDRESS AT_MEMORY_TYPE AT_MODIFIER AT_LEVEL AT_NORMAL_VECTOR
+            AT_ERROR_VECTOR AT_LINK AT_LINK_MEMORY_TYPE AT_LINK_MODIFIER AT_SKEW AT_ELEMENTS
+            AT_SPARE_CYLINDER AT_SPARE_HEAD AT_LAST_FORMATTED AT_FORMATTED AT_IDENTITY
         }
         "COMMAND": command {
             READ WRITE MAP_TRACK HANDSHAKE INITIALIZE RESTORE SEEK FORMAT SCATTER GATHER
@@ -98,7 +101,8 @@ fn of_wrapper() -> BTreeMap<String, u64> {
         "UIB": uib {
             LEN AT_VOLUME0_START_HEAD AT_VOLUME0_HEADS AT_VOLUME1_START_HEAD AT_VOLUME1_HEADS
             AT_SECTORS_A_TRACK AT_SKEW AT_BYTES_A_SECTOR AT_GAP1 AT_GAP2 AT_INTERLEAVE AT_RETRIES
-            AT_CYLINDERS AT_ATTRIBUTES AT_EXTENDED AT_CHANGE_LEVEL AT_CHANGE_VECTOR INCREMENT_BY_HEAD
+            AT_CYLINDERS AT_ATTRIBUTES AT_EXTENDED AT_CHANGE_LEVEL AT_CHANGE_VECTOR
+            INCREMENT_BY_HEAD
         }
         "RECORD": record {
             LEN LEN_V1 AT_VERSION AT_INITIALIZED AT_LENGTH AT_CYLINDERS AT_SECTORS_A_TRACK
@@ -168,7 +172,8 @@ fn the_page_of_layouts_has_each_constant_once() {
     assert_eq!(rows.len(), page.len(), "a name stands in two rows");
 }
 
-/// Every number that a byte can be, those of refused calls, and some that share a low byte with an answer.
+/// Every number that a byte can be, those of refused calls, and some that share a low byte with an
+/// answer.
 #[test]
 fn texts_are_the_headers() {
     let codes: Vec<u32> = (0..=0x200).chain([0x10A, 0x1_000A, u32::MAX]).collect();
@@ -210,4 +215,103 @@ fn the_page_of_layouts_has_each_text() {
     for (number, text, name) in rows {
         assert_eq!(answer_text(number as u32), text, "{name}");
     }
+}
+
+#[test]
+fn event_entries_are_read_as_the_header_reads_them() {
+    let travels = [0i32, 1, -1, 258, -4_095, 4_095, i32::MAX, i32::MIN];
+    let entries: Vec<[u8; 8]> = travels
+        .iter()
+        .zip(0u8..)
+        .map(|(travel, k)| {
+            let [t0, t1, t2, t3] = travel.to_be_bytes();
+            [0x80 + k, k, 0xF0 + k, 0xE0 - k, t0, t1, t2, t3]
+        })
+        .collect();
+    let array: String = entries.concat().iter().map(|b| format!("{b}, ")).collect();
+    let program = format!(
+        r#"
+static const uint8_t events[] = {{{array}}};
+int main(void)
+{{
+    size_t k;
+    for (k = 0; k < sizeof events / VSMD_EVENT_LEN; k++) {{
+        const uint8_t *entry = vsmd_event_entry(events, k);
+        printf("%u %u ", vsmd_event_status(entry), vsmd_event_error(entry));
+        printf("%u %u ", vsmd_event_level(entry), vsmd_event_vector(entry));
+        printf("%ld\n", (long)vsmd_event_travel(entry));
+    }}
+    return 0;
+}}
+"#
+    );
+    let lines = entries.iter().map(|entry| {
+        let event = Event::from_bytes(entry);
+        let Event {
+            status,
+            error,
+            level,
+            vector,
+            travel,
+        } = event;
+        assert_eq!(event.succeeded(), status == 0x80);
+        format!("{status} {error} {level} {vector} {travel}")
+    });
+    assert_eq!(printed("events", &program), lines.collect::<Vec<_>>());
+    let read: Vec<i32> = entries
+        .iter()
+        .map(|e| Event::from_bytes(e).travel)
+        .collect();
+    assert_eq!(read, travels);
+}
+
+/// The program has functions of its own in the place of the library's, so that a library of other
+/// layouts can be had.
+#[test]
+fn the_header_stores_words_and_tells_layouts_apart() {
+    let program = r#"
+static uint32_t version = VSMD_LAYOUT_VERSION;
+static uint64_t record = VSMD_RECORD_LEN, outcome = VSMD_OUTCOME_LEN;
+
+uint32_t vsmd_layout_version(void)
+{
+    return version;
+}
+
+uint64_t vsmd_record_len(void)
+{
+    return record;
+}
+
+uint64_t vsmd_outcome_len(void)
+{
+    return outcome;
+}
+
+int main(void)
+{
+    const uint8_t said[VSMD_OUTCOME_LEN] = {2, 0, 0, 16, 4, 20, 0, 0, 0, 0, 0, 3, 0, 1, 0, 0};
+    uint8_t word[4];
+    vsmd_put32(word, 0x0180FF02u);
+    printf("%02X %02X %02X %02X\n", word[0], word[1], word[2], word[3]);
+    printf("%lX\n", (unsigned long)vsmd_get32(word));
+    printf("%u %u\n", vsmd_outcome_answer(said), vsmd_outcome_failed(said));
+    printf("%lu\n", (unsigned long)vsmd_outcome_blocks(said));
+    printf("%d\n", vsmd_layouts_match());
+    version = 1;
+    printf("%d\n", vsmd_layouts_match());
+    version = VSMD_LAYOUT_VERSION;
+    record = VSMD_RECORD_LEN_V1;
+    printf("%d\n", vsmd_layouts_match());
+    record = VSMD_RECORD_LEN;
+    outcome++;
+    printf("%d\n", vsmd_layouts_match());
+    printf("%d\n", vsmd_no_image() != NULL && vsmd_no_image() == vsmd_no_image());
+    return 0;
+}
+"#;
+    let words = ["01 80 FF 02", "180FF02", "4 20", "3"];
+    let lines = words.into_iter().chain(["1", "0", "0", "0", "1"]);
+    assert_eq!(printed("words", program), lines.collect::<Vec<_>>());
+    assert!(vsmd3200::layouts_match());
 }

@@ -1,8 +1,8 @@
 //! The paper's session example through the wrapper, and the typed views of records and answers.
 
 use vsmd3200::{
-    inspect, part_of, run, run_as, BlockAnswer, Controller, Geometry, Order, Outcome, Pair, Part,
-    Record, RunAnswer, Track, Volume, EVENTS_LEN_LEAST, PAIRS_MOST, RECORD_LEN,
+    inspect, part_of, run, run_as, BlockAnswer, Controller, Event, Geometry, Order, Outcome, Pair,
+    Part, Record, RunAnswer, Track, Volume, EVENTS_LEN_LEAST, PAIRS_MOST, RECORD_LEN,
 };
 
 const UIB: [u8; 18] = [
@@ -86,6 +86,23 @@ fn initialize_linked_to_the_read() {
     assert_eq!(events[..8], [0x80, 0, 0, 0, 0, 0, 0, 0]);
     assert_eq!(events[8..16], [0x80, 0, 3, 0x40, 0, 0, 0, 1]);
     assert_eq!(events[16..], [0xdd; EVENTS_LEN_LEAST][16..]);
+    let quiet = Event {
+        status: 0x80,
+        error: 0,
+        level: 0,
+        vector: 0,
+        travel: 0,
+    };
+    let told = Event {
+        level: 3,
+        vector: 0x40,
+        travel: 1,
+        ..quiet
+    };
+    assert_eq!(outcome.events(&events).collect::<Vec<_>>(), [quiet, told]);
+    // Of a buffer that is cut the entries that are whole.
+    assert_eq!(outcome.events(&events[..15]).collect::<Vec<_>>(), [quiet]);
+    assert_eq!(outcome.events(&[]).len(), 0);
     assert_eq!(records[0].parts(), (true, SMALL, 1));
     assert_eq!(records[0], Record::from_parts(true, SMALL, 1));
     assert_eq!(records[1], Record::UNINITIALIZED);
