@@ -10,6 +10,7 @@ use std::process::ExitCode;
 const USAGE: &str = "usage: spell to-session TEXT OUT
        spell to-text SESSION OUT
        spell check TEXT...
+       spell --help
 A file named - is standard input or output.";
 
 fn main() -> ExitCode {
@@ -19,6 +20,7 @@ fn main() -> ExitCode {
         ["to-session", text, out] => to_session(text, out),
         ["to-text", session, out] => to_text(session, out),
         ["check", ref texts @ ..] if !texts.is_empty() => check_all(texts),
+        ["--help" | "-h"] => help(),
         _ => Err(USAGE.to_string()),
     };
     outcome.unwrap_or_else(|message| {
@@ -49,6 +51,12 @@ fn check_all(texts: &[&str]) -> Result<ExitCode, String> {
         }
     }
     Ok(status)
+}
+
+/// To standard output, since it was asked for: what a wrong call is told goes to standard error.
+fn help() -> Result<ExitCode, String> {
+    write_file("-", format!("{USAGE}\n").as_bytes())?;
+    Ok(ExitCode::SUCCESS)
 }
 
 fn read_text(name: &str) -> Result<String, String> {

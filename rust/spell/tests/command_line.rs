@@ -57,3 +57,19 @@ fn errors_have_status_2() {
         Some(2)
     );
 }
+
+/// Help that was asked for is output, and a wrong call an error with the same words.
+#[test]
+fn help_is_no_error() {
+    let help = spell(&["--help"], b"");
+    assert_eq!(help.status.code(), Some(0));
+    assert!(String::from_utf8_lossy(&help.stdout).starts_with("usage: spell to-session TEXT OUT\n"));
+    assert!(help.stderr.is_empty());
+    assert_eq!(spell(&["-h"], b"").stdout, help.stdout);
+    for wrong in [&[][..], &["--help", "check"], &["help"]] {
+        let wrong = spell(wrong, b"");
+        assert_eq!(wrong.status.code(), Some(2));
+        assert!(wrong.stdout.is_empty());
+        assert_eq!(wrong.stderr, help.stdout);
+    }
+}
