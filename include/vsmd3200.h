@@ -30,6 +30,13 @@
 extern "C" {
 #endif
 
+/* The version of this header, of the wrapper and of the archive that goes with them; CHANGELOG.md says what each one means for a caller. The
+ * layouts of record and outcome have a number of their own, VSMD_LAYOUT_VERSION, which the library tells too. */
+#define VSMD_VERSION_MAJOR 0u
+#define VSMD_VERSION_MINOR 4u
+#define VSMD_VERSION_PATCH 0u
+#define VSMD_VERSION "0.4.0"
+
 /* ---- the block -------------------------------------------------------------------------------------------------------------------
  *
  * What a host lays out in its memory to ask for something. 28 bytes at an even address, numbers big-endian:

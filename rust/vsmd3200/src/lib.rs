@@ -100,6 +100,10 @@ pub use layouts::{
     PAIRS_MOST, RECORD_LEN, RECORD_LEN_V1,
 };
 
+/// The version of this crate and of the header that goes with it; CHANGELOG.md says what each one
+/// means for a caller. The layouts have a number of their own, [`LAYOUT_VERSION`].
+pub const VERSION: &str = env!("CARGO_PKG_VERSION");
+
 /// The fewest bytes of an event buffer that a run takes: 64 entries of [`EVENT_LEN`].
 pub const EVENTS_LEN_LEAST: usize = 512;
 

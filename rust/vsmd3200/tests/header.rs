@@ -1,5 +1,6 @@
-//! The header for C and this crate say the same, and so does docs/LAYOUTS.md. The header is not
-//! read here but for its names: it is compiled into a C program, which prints what it has.
+//! The header for C and this crate say the same, and so do docs/LAYOUTS.md and CHANGELOG.md. The
+//! header is not read here but for its names: it is compiled into a C program, which prints what it
+//! has.
 
 use std::collections::BTreeMap;
 use std::fmt::Debug;
@@ -7,7 +8,9 @@ use std::path::{Path, PathBuf};
 use std::process::Command;
 use std::sync::LazyLock;
 use std::{env, fs};
-use vsmd3200::{answer_text, bytes, BlockAnswer, Controller, Event, RefusedCall, RunAnswer};
+use vsmd3200::{
+    answer_text, bytes, BlockAnswer, Controller, Event, RefusedCall, RunAnswer, VERSION,
+};
 
 /// A file of the project.
 fn project(path: &str) -> PathBuf {
@@ -131,7 +134,12 @@ fn of_wrapper() -> BTreeMap<String, u64> {
     let runs = RunAnswer::ALL.map(|answer| (name_of(answer), answer.number().into()));
     let blocks = BlockAnswer::ALL.map(|answer| (name_of(answer), answer.number().into()));
     let refused = RefusedCall::ALL.map(|refused| (name_of(refused), refused.number().into()));
-    named.chain(runs).chain(blocks).chain(refused).collect()
+    let parts = ["MAJOR", "MINOR", "PATCH"]
+        .into_iter()
+        .zip(VERSION.split('.'));
+    let version = parts.map(|(part, n)| (format!("VSMD_VERSION_{part}"), n.parse().unwrap()));
+    let answers = runs.into_iter().chain(blocks).chain(refused);
+    named.chain(answers).chain(version).collect()
 }
 
 /// A row of a table of docs/LAYOUTS.md that names a constant: its number, what it is, its name.
@@ -168,7 +176,9 @@ fn the_page_of_layouts_has_each_constant_once() {
         .iter()
         .map(|(number, _, name)| (name.clone(), *number))
         .collect();
-    assert_eq!(page, *OF_HEADER);
+    let mut header = OF_HEADER.clone();
+    header.retain(|name, _| !name.starts_with("VSMD_VERSION_"));
+    assert_eq!(page, header);
     assert_eq!(rows.len(), page.len(), "a name stands in two rows");
 }
 
@@ -314,4 +324,18 @@ int main(void)
     let lines = words.into_iter().chain(["1", "0", "0", "0", "1"]);
     assert_eq!(printed("words", program), lines.collect::<Vec<_>>());
     assert!(vsmd3200::layouts_match());
+}
+
+/// The newest heading of the changelog that has a number; what is not released stands above it.
+#[test]
+fn the_version_is_that_of_the_changelog() {
+    let changelog = text_of("CHANGELOG.md");
+    let mut headings = changelog
+        .lines()
+        .filter_map(|line| line.strip_prefix("## "));
+    let newest = headings.find(|heading| heading.starts_with(|c: char| c.is_ascii_digit()));
+    let newest = newest.and_then(|heading| heading.split(':').next());
+    assert_eq!(newest, Some(VERSION));
+    let program = "int main(void)\n{\n    puts(VSMD_VERSION);\n    return 0;\n}\n";
+    assert_eq!(printed("version", program), [VERSION]);
 }
