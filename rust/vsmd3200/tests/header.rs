@@ -24,14 +24,20 @@ fn text_of(path: &str) -> String {
     fs::read_to_string(&path).unwrap_or_else(|error| panic!("{}: {error}", path.display()))
 }
 
-/// What a C program prints that includes the header and has this body, a line each.
-fn printed(name: &str, program: &str) -> Vec<String> {
+/// Compiles a C program, as `flag` says besides.
+fn compiled(name: &str, program: &str, flag: &str) -> PathBuf {
     let directory = Path::new(env!("CARGO_TARGET_TMPDIR"));
     let (source, binary) = (directory.join(format!("{name}.c")), directory.join(name));
-    let program = format!("#include \"vsmd3200.h\"\n#include <stdio.h>\n{program}");
     fs::write(&source, program).unwrap();
     let compiled = Command::new(env::var_os("CC").unwrap_or("cc".into()))
-        .args(["-std=c99", "-Wall", "-Wextra", "-Wpedantic", "-Werror"])
+        .args([
+            "-std=c99",
+            "-Wall",
+            "-Wextra",
+            "-Wpedantic",
+            "-Werror",
+            flag,
+        ])
         .arg("-I")
         .arg(project("include"))
         .arg("-o")
@@ -39,6 +45,14 @@ fn printed(name: &str, program: &str) -> Vec<String> {
         .status()
         .expect("a C compiler, which Rust links with too");
     assert!(compiled.success(), "{} does not compile", source.display());
+    binary
+}
+
+/// What a C program prints that includes the header and has this body, a line each.
+fn printed(name: &str, program: &str) -> Vec<String> {
+    let program = format!("#include \"vsmd3200.h\"\n#include <stdio.h>\n{program}");
+    // What is not called is left out, so that no library has to be linked.
+    let binary = compiled(name, &program, "-O1");
     let output = Command::new(&binary).output().unwrap();
     assert!(output.status.success(), "{} failed", binary.display());
     let lines = String::from_utf8(output.stdout).unwrap();
@@ -338,4 +352,13 @@ fn the_version_is_that_of_the_changelog() {
     assert_eq!(newest, Some(VERSION));
     let program = "int main(void)\n{\n    puts(VSMD_VERSION);\n    return 0;\n}\n";
     assert_eq!(printed("version", program), [VERSION]);
+}
+
+/// It is not linked: the archive may be for another machine than this.
+#[test]
+fn the_readmes_program_compiles() {
+    let readme = text_of("README.md");
+    let (_, program) = readme.split_once("```c\n").expect("a program in C");
+    let (program, _) = program.split_once("```").unwrap();
+    compiled("readme", program, "-c");
 }
