@@ -365,8 +365,8 @@ extern "C" {
 /* The version of the layouts above, and the lengths that the library asks of a record and of an outcome. Compare them with
  * VSMD_LAYOUT_VERSION, VSMD_RECORD_LEN and VSMD_OUTCOME_LEN once, at start: they tell of an archive that does not go with this header. */
 uint32_t vsmd_layout_version(void);
-size_t vsmd_record_len(void);
-size_t vsmd_outcome_len(void);
+uint64_t vsmd_record_len(void);
+uint64_t vsmd_outcome_len(void);
 
 /* Runs the chain that begins with the block at an address of host memory, for the first controller.
  *
@@ -386,9 +386,9 @@ size_t vsmd_outcome_len(void);
  * Returns the run's answer, the number that stands in the outcome too, or VSMD_RECORD0_SHORT, VSMD_RECORD1_SHORT, VSMD_OUTCOME_SHORT (tested
  * in this order): then no byte of any buffer was changed. Bytes that are not named under "Out" are as they came in. A byte stored
  * with the value it had counts as written: on memory that wears, compare before you keep. */
-uint32_t vsmd_run(uint8_t *host, size_t host_len, uint8_t *image0, size_t image0_len, uint8_t *image1, size_t image1_len,
-                  uint8_t *events, size_t events_len, uint8_t *record0, size_t record0_len, uint8_t *record1, size_t record1_len,
-                  uint8_t *outcome, size_t outcome_len, uint32_t first, uint32_t allowance);
+uint32_t vsmd_run(uint8_t *host, uint64_t host_len, uint8_t *image0, uint64_t image0_len, uint8_t *image1, uint64_t image1_len,
+                  uint8_t *events, uint64_t events_len, uint8_t *record0, uint64_t record0_len, uint8_t *record1,
+                  uint64_t record1_len, uint8_t *outcome, uint64_t outcome_len, uint32_t first, uint32_t allowance);
 
 /* The same for a controller of two that share the drives. Hand over the host memory and the event buffer of the machine that asks, and
  * the same images and records whichever of the two it is.
@@ -397,9 +397,9 @@ uint32_t vsmd_run(uint8_t *host, size_t host_len, uint8_t *image0, size_t image0
  *
  * Returns what vsmd_run does, or VSMD_CONTROLLER_UNKNOWN for any other number, which is tested after the three lengths: then too no byte of
  * any buffer was changed. */
-uint32_t vsmd_run_as(uint8_t *host, size_t host_len, uint8_t *image0, size_t image0_len, uint8_t *image1, size_t image1_len,
-                     uint8_t *events, size_t events_len, uint8_t *record0, size_t record0_len, uint8_t *record1,
-                     size_t record1_len, uint8_t *outcome, size_t outcome_len, uint32_t first, uint32_t allowance,
+uint32_t vsmd_run_as(uint8_t *host, uint64_t host_len, uint8_t *image0, uint64_t image0_len, uint8_t *image1, uint64_t image1_len,
+                     uint8_t *events, uint64_t events_len, uint8_t *record0, uint64_t record0_len, uint8_t *record1,
+                     uint64_t record1_len, uint8_t *outcome, uint64_t outcome_len, uint32_t first, uint32_t allowance,
                      uint32_t controller);
 
 /* Says where the sector at a place of a unit stands. It reads no image: the lengths of the images are all it asks of them. It is not
@@ -418,8 +418,9 @@ uint32_t vsmd_run_as(uint8_t *host, size_t host_len, uint8_t *image0, size_t ima
  * has length 0 and stands at the start of image 0: the three numbers are 0.
  *
  * Returns 0, or VSMD_RECORD0_SHORT, VSMD_RECORD1_SHORT: then the three numbers are as they were. */
-uint32_t vsmd_inspect(const uint8_t *record0, size_t record0_len, const uint8_t *record1, size_t record1_len, size_t image0_len,
-                      size_t image1_len, uint32_t unit, uint64_t place, uint32_t *image, size_t *at, size_t *bytes);
+uint32_t vsmd_inspect(const uint8_t *record0, uint64_t record0_len, const uint8_t *record1, uint64_t record1_len,
+                      uint64_t image0_len, uint64_t image1_len, uint32_t unit, uint64_t place, uint32_t *image, uint64_t *at,
+                      uint64_t *bytes);
 
 /* ---- the fields of a record, an outcome and an event entry -----------------------------------------------------------------------*/
 

@@ -3,6 +3,7 @@
  * the upgrade of a record. One line where all is well; else what differs, and exit 1. */
 #include "vsmd3200.h"
 
+#include <inttypes.h>
 #include <stdio.h>
 #include <string.h>
 
@@ -72,11 +73,11 @@ struct lent {
 
 static int wrong;
 
-static void expect_number(const char *what, unsigned long got, unsigned long wanted)
+static void expect_number(const char *what, uint64_t got, uint64_t wanted)
 {
     if (got == wanted)
         return;
-    printf("%s is %lu and should be %lu\n", what, got, wanted);
+    printf("%s is %" PRIu64 " and should be %" PRIu64 "\n", what, got, wanted);
     wrong = 1;
 }
 
@@ -119,13 +120,13 @@ static void lay_out(struct lent *l)
     memcpy(l->host + UIB, uib, sizeof uib);
 }
 
-static uint32_t run_with(struct lent *l, size_t record0_len, size_t record1_len, size_t outcome_len)
+static uint32_t run_with(struct lent *l, uint64_t record0_len, uint64_t record1_len, uint64_t outcome_len)
 {
     return vsmd_run(l->host, HOST_LEN, l->image0, IMAGE_LEN, l->image1, 0, l->events, EVENTS_LEN, l->record0, record0_len,
                     l->record1, record1_len, l->outcome, outcome_len, BLOCK0, VSMD_ALLOWANCE_MOST);
 }
 
-static uint32_t run_as_with(struct lent *l, uint32_t controller, size_t record0_len, size_t record1_len, size_t outcome_len)
+static uint32_t run_as_with(struct lent *l, uint32_t controller, uint64_t record0_len, uint64_t record1_len, uint64_t outcome_len)
 {
     return vsmd_run_as(l->host, HOST_LEN, l->image0, IMAGE_LEN, l->image1, 0, l->events, EVENTS_LEN, l->record0, record0_len,
                        l->record1, record1_len, l->outcome, outcome_len, BLOCK0, VSMD_ALLOWANCE_MOST, controller);
@@ -139,8 +140,8 @@ static uint32_t run_as(struct lent *l, uint32_t controller)
 static void layouts(void)
 {
     expect_number("the layouts' version", vsmd_layout_version(), VSMD_LAYOUT_VERSION);
-    expect_number("the length of a record", (unsigned long)vsmd_record_len(), VSMD_RECORD_LEN);
-    expect_number("the length of an outcome", (unsigned long)vsmd_outcome_len(), VSMD_OUTCOME_LEN);
+    expect_number("the length of a record", vsmd_record_len(), VSMD_RECORD_LEN);
+    expect_number("the length of an outcome", vsmd_outcome_len(), VSMD_OUTCOME_LEN);
 }
 
 /* A buffer too short for its layout: its own code, record 0 first, and every byte as it was. */
@@ -209,10 +210,10 @@ static void helpers(const struct lent *l)
     expect_number("the pairs of the record made", vsmd_record_pairs(made), 0);
     expect_number("blocks", vsmd_outcome_blocks(l->outcome), 2);
     expect_number("sectors", vsmd_outcome_sectors(l->outcome), 2);
-    expect_number("whether record 0 says initialized", (unsigned long)vsmd_record_says_initialized(l->record0), 1);
-    expect_number("whether record 1 says initialized", (unsigned long)vsmd_record_says_initialized(l->record1), 0);
+    expect_number("whether record 0 says initialized", (uint64_t)vsmd_record_says_initialized(l->record0), 1);
+    expect_number("whether record 1 says initialized", (uint64_t)vsmd_record_says_initialized(l->record1), 0);
     expect_number("the cylinder", vsmd_record_cylinder(l->record0), 1);
-    expect_number("the travel", (unsigned long)vsmd_event_travel(l->events + VSMD_EVENT_LEN), 1);
+    expect_number("the travel", (uint64_t)vsmd_event_travel(l->events + VSMD_EVENT_LEN), 1);
 }
 
 /* A restore takes the heads back: travel -1, and record 1 is still what it was. */
@@ -221,25 +222,25 @@ static void the_way_back(struct lent *l)
     l->host[BLOCK0] = 0x89;
     l->host[BLOCK0 + 1] = 0x00;
     expect_number("the answer of the restore", run_with(l, RECORD, RECORD, 16), VSMD_DONE);
-    expect_number("minus the travel of the restore", (unsigned long)-vsmd_event_travel(l->events), 1);
+    expect_number("minus the travel of the restore", (uint64_t)-vsmd_event_travel(l->events), 1);
     expect_number("the cylinder after it", vsmd_record_cylinder(l->record0), 0);
 }
 
-static void expect_part(const struct lent *l, size_t image0_len, uint32_t unit, uint64_t place, size_t at, size_t bytes)
+static void expect_part(const struct lent *l, uint64_t image0_len, uint32_t unit, uint64_t place, uint64_t at, uint64_t bytes)
 {
     uint32_t image = 77;
-    size_t got_at = 77, got_bytes = 77;
+    uint64_t got_at = 77, got_bytes = 77;
     uint32_t code = vsmd_inspect(l->record0, RECORD, l->record1, RECORD, image0_len, 0, unit, place, &image, &got_at, &got_bytes);
     expect_number("the code of an inspection", code, 0);
     expect_number("the image inspected", image, 0);
-    expect_number("the part's first byte", (unsigned long)got_at, (unsigned long)at);
-    expect_number("the part's length", (unsigned long)got_bytes, (unsigned long)bytes);
+    expect_number("the part's first byte", got_at, at);
+    expect_number("the part's length", got_bytes, bytes);
 }
 
 static void inspections(const struct lent *l)
 {
     uint32_t image = 77;
-    size_t at = 78, bytes = 79;
+    uint64_t at = 78, bytes = 79;
     expect_part(l, IMAGE_LEN, 0, 12, 768, 64);
     expect_part(l, IMAGE_LEN, 0, 119, 7616, 64);
     expect_part(l, IMAGE_LEN, 0, 120, 0, 0);
@@ -254,8 +255,18 @@ static void inspections(const struct lent *l)
                   vsmd_inspect(l->record0, RECORD, l->record1, RECORD - 1, IMAGE_LEN, 0, 0, 12, &image, &at, &bytes),
                   VSMD_RECORD1_SHORT);
     expect_number("the image after a refused inspection", image, 77);
-    expect_number("the first byte after it", (unsigned long)at, 78);
-    expect_number("the length after it", (unsigned long)bytes, 79);
+    expect_number("the first byte after it", at, 78);
+    expect_number("the length after it", bytes, 79);
+}
+
+/* Places and lengths have 64 bits whatever the machine's own have: the largest drive that there is, of which numbers alone are lent. */
+static void the_largest_drive(void)
+{
+    static struct lent l;
+    vsmd_record_make(l.record0, 4096, 255, 4096, 0, 64, 0, 0, 0);
+    expect_part(&l, UINT64_C(273871011840), 0, 66846719, UINT64_C(273804161024), 4096);
+    expect_part(&l, UINT64_C(273871011840), 0, 66846720, 0, 0);
+    expect_part(&l, UINT64_C(273871011839), 0, 66846719, 0, 0);
 }
 
 /* A block of one sector from or to the data's address, logical 8: the first sector of cylinder 1. */
@@ -330,16 +341,16 @@ static void pairs_told(const struct lent *l)
     uint8_t bad_head = 77, spare_head = 77, other[VSMD_RECORD_LEN];
     int there = vsmd_record_get_pair(l->record0, 1, &bad, &bad_head, &spare, &spare_head);
     expect_number("how many pairs count", vsmd_record_pairs(l->record0), 1);
-    expect_number("whether there is a second pair", (unsigned long)there, 0);
+    expect_number("whether there is a second pair", (uint64_t)there, 0);
     expect_number("the cylinder of a pair that is not there", bad, 77);
     there = vsmd_record_get_pair(l->record0, 0, &bad, &bad_head, &spare, &spare_head);
-    expect_number("whether there is a pair", (unsigned long)there, 1);
+    expect_number("whether there is a pair", (uint64_t)there, 1);
     expect_number("its bad cylinder", bad, 1);
     expect_number("its bad head", bad_head, 0);
     expect_number("its spare cylinder", spare, 9);
     expect_number("its spare head", spare_head, 2);
     vsmd_record_make(other, 10, 4, 64, 0, 2, 2, 1, 9);
-    expect_number("whether a pair can be added", (unsigned long)vsmd_record_add_pair(other, 1, 0, 9, 2), 1);
+    expect_number("whether a pair can be added", (uint64_t)vsmd_record_add_pair(other, 1, 0, 9, 2), 1);
     expect_bytes("the record made with the pair", other, l->record0, VSMD_RECORD_AT_TABLE + VSMD_PAIR_LEN);
 }
 
@@ -405,11 +416,11 @@ static void the_first_has_two_names(struct lent *l)
     expect_number("the answer where the second holds the drive", run_with(l, RECORD, RECORD, 16), VSMD_BLOCK_FAILED);
     expect_number("why it failed", l->outcome[VSMD_OUTCOME_AT_FAILED], VSMD_DRIVE_HELD);
     expect_number("who holds it", vsmd_record_holder(l->record0), VSMD_HOLDER_SECOND);
-    expect_number("whether it was released", (unsigned long)vsmd_record_release(l->record0), 1);
+    expect_number("whether it was released", (uint64_t)vsmd_record_release(l->record0), 1);
     expect_number("the answer where it was released", run_with(l, RECORD, RECORD, 16), VSMD_DONE);
     expect_number("who holds it then", vsmd_record_holder(l->record0), VSMD_HOLDER_FIRST);
     expect_number("the answer as the first", run_as(l, VSMD_CONTROLLER_FIRST), VSMD_DONE);
-    expect_number("whether it was released again", (unsigned long)vsmd_record_release(l->record0), 1);
+    expect_number("whether it was released again", (uint64_t)vsmd_record_release(l->record0), 1);
 }
 
 /* What the header says of each byte that a holder can be, and what a release leaves: 01 and 02 alone are somebody's. */
@@ -424,9 +435,9 @@ static void holders_told(const struct lent *l)
             record[VSMD_RECORD_AT_INITIALIZED] = (uint8_t)flag;
             record[VSMD_RECORD_AT_HOLDER] = (uint8_t)holder;
             memcpy(before, record, sizeof record);
-            expect_number("whether it says initialized", (unsigned long)vsmd_record_says_initialized(record), flag && holder <= 2);
+            expect_number("whether it says initialized", (uint64_t)vsmd_record_says_initialized(record), flag && holder <= 2);
             expect_number("who holds it", vsmd_record_holder(record), held ? holder : VSMD_HOLDER_NONE);
-            expect_number("whether it was released", (unsigned long)vsmd_record_release(record), held);
+            expect_number("whether it was released", (uint64_t)vsmd_record_release(record), held);
             if (held)
                 before[VSMD_RECORD_AT_HOLDER] = VSMD_HOLDER_NONE;
             expect_bytes("the record after a release", record, before, sizeof record);
@@ -448,7 +459,7 @@ static void holders_of_other_layouts(struct lent *l)
         wanted.record0[at[k]] = other[k];
         *l = wanted;
         expect_number("who holds a record of another layout", vsmd_record_holder(l->record0), VSMD_HOLDER_NONE);
-        expect_number("whether it was released", (unsigned long)vsmd_record_release(l->record0), 0);
+        expect_number("whether it was released", (uint64_t)vsmd_record_release(l->record0), 0);
         expect_number("the answer on it", run_with(l, RECORD, RECORD, 16), VSMD_BLOCK_FAILED);
         ended(&wanted, 0x82, 0x40, VSMD_NOT_INITIALIZED, 0, 0);
         expect_lent(l, &wanted);
@@ -548,7 +559,7 @@ static void orders_initialized(struct lent *l)
     unsigned order;
     for (order = 0; order < 256; order++) {
         l->record0[VSMD_RECORD_AT_ORDER] = (uint8_t)order;
-        expect_number("whether it says initialized", (unsigned long)vsmd_record_says_initialized(l->record0), order <= 1);
+        expect_number("whether it says initialized", (uint64_t)vsmd_record_says_initialized(l->record0), order <= 1);
     }
     lay_restore(l, 0x00);
     wanted = *l;
@@ -584,7 +595,7 @@ static void a_full_table(struct lent *l)
     vsmd_record_make(l->record0, 22, 4, 64, 0, 2, 2, 1, 0);
     for (k = 0; k < VSMD_PAIRS_MOST; k++)
         vsmd_record_add_pair(l->record0, (uint16_t)(k / 3), (uint8_t)(k % 3), (uint16_t)((k + 32) / 3), (uint8_t)((k + 32) % 3));
-    expect_number("whether a pair more can be added", (unsigned long)vsmd_record_add_pair(l->record0, 21, 1, 21, 2), 0);
+    expect_number("whether a pair more can be added", (uint64_t)vsmd_record_add_pair(l->record0, 21, 1, 21, 2), 0);
     expect_number("the pairs of a full table", vsmd_record_pairs(l->record0), 32);
     memcpy(l->host + BLOCK0, remap, sizeof remap);
     l->host[BLOCK0 + 5] = l->host[BLOCK0 + 9] = 21;
@@ -601,11 +612,11 @@ static void upgrades(void)
     uint8_t old[VSMD_RECORD_LEN_V1], made[VSMD_RECORD_LEN], zeros[VSMD_RECORD_LEN] = {0};
     memcpy(old, record_of_version_1, sizeof old);
     memset(made, 0x77, sizeof made);
-    expect_number("whether a record was upgraded", (unsigned long)vsmd_record_upgrade(made, old), 1);
+    expect_number("whether a record was upgraded", (uint64_t)vsmd_record_upgrade(made, old), 1);
     expect_bytes("the record upgraded", made, record_after, sizeof record_after);
     expect_bytes("its table", made + VSMD_RECORD_AT_TABLE, zeros, sizeof made - VSMD_RECORD_AT_TABLE);
     old[1] = 0;
-    expect_number("whether a record that says no more was upgraded", (unsigned long)vsmd_record_upgrade(made, old), 0);
+    expect_number("whether a record that says no more was upgraded", (uint64_t)vsmd_record_upgrade(made, old), 0);
     expect_bytes("what it became", made, zeros, sizeof made);
 }
 
@@ -618,6 +629,7 @@ int main(void)
     the_example(&l);
     helpers(&l);
     inspections(&l);
+    the_largest_drive();
     the_way_back(&l);
     a_pair_is_added(&l);
     the_spare_serves(&l);

@@ -4,61 +4,61 @@ use crate::answers::answer_text;
 use crate::layouts::{Controller, Outcome, Record, LAYOUT_VERSION, OUTCOME_LEN, RECORD_LEN};
 
 /// The functions of the archive, as `include/vsmd3200.h` declares them. Each lent slice crosses
-/// as a pointer and a length.
+/// as a pointer and a length. Lengths have 64 bits there, whatever those of this machine have.
 mod foreign {
     extern "C" {
         pub fn vsmd_layout_version() -> u32;
-        pub fn vsmd_record_len() -> usize;
-        pub fn vsmd_outcome_len() -> usize;
+        pub fn vsmd_record_len() -> u64;
+        pub fn vsmd_outcome_len() -> u64;
         pub fn vsmd_run(
             host: *mut u8,
-            host_len: usize,
+            host_len: u64,
             image0: *mut u8,
-            image0_len: usize,
+            image0_len: u64,
             image1: *mut u8,
-            image1_len: usize,
+            image1_len: u64,
             events: *mut u8,
-            events_len: usize,
+            events_len: u64,
             record0: *mut u8,
-            record0_len: usize,
+            record0_len: u64,
             record1: *mut u8,
-            record1_len: usize,
+            record1_len: u64,
             outcome: *mut u8,
-            outcome_len: usize,
+            outcome_len: u64,
             first: u32,
             allowance: u32,
         ) -> u32;
         pub fn vsmd_run_as(
             host: *mut u8,
-            host_len: usize,
+            host_len: u64,
             image0: *mut u8,
-            image0_len: usize,
+            image0_len: u64,
             image1: *mut u8,
-            image1_len: usize,
+            image1_len: u64,
             events: *mut u8,
-            events_len: usize,
+            events_len: u64,
             record0: *mut u8,
-            record0_len: usize,
+            record0_len: u64,
             record1: *mut u8,
-            record1_len: usize,
+            record1_len: u64,
             outcome: *mut u8,
-            outcome_len: usize,
+            outcome_len: u64,
             first: u32,
             allowance: u32,
             controller: u32,
         ) -> u32;
         pub fn vsmd_inspect(
             record0: *const u8,
-            record0_len: usize,
+            record0_len: u64,
             record1: *const u8,
-            record1_len: usize,
-            image0_len: usize,
-            image1_len: usize,
+            record1_len: u64,
+            image0_len: u64,
+            image1_len: u64,
             unit: u32,
             place: u64,
             image: *mut u32,
-            at: *mut usize,
-            bytes: *mut usize,
+            at: *mut u64,
+            bytes: *mut u64,
         ) -> u32;
     }
 }
@@ -86,8 +86,8 @@ pub fn layouts_match() -> bool {
         )
     };
     version == LAYOUT_VERSION
-        && record as u64 == RECORD_LEN as u64
-        && outcome as u64 == OUTCOME_LEN as u64
+        && record == RECORD_LEN as u64
+        && outcome == OUTCOME_LEN as u64
 }
 
 /// The layouts of the archive have to be those that this crate lays its bytes out by.
@@ -130,19 +130,19 @@ pub fn run(
     let answer = unsafe {
         foreign::vsmd_run(
             host.as_mut_ptr(),
-            host.len(),
+            host.len() as u64,
             image0.as_mut_ptr(),
-            image0.len(),
+            image0.len() as u64,
             image1.as_mut_ptr(),
-            image1.len(),
+            image1.len() as u64,
             events.as_mut_ptr(),
-            events.len(),
+            events.len() as u64,
             record0.as_mut_ptr(),
-            record0.len(),
+            record0.len() as u64,
             record1.as_mut_ptr(),
-            record1.len(),
+            record1.len() as u64,
             outcome.as_mut_ptr(),
-            outcome.len(),
+            outcome.len() as u64,
             first,
             allowance,
         )
@@ -186,19 +186,19 @@ pub fn run_as(
     let answer = unsafe {
         foreign::vsmd_run_as(
             host.as_mut_ptr(),
-            host.len(),
+            host.len() as u64,
             image0.as_mut_ptr(),
-            image0.len(),
+            image0.len() as u64,
             image1.as_mut_ptr(),
-            image1.len(),
+            image1.len() as u64,
             events.as_mut_ptr(),
-            events.len(),
+            events.len() as u64,
             record0.as_mut_ptr(),
-            record0.len(),
+            record0.len() as u64,
             record1.as_mut_ptr(),
-            record1.len(),
+            record1.len() as u64,
             outcome.as_mut_ptr(),
-            outcome.len(),
+            outcome.len() as u64,
             first,
             allowance,
             controller.number(),
@@ -233,31 +233,36 @@ pub fn part_of(records: &[Record; 2], image_lens: [usize; 2], unit: u32, place: 
     assert_layouts();
     let record0 = records[0].as_bytes();
     let record1 = records[1].as_bytes();
-    let mut part = Part {
-        image: 0,
-        at: 0,
-        bytes: 0,
-    };
+    let (mut image, mut at, mut bytes) = (0, 0, 0);
     // SAFETY: the two records are borrowed for the whole call and go with their own lengths; the
-    // three numbers are fields of a local that nothing else has. The library is proved to touch
+    // three numbers are locals that nothing else has. The library is proved to touch
     // nothing else and keeps none of them.
     let refused = unsafe {
         foreign::vsmd_inspect(
             record0.as_ptr(),
-            record0.len(),
+            record0.len() as u64,
             record1.as_ptr(),
-            record1.len(),
-            image_lens[0],
-            image_lens[1],
+            record1.len() as u64,
+            image_lens[0] as u64,
+            image_lens[1] as u64,
             unit,
             place,
-            &mut part.image,
-            &mut part.at,
-            &mut part.bytes,
+            &mut image,
+            &mut at,
+            &mut bytes,
         )
     };
     assert!(refused == 0, "the linked library refused a record");
-    part
+    Part {
+        image,
+        at: in_image(at),
+        bytes: in_image(bytes),
+    }
+}
+
+/// A number of a part. The part lies in an image whose length was a `usize`.
+fn in_image(number: u64) -> usize {
+    usize::try_from(number).expect("the linked library left its image")
 }
 
 /// The sector at a place of a unit, lent as that part of the unit's image.
