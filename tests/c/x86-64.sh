@@ -1,6 +1,6 @@
 #!/bin/sh
-# The archive of the library is for x86-64. On such a machine this compiles with cc and runs a program as it is. On another it
-# takes the compiler, the C library and the emulator that the Rattle kit has for its own programs.
+# The session program is x86-64 code, and so is what is linked with the archive for x86-64-bare. On such a machine this compiles with cc and
+# runs a program as it is. On another it takes the compiler, the C library and the emulator that the Rattle kit has for its own programs.
 #
 #   x86-64.sh cc OUT SOURCE.. [FLAG..] [ARCHIVE.a..]   compile and link a C program for x86-64
 #   x86-64.sh run PROGRAM [WORD..]                     run it
@@ -14,18 +14,9 @@ fail() {
 
 native() { [ "$(uname -m)" = x86_64 ]; }
 
-# The kit's folder, found as rt finds it.
-kit() {
-    if [ -n "${RATTLE_HOME:-}" ]; then
-        printf '%s\n' "$RATTLE_HOME"
-    else
-        rt=$(command -v rt) || fail "no rt on the path: the kit has the emulator that is wanted here"
-        dirname "$(dirname "$(readlink -f "$rt")")"
-    fi
-}
-
 if ! native; then
-    tools=$(kit)/on/$(uname -m)/toolchain
+    kit=$(sh "$(dirname "$0")/../../tools/kit") || exit 2
+    tools=$kit/on/$(uname -m)/toolchain
     [ -x "$tools/bin/qemu-x86_64" ] || fail "no emulator in $tools/bin"
 fi
 
@@ -43,7 +34,6 @@ build() { # OUT WORD..
         -Wl,-dynamic-linker,/lib64/ld-linux-x86-64.so.2 -o "$out" "$lib/Scrt1.o" "$lib/crti.o" "$lib/crtbeginS.o" "$@" \
         "$lib/libc.so.6" "$lib/libc_nonshared.a" "$lib/crtendS.o" "$lib/crtn.o"
 }
-
 words() { # PROGRAM
     if ! native; then
         printf '%s\n' "$tools/bin/qemu-x86_64" "$tools/lib/ld-linux-x86-64.so.2" --library-path "$tools/lib"

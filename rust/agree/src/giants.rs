@@ -2,9 +2,6 @@
 //! They are mappings of which only the bytes touched are there. The model takes no part; what has to
 //! stand where was worked out by hand.
 
-use std::fs::{File, OpenOptions};
-use std::os::fd::AsRawFd;
-use std::path::PathBuf;
 use vsmd3200::{
     inspect, run, BlockAnswer, Geometry, Order, Outcome, Pair, Record, RunAnswer, Track, Volume,
 };
@@ -37,7 +34,6 @@ mod system {
     }
 
     pub const READ_AND_WRITE: i32 = 1 | 2;
-    pub const SHARED: i32 = 0x01;
     pub const PRIVATE: i32 = 0x02;
     pub const ANONYMOUS: i32 = 0x20;
     pub const NO_RESERVE: i32 = 0x4000;
@@ -47,59 +43,22 @@ mod system {
 struct Sparse {
     at: *mut u8,
     len: usize,
-    /// The file that is mapped, where it has to be one.
-    path: Option<PathBuf>,
 }
 
 impl Sparse {
-    /// None where the machine refuses. Where a bridge stands between, the bytes have to be in a
-    /// file, since another program is to see them too.
-    fn new(len: usize, name: &str) -> Option<Sparse> {
-        use system::{ANONYMOUS, NO_RESERVE, PRIVATE, SHARED};
+    /// None where the machine refuses.
+    fn new(len: usize) -> Option<Sparse> {
+        use system::{ANONYMOUS, NO_RESERVE, PRIVATE, READ_AND_WRITE};
         if cfg!(not(target_os = "linux")) {
             return None;
         }
-        if cfg!(target_arch = "x86_64") {
-            return Sparse::map(len, PRIVATE | ANONYMOUS | NO_RESERVE, None, None);
-        }
-        let path = std::env::temp_dir().join(format!("agree-{}-{}", std::process::id(), name));
-        let file = OpenOptions::new()
-            .read(true)
-            .write(true)
-            .create_new(true)
-            .open(&path)
-            .ok()?;
-        let mapped = match file.set_len(len as u64) {
-            Ok(()) => Sparse::map(len, SHARED | NO_RESERVE, Some(&file), Some(path.clone())),
-            Err(_) => None,
-        };
-        if mapped.is_none() {
-            let _ = std::fs::remove_file(&path);
-        }
-        mapped
-    }
-
-    fn map(len: usize, kind: i32, file: Option<&File>, path: Option<PathBuf>) -> Option<Sparse> {
-        let file = file.map_or(-1, |file| file.as_raw_fd());
+        let kind = PRIVATE | ANONYMOUS | NO_RESERVE;
         // SAFETY: a new mapping at no particular place touches no memory of this program.
-        let at = unsafe {
-            system::mmap(
-                std::ptr::null_mut(),
-                len,
-                system::READ_AND_WRITE,
-                kind,
-                file,
-                0,
-            )
-        };
+        let at = unsafe { system::mmap(std::ptr::null_mut(), len, READ_AND_WRITE, kind, -1, 0) };
         if at as isize == -1 {
             return None;
         }
-        Some(Sparse {
-            at: at.cast(),
-            len,
-            path,
-        })
+        Some(Sparse { at: at.cast(), len })
     }
 
     fn bytes(&mut self) -> &mut [u8] {
@@ -114,9 +73,6 @@ impl Drop for Sparse {
         // SAFETY: the mapping was made with this length, and no borrow of it is left.
         unsafe {
             system::munmap(self.at.cast(), self.len);
-        }
-        if let Some(path) = &self.path {
-            let _ = std::fs::remove_file(path);
         }
     }
 }
@@ -201,13 +157,13 @@ impl Report {
 
 pub fn report() -> Report {
     let mut report = Report::default();
-    match Sparse::new(HOST_LEN, "host") {
+    match Sparse::new(HOST_LEN) {
         Some(mut host) => host_over_4_gib(&mut report, host.bytes()),
         None => report
             .refused
             .push("host memory over 4 GiB is not tried: the machine refuses the mapping".into()),
     }
-    match Sparse::new(IMAGE_LEN, "image") {
+    match Sparse::new(IMAGE_LEN) {
         Some(mut image) => image_at_the_limits(&mut report, image.bytes()),
         None => report
             .refused
