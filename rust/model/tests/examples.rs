@@ -10,6 +10,9 @@ fn examples_print_their_lines() {
     let mut played = 0;
     for entry in fs::read_dir(folder).expect("the examples") {
         let example = entry.expect("an example").path();
+        if !example.join("session.txt").is_file() {
+            continue; // firmware, which is no session
+        }
         let text = fs::read_to_string(example.join("session.txt")).expect("its text");
         let expected = fs::read(example.join("expected")).expect("its lines");
         let input = spell::to_session(&text).expect("a sound text");

@@ -9,7 +9,9 @@ fn examples() -> Vec<PathBuf> {
     let folder = Path::new(env!("CARGO_MANIFEST_DIR")).join("../../examples");
     let entries = fs::read_dir(folder).expect("the examples folder");
     let paths = entries.map(|entry| entry.expect("an entry").path());
-    let mut folders: Vec<PathBuf> = paths.filter(|path| path.is_dir()).collect();
+    let mut folders: Vec<PathBuf> = paths
+        .filter(|path| path.join("session.txt").is_file())
+        .collect();
     folders.sort();
     assert!(!folders.is_empty());
     folders
