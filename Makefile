@@ -1,6 +1,7 @@
 # make run: proves and builds the session program and plays the paper's example. make test: the one test; the audit, then `rt ci`, then the
 # look at its logs and the witnesses on what it proved, so that no crate but the library abi is proved twice; the last line is the verdict
-# of rt ci, held back until all else is through. make agree N=..: more worlds. make bench: what a run costs.
+# of rt ci, held back until all else is through. Both say what they are doing, a line a step with its seconds, on standard error. make agree
+# N=..: more worlds. make bench: what a run costs.
 .PHONY: run test audit agree bench
 
 N ?= 1000000
@@ -15,7 +16,7 @@ test: audit
 
 audit:
 	@rt version
-	@sh tools/audit
+	@. tools/steps && logged audit 'audit: the text' sh tools/audit && cat build/log/audit
 
 agree:
 	@sh tools/build library rust
