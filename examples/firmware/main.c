@@ -35,7 +35,7 @@ static void put_number(uint32_t number)
 
 static void put_byte(uint8_t byte)
 {
-    static const char digit[] = "0123456789ABCDEF";
+    static const char digit[] = "0123456789abcdef";
     char digits[3] = {0};
     digits[0] = digit[byte >> 4];
     digits[1] = digit[byte & 15];
