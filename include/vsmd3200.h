@@ -3,7 +3,7 @@
  * Three calls: vsmd_run runs a chain of parameter blocks ("blocks") that a host has laid out in its memory, vsmd_run_as does so for
  * one of two controllers that share their drives, and vsmd_inspect says where a sector stands in an image. All that crosses is bytes
  * and numbers. The library is proved in Rattle; it allocates nothing, keeps nothing between calls, takes no lock, and calls nothing
- * but memcpy and memset. Link libvsmd.a, which is for x86-64.
+ * but memcpy and memset. Link libvsmd.a; docs/TARGETS.md says for which processors there is one.
  *
  * What the library takes care of, and what you have to
  * ----------------------------------------------------
@@ -15,7 +15,7 @@
  *     returns;
  *   - no two buffers of one call share a byte;
  *   - no pointer is null, that of a buffer of length 0 included: hand over any address for it, as that of a neighbouring variable;
- *   - the pointers to uint32_t and size_t are aligned for these types (a pointer to bytes need not be aligned);
+ *   - the pointers to uint32_t and uint64_t are aligned for these types (a pointer to bytes need not be aligned);
  *   - while a call is under way nobody else uses its buffers: no second call, no interrupt handler, no DMA. Calls that share no
  *     buffer may run at the same time. Two controllers share the images and the records of their drives, so no two of their calls may
  *     be under way at once that are handed one of them: that a drive is held keeps no call from looking at its record.
