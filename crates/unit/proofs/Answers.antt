@@ -115,6 +115,14 @@ no-landing u v n is =
     by-cases (decLt n (volumeSectors (geometry u) v)) (λ inside. absurd (never (cc (landing-inside u v n inside))))
     (λ out. omega arith)
 
+pub at-address :
+    (u : UnitRecord) (a : Address) (s : Spot) →
+    landingAt u a ≡ Landing.At s → OnDrive (geometry u) a × (s ≡ spotAt (geometry u) (landed u a))
+unfolding landingAt
+at-address u a s is =
+    by-cases (onDrive? (geometry u) a) (λ on. (on, cc (landingAt-inside u a on)))
+    (λ out. absurd (never (cc (if-neg (onDrive? (geometry u) a) out (Landing.At (spotAt (geometry u) (landed u a))) Landing.Outside))))
+
 pub at-track :
     (u : UnitRecord) (c h : ℕ) (s : Spot) →
     trackLanding u c h ≡ Landing.At s → OnDrive (geometry u) (address c h 0) × (s ≡ trackOf u c h)

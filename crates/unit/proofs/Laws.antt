@@ -67,6 +67,10 @@ module _ (u : UnitRecord) where
           let its = server-at-on-drive shape (pairs u) (table u) (a .cylinder) (a .head) k is in
           record { cylinder = its .0; head = its .1; sector = on .sector }
 
+  -- Each address of the drive lands inside the drive.
+  pub address-inside : (a : Address) → OnDrive shape a → InDrive shape (spotAt shape (landed u a))
+  address-inside a on = spotAt-inside shape (landed u a) (landed-on-drive a on)
+
   pub landed-sector : (a : Address) → landed u a .sector ≡ a .sector
   landed-sector a = rw landed-is (by-served (serving (a .cylinder) (a .head)))
     where
@@ -93,7 +97,7 @@ module _ (u : UnitRecord) where
   -- ---- a track
 
   pub track-inside : (c h : ℕ) → OnDrive shape (address c h 0) → InDrive shape (trackOf u c h)
-  track-inside c h on = rw trackOf-is (spotAt-inside shape (landed u (address c h 0)) (landed-on-drive (address c h 0) on))
+  track-inside c h on = rw trackOf-is (address-inside (address c h 0) on)
 
   -- From a track's first sector on the whole track is left.
   pub track-whole : (c h : ℕ) → trackOf u c h .rest ≡ S shape
@@ -114,7 +118,7 @@ module _ (u : UnitRecord) (v : VolumeNumber) where
 
   -- Each number of a volume lands inside the drive.
   pub spot-inside : (n : ℕ) → n < volumeSectors g v → InDrive g (spotOf u v n)
-  spot-inside n inside = rw spotOf-is (spotAt-inside g _ (landed-on-drive u _ (geometry.address-on-drive g v n inside)))
+  spot-inside n inside = rw spotOf-is (address-inside u _ (geometry.address-on-drive g v n inside))
 
   -- The rest of a track is consecutive, in the volume and in the image.
   pub spots-consecutive :

@@ -17,6 +17,7 @@ use Rattle.unit.proofs.Record.held_by.Reads as held-by
 use Rattle.unit.proofs.Record.holder.Reads as holder
 use Rattle.unit.proofs.Record.initialized.Reads as initialized
 use Rattle.unit.proofs.Record.land.Reads as land
+use Rattle.unit.proofs.Record.land_at.Reads as land-at
 use Rattle.unit.proofs.Record.land_track.Reads as land-track
 use Rattle.unit.proofs.Record.moved_to.Reads as moved-to
 use Rattle.unit.proofs.Record.new.Reads as new
@@ -47,6 +48,9 @@ initialized-once κ a x y e f p q = p ∙ sym q
 
 land-once : OneResult land.Post
 land-once κ a x y e f p q = p ∙ sym q
+
+land-at-once : OneResult land-at.Post
+land-at-once κ a x y e f p q = p ∙ sym q
 
 land-track-once : OneResult land-track.Post
 land-track-once κ a x y e f p q = p ∙ sym q

@@ -344,7 +344,7 @@ impl Record {
     }
 
     // Where an address lands, if the drive has the address named.
-    fn land_at(self, table: &[u32; 64], a: Address) -> Landing
+    pub fn land_at(self, table: &[u32; 64], a: Address) -> Landing
         ensures { λ r. ⌜ r ≡ landingAt (unitOf self (now (table .entry))) a ⌝ }
     {
         match self.spot(a) {
