@@ -3,6 +3,8 @@ pub mod EachForItself
 pub mod Laws
 pub mod Left
 pub mod Outcomes
+pub mod Readings
+pub mod Standings
 pub mod Stored
 pub mod Tracks
 pub mod Untouched

@@ -4,6 +4,10 @@ use mathlib.Core.Path.{_∙_, sym}
 use denote.Ref.{now}
 use Rattle.wire.specs.Promise.{OneOutcome, OneResult}
 use Rattle.abi.specs.Calls.{calledOf, inspectedOf, lentOf}
+use Rattle.abi.specs.Places.{locatedOf, neededOf}
+use Rattle.abi.proofs.places.vsmd_image_need.Reads as image-need
+use Rattle.abi.proofs.places.vsmd_sector_at.Reads as sector-at
+use Rattle.abi.proofs.places.vsmd_sector_of.Reads as sector-of
 use Rattle.abi.proofs.vsmd_inspect.Reads as inspect
 use Rattle.abi.proofs.vsmd_layout_version.Reads as layout-version
 use Rattle.abi.proofs.vsmd_outcome_len.Reads as outcome-len
@@ -42,3 +46,16 @@ vsmd-inspect-once :
     inspectedOf x (now (e .1 .1 .1 .1 .1 .1 .0))
     (now (e .1 .1 .1 .1 .1 .1 .1 .0)) (now (e .1 .1 .1 .1 .1 .1 .1 .1 .0)))
 vsmd-inspect-once κ a x y e f p q = p ∙ sym q
+
+vsmd-image-need-once : OneOutcome image-need.Post (λ κ x e. neededOf x (now (e .1 .0)))
+vsmd-image-need-once κ a x y e f p q = p ∙ sym q
+
+vsmd-sector-of-once :
+    OneOutcome sector-of.Post
+    (λ κ x e. locatedOf x (now (e .1 .1 .1 .0)) (now (e .1 .1 .1 .1 .0)) (now (e .1 .1 .1 .1 .1 .0)))
+vsmd-sector-of-once κ a x y e f p q = p ∙ sym q
+
+vsmd-sector-at-once :
+    OneOutcome sector-at.Post
+    (λ κ x e. locatedOf x (now (e .1 .1 .1 .1 .0)) (now (e .1 .1 .1 .1 .1 .0)) (now (e .1 .1 .1 .1 .1 .1 .0)))
+vsmd-sector-at-once κ a x y e f p q = p ∙ sym q

@@ -1,3 +1,5 @@
 pub mod Calls
 pub mod Layouts
 pub mod Machines
+pub mod Places
+pub mod Readings

@@ -11,6 +11,7 @@ ghost use Rattle.abi.specs.Calls.{called, calledAs, calledOf, controller
 ghost use Rattle.abi.specs.Layouts.{outcomeLength, recordLength};
 
 mod layouts;
+mod places;
 
 pub const RECORD_LEN: usize = 276;
 
@@ -24,6 +25,10 @@ pub const RECORD1_SHORT: u32 = 0x1F2;
 pub const OUTCOME_SHORT: u32 = 0x1F3;
 
 pub const CONTROLLER_UNKNOWN: u32 = 0x1F4;
+
+pub const NOT_INITIALIZED: u32 = 0x1F7;
+
+pub const SECTOR_OUTSIDE: u32 = 0x1F8;
 
 // The version of the layouts.
 #[no_mangle]
