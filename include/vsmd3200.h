@@ -1,9 +1,10 @@
 /* The command parser of a board that takes the place of an Interphase V/SMD 3200.
  *
- * Three calls: vsmd_run runs a chain of parameter blocks ("blocks") that a host has laid out in its memory, vsmd_run_as does so for
- * one of two controllers that share their drives, and vsmd_inspect says where a sector stands in an image. All that crosses is bytes
- * and numbers. The library is proved in Rattle; it allocates nothing, keeps nothing between calls, takes no lock, and calls nothing
- * but memcpy and memset. Link libvsmd.a; docs/TARGETS.md says for which processors there is one.
+ * vsmd_run runs a chain of parameter blocks ("blocks") that a host has laid out in its memory, vsmd_run_as does so for one of two
+ * controllers that share their drives, and vsmd_inspect says which part of an image the sector at a place is. Three more tell by a
+ * unit's record alone how long its image has to be and where a sector stands in it. All that crosses is bytes and numbers. The library
+ * is proved in Rattle; it allocates nothing, keeps nothing between calls, takes no lock, and calls nothing but memcpy and memset. Link
+ * libvsmd.a; docs/TARGETS.md says for which processors there is one.
  *
  * What the library takes care of, and what you have to
  * ----------------------------------------------------
@@ -353,6 +354,10 @@ extern "C" {
 #define VSMD_OUTCOME_SHORT 0x1F3u
 #define VSMD_CONTROLLER_UNKNOWN 0x1F4u
 
+/* What the calls return that tell of a unit by its record, where there is nothing to tell. */
+#define VSMD_RECORD_NOT_INITIALIZED 0x1F7u /* the unit is not initialized */
+#define VSMD_SECTOR_NOT_THERE 0x1F8u       /* it has no such sector */
+
 /* The controllers, by their numbers. */
 #define VSMD_CONTROLLER_FIRST 0u
 #define VSMD_CONTROLLER_SECOND 1u
@@ -421,6 +426,35 @@ uint32_t vsmd_run_as(uint8_t *host, uint64_t host_len, uint8_t *image0, uint64_t
 uint32_t vsmd_inspect(const uint8_t *record0, uint64_t record0_len, const uint8_t *record1, uint64_t record1_len,
                       uint64_t image0_len, uint64_t image1_len, uint32_t unit, uint64_t place, uint32_t *image, uint64_t *at,
                       uint64_t *bytes);
+
+/* Says how long the image of a unit has to be, by its record alone: for whoever makes an image or brings one there and back. A block on
+ * an image with fewer bytes is refused with VSMD_IMAGE_SHORT. Whoever holds the drive does not matter.
+ *
+ *   record   the unit's record.
+ *   bytes    Out: how many bytes its image needs, C x H x S sectors of B bytes and a mark byte for each.
+ *
+ * Returns 0, or VSMD_RECORD0_SHORT, VSMD_RECORD_NOT_INITIALIZED (tested in this order): then the number is as it was. */
+uint32_t vsmd_image_need(const uint8_t *record, uint64_t record_len, uint64_t *bytes);
+
+/* Says where the sector with a number in a volume stands in the unit's image, by the unit's record alone: where a block reads and writes
+ * that has XL set and names this number. On a bad track it is the sector of the spare. The order of the tracks is the record's.
+ *
+ *   record   the unit's record.
+ *   volume   0 or 1.
+ *   number   the logical sector, from 0.
+ *   place    Out: its place, counted in sectors from the start of the image; vsmd_inspect takes it.
+ *   first    Out: its first byte in the image, which B bytes begin with.
+ *   mark     Out: the byte of the image that is its mark.
+ *
+ * Returns 0, or VSMD_RECORD0_SHORT, VSMD_RECORD_NOT_INITIALIZED, or VSMD_SECTOR_NOT_THERE where the volume has no such sector, is absent,
+ * or is neither 0 nor 1 (tested in this order): then the three numbers are as they were. */
+uint32_t vsmd_sector_of(const uint8_t *record, uint64_t record_len, uint32_t volume, uint64_t number, uint64_t *place,
+                        uint64_t *first, uint64_t *mark);
+
+/* The same of the sector at a cylinder, head and sector, the head counted over the whole drive, whatever volume has it, or none.
+ * Returns VSMD_SECTOR_NOT_THERE where the cylinder is not below C, the head not below H, or the sector not below S. */
+uint32_t vsmd_sector_at(const uint8_t *record, uint64_t record_len, uint16_t cylinder, uint16_t head, uint16_t sector,
+                        uint64_t *place, uint64_t *first, uint64_t *mark);
 
 /* ---- the fields of a record, an outcome and an event entry -----------------------------------------------------------------------*/
 

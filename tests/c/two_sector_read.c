@@ -1,6 +1,6 @@
 /* The paper's session example through the C header: an initialize linked to a read of two sectors, laid out byte by byte. Then the
- * refusals of short buffers, the inspection, a bad track with its spare, two controllers on the drive, a drive that counts by cylinder, and
- * the upgrade of a record. One line where all is well; else what differs, and exit 1. */
+ * refusals of short buffers, the inspection, where sectors stand by a record alone, a bad track with its spare, two controllers on the
+ * drive, a drive that counts by cylinder, and the upgrade of a record. One line where all is well; else what differs, and exit 1. */
 #include "vsmd3200.h"
 
 #include <inttypes.h>
@@ -269,6 +269,57 @@ static void the_largest_drive(void)
     expect_part(&l, UINT64_C(273871011839), 0, 66846719, 0, 0);
 }
 
+/* A sector of unit 0 by its number in a volume; or, where the volume is ADDRESSED, by its cylinder, head and sector, a byte of the
+ * number each. One that is NOWHERE is refused, and the numbers stay. */
+#define ADDRESSED 77u
+#define NOWHERE 0xFFFFFFFFu
+
+static void expect_sector(const struct lent *l, uint32_t volume, uint64_t number, uint64_t place)
+{
+    uint64_t got_place = 77, first = 78, mark = 79;
+    uint32_t code = volume == ADDRESSED ? vsmd_sector_at(l->record0, RECORD, (uint16_t)(number >> 16), (uint16_t)(number >> 8 & 0xFF),
+                                                         (uint16_t)(number & 0xFF), &got_place, &first, &mark)
+                                        : vsmd_sector_of(l->record0, RECORD, volume, number, &got_place, &first, &mark);
+    int there = place != NOWHERE;
+    expect_number("the code of a sector", code, there ? 0 : VSMD_SECTOR_NOT_THERE);
+    expect_number("the place of a sector", (unsigned long)got_place, there ? (unsigned long)place : 77);
+    expect_number("the first byte of a sector", (unsigned long)first, there ? (unsigned long)place * 64 : 78);
+    expect_number("the mark of a sector", (unsigned long)mark, there ? MARKS + (unsigned long)place : 79);
+}
+
+/* By the record alone, of the small drive by head and without pairs: how long its image has to be and where its sectors stand. */
+static void standings(const struct lent *l)
+{
+    uint64_t place = 77, first = 78, mark = 79, bytes = 80;
+    expect_sector(l, 0, 8, 12);
+    expect_sector(l, 0, 79, 115);
+    expect_sector(l, 0, 80, NOWHERE);
+    expect_sector(l, 1, 0, 8);
+    expect_sector(l, 1, 39, 119);
+    expect_sector(l, 1, 40, NOWHERE);
+    expect_sector(l, 0, (uint64_t)1 << 32, NOWHERE);
+    expect_sector(l, 2, 0, NOWHERE);
+    expect_sector(l, 0x100, 0, NOWHERE);
+    expect_sector(l, ADDRESSED, 0x010000, 12);
+    expect_sector(l, ADDRESSED, 0x090203, 119);
+    expect_sector(l, ADDRESSED, 0x0A0000, NOWHERE);
+    expect_sector(l, ADDRESSED, 0x000300, NOWHERE);
+    expect_sector(l, ADDRESSED, 0x000004, NOWHERE);
+    expect_number("the code with a record short", vsmd_sector_of(l->record0, RECORD - 1, 0, 8, &place, &first, &mark), VSMD_RECORD0_SHORT);
+    expect_number("the code with it short by address", vsmd_sector_at(l->record0, 0, 1, 0, 0, &place, &first, &mark), VSMD_RECORD0_SHORT);
+    expect_number("the code of unit 1", vsmd_sector_of(l->record1, RECORD, 2, 8, &place, &first, &mark), VSMD_RECORD_NOT_INITIALIZED);
+    expect_number("the code of unit 1 by address", vsmd_sector_at(l->record1, RECORD, 1, 0, 0, &place, &first, &mark),
+                  VSMD_RECORD_NOT_INITIALIZED);
+    expect_number("the place after four refusals", (unsigned long)place, 77);
+    expect_number("the first byte after them", (unsigned long)first, 78);
+    expect_number("the mark after them", (unsigned long)mark, 79);
+    expect_number("the code with a record short", vsmd_image_need(l->record0, RECORD - 1, &bytes), VSMD_RECORD0_SHORT);
+    expect_number("the code of unit 1", vsmd_image_need(l->record1, RECORD, &bytes), VSMD_RECORD_NOT_INITIALIZED);
+    expect_number("the number after two refusals", (unsigned long)bytes, 80);
+    expect_number("the code of the need", vsmd_image_need(l->record0, RECORD + AFTER, &bytes), 0);
+    expect_number("the bytes that the image needs", (unsigned long)bytes, IMAGE_LEN);
+}
+
 /* A block of one sector from or to the data's address, logical 8: the first sector of cylinder 1. */
 static void lay_transfer(struct lent *l, uint8_t command)
 {
@@ -332,6 +383,10 @@ static void the_spare_serves(struct lent *l)
     expect_lent(l, &wanted);
     expect_part(l, IMAGE_LEN, 0, 116, 7424, 64);
     expect_part(l, IMAGE_LEN, 0, 12, 768, 64);
+    expect_sector(l, 0, 8, 116);
+    expect_sector(l, ADDRESSED, 0x010002, 118);
+    expect_sector(l, ADDRESSED, 0x090202, 118);
+    expect_sector(l, 0, 12, 16);
 }
 
 /* What the header's own functions say of the record with its pair. */
@@ -521,6 +576,11 @@ static void a_read_by_cylinder(struct lent *l)
     memcpy(wanted.host + DATA + 64, wanted.image0 + 24 * 64, 64);
     wanted.record0[VSMD_RECORD_AT_CYLINDER + 1] = 2;
     expect_lent(l, &wanted);
+    expect_sector(l, 0, 7, 15);
+    expect_sector(l, 0, 8, 24);
+    expect_sector(l, 0, 4, 12);
+    expect_sector(l, 0, 40, 4);
+    expect_sector(l, ADDRESSED, 0x010000, 12);
 }
 
 /* Cylinder 0, head 1, sector 3 is place 7, and the sector after it is on cylinder 1, place 16. From sector 0 of that track there are 40
@@ -630,6 +690,7 @@ int main(void)
     helpers(&l);
     inspections(&l);
     the_largest_drive();
+    standings(&l);
     the_way_back(&l);
     a_pair_is_added(&l);
     the_spare_serves(&l);
@@ -641,7 +702,7 @@ int main(void)
     upgrades();
     if (wrong)
         return 1;
-    printf("two_sector_read: the session example, the refusals, the inspection, a spare track, a drive of two controllers and one by "
-           "cylinder through C are as the papers have them\n");
+    printf("two_sector_read: the session example, the refusals, the inspection, where sectors stand, a spare track, a drive of two "
+           "controllers and one by cylinder through C are as the papers have them\n");
     return 0;
 }

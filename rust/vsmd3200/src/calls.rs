@@ -5,7 +5,7 @@ use crate::layouts::{Controller, Outcome, Record, LAYOUT_VERSION, OUTCOME_LEN, R
 
 /// The functions of the archive, as `include/vsmd3200.h` declares them. Each lent slice crosses
 /// as a pointer and a length. Lengths have 64 bits there, whatever those of this machine have.
-mod foreign {
+pub(crate) mod foreign {
     extern "C" {
         pub fn vsmd_layout_version() -> u32;
         pub fn vsmd_record_len() -> u64;
@@ -60,6 +60,26 @@ mod foreign {
             at: *mut u64,
             bytes: *mut u64,
         ) -> u32;
+        pub fn vsmd_image_need(record: *const u8, record_len: u64, bytes: *mut u64) -> u32;
+        pub fn vsmd_sector_of(
+            record: *const u8,
+            record_len: u64,
+            volume: u32,
+            number: u64,
+            place: *mut u64,
+            first: *mut u64,
+            mark: *mut u64,
+        ) -> u32;
+        pub fn vsmd_sector_at(
+            record: *const u8,
+            record_len: u64,
+            cylinder: u16,
+            head: u16,
+            sector: u16,
+            place: *mut u64,
+            first: *mut u64,
+            mark: *mut u64,
+        ) -> u32;
     }
 }
 
@@ -91,7 +111,7 @@ pub fn layouts_match() -> bool {
 }
 
 /// The layouts of the archive have to be those that this crate lays its bytes out by.
-fn assert_layouts() {
+pub(crate) fn assert_layouts() {
     assert!(
         layouts_match(),
         "the linked library has other layouts than this crate was written for"

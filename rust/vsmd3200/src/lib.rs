@@ -6,8 +6,9 @@
 //! records and outcomes in the bytes of their layouts, and gives the numbers names.
 //!
 //! [`run`] runs a chain of blocks on host memory, two images and two unit records, and [`run_as`]
-//! does so for either of two controllers. [`inspect`] lends one sector of an image. What is where
-//! in a block, a list, a UIB and the other layouts has its names in [`bytes`].
+//! does so for either of two controllers. [`inspect`] lends one sector of an image. A [`Record`] tells
+//! how long the image of its unit has to be, and where a sector stands in it. What is where in a
+//! block, a list, a UIB and the other layouts has its names in [`bytes`].
 //!
 //! ```
 //! use vsmd3200::{run, Record, RunAnswer};
@@ -53,6 +54,22 @@
 //! assert_eq!(Geometry::default().order, Order::ByHead);
 //! ```
 //!
+//! Where a sector stands is told by the record alone, bad tracks and order included:
+//!
+//! ```
+//! use vsmd3200::{Geometry, Order, Record, Standing, Untold, Volume};
+//!
+//! let volumes = [Volume { start_head: 0, heads: 2 }, Volume::default()];
+//! let (cylinders, order) = (10, Order::ByHead);
+//! let geometry = Geometry { cylinders, sectors_a_track: 4, bytes_a_sector: 64, volumes, order };
+//! let record = Record::from_parts(true, geometry, 0);
+//! assert_eq!(record.image_need(), Some(80 * 65));
+//! let standing = Standing { place: 8, first: 512, mark: 5128 };
+//! assert_eq!(record.sector_of(0, 8), Ok(standing));
+//! assert_eq!(record.sector_at(1, 0, 0), Ok(standing));
+//! assert_eq!(record.sector_of(0, 80), Err(Untold::SectorNotThere));
+//! ```
+//!
 //! Two controllers may share the drives. Each runs its chains by [`run_as`] on a host memory and an
 //! event buffer of its own; images and records are those of both. The first takes drive 0 here, and
 //! the second is refused until the drive is given up:
@@ -91,6 +108,7 @@ pub mod bytes;
 mod calls;
 mod event;
 mod layouts;
+mod places;
 
 pub use answers::{answer_text, BlockAnswer, RefusedCall, RunAnswer};
 pub use calls::{inspect, layouts_match, part_of, run, run_as, Part};
@@ -99,6 +117,7 @@ pub use layouts::{
     Controller, Geometry, Order, Outcome, Pair, Record, Track, Volume, LAYOUT_VERSION, OUTCOME_LEN,
     PAIRS_MOST, RECORD_LEN, RECORD_LEN_V1,
 };
+pub use places::{Standing, Untold};
 
 /// The version of this crate and of the header that goes with it; CHANGELOG.md says what each one
 /// means for a caller. The layouts have a number of their own, [`LAYOUT_VERSION`].
