@@ -31,6 +31,14 @@ pub fn differences(case: &Case, library: &Left, model: &Left) -> Vec<String> {
             ));
         }
     }
+    for (library, model) in library.told.iter().zip(&model.told) {
+        if library != model {
+            lines.push(format!(
+                "standing: library {:?}, model {:?}",
+                library, model
+            ));
+        }
+    }
     if let Some(buffer) = library.outside {
         lines.push(format!("the library changed bytes next to {}", buffer));
     }

@@ -2,6 +2,7 @@
 
 use crate::case::{record_in, Case, RecordBytes, HOLDER_AT, ORDER_AT};
 use crate::sides::Left;
+use crate::standing::KINDS;
 use crate::worlds::{TableWay, Theme, Way};
 use model::{Holder, Order, Outcome, Pair, Record, Table, Taken, Trace, Track, Visit};
 use model::{CHECKS, COMMANDS, STOPS};
@@ -222,6 +223,8 @@ pub struct Coverage {
     opening: u64,
     /// Inspections that found a sector, and that found none.
     found: [u64; 2],
+    /// What was told of sectors by a record alone.
+    told: [u64; KINDS.len()],
     table_traps: [u64; TABLE_TRAPS.len()],
     order_traps: [u64; ORDER_TRAPS.len()],
     /// 11 for a record that its table alone spoils.
@@ -253,6 +256,7 @@ impl Coverage {
             ways: [0; Way::ALL.len()],
             opening: 0,
             found: [0; 2],
+            told: [0; KINDS.len()],
             table_traps: [0; TABLE_TRAPS.len()],
             order_traps: [0; ORDER_TRAPS.len()],
             table_ways: [0; TableWay::ALL.len()],
@@ -277,6 +281,9 @@ impl Coverage {
         self.records(case, trace);
         for found in &found {
             self.found[*found as usize] += 1;
+        }
+        for (k, (_, kind)) in KINDS.iter().enumerate() {
+            self.told[k] += left.told.iter().filter(|told| kind(told)).count() as u64;
         }
         if self.theme.tables() {
             self.tables(case, trace, left, &found);
@@ -363,6 +370,7 @@ impl Coverage {
         add_all(&mut self.traps, &other.traps);
         add_all(&mut self.ways, &other.ways);
         add_all(&mut self.found, &other.found);
+        add_all(&mut self.told, &other.told);
         add_all(&mut self.table_traps, &other.table_traps);
         add_all(&mut self.order_traps, &other.order_traps);
         add_all(&mut self.table_ways, &other.table_ways);
@@ -411,6 +419,9 @@ impl Coverage {
         things.push(("11 for the record's opening".to_string(), self.opening));
         things.push(("inspection of a sector".to_string(), self.found[1]));
         things.push(("inspection of nothing".to_string(), self.found[0]));
+        for ((name, _), count) in KINDS.iter().zip(self.told) {
+            things.push((name.to_string(), count));
+        }
         things
     }
 

@@ -134,6 +134,7 @@ fn unchanged(case: &Case, answer: u8, failed: u8, blocks: u32, sectors: u32) -> 
         events: case.events.clone(),
         records: case.records,
         parts: Vec::new(),
+        told: Vec::new(),
         outside: None,
     }
 }

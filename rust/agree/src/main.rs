@@ -21,6 +21,7 @@ mod pairs;
 mod places;
 mod sessions;
 mod sides;
+mod standing;
 mod worlds;
 
 use coverage::Coverage;

@@ -1,6 +1,7 @@
 //! The two that are compared: the library, and the model.
 
 use crate::case::{record_in, record_left, Case, RecordBytes, HOLDER_AT};
+use crate::standing::{self, Told};
 use model::{Holder, Outcome, Part, Trace, World};
 
 /// All that a side leaves of a case.
@@ -11,6 +12,7 @@ pub struct Left {
     pub events: Vec<u8>,
     pub records: [RecordBytes; 2],
     pub parts: Vec<Part>,
+    pub told: Vec<Told>,
     /// A buffer next to which bytes were changed that had not been lent.
     pub outside: Option<&'static str>,
 }
@@ -71,16 +73,18 @@ pub fn model_side(case: &Case) -> (Left, Trace) {
         .iter()
         .map(|i| model::inspect(&world.records, i.image_lens.unwrap_or(own), i.unit, i.place))
         .collect();
+    let records = [
+        record_left(&case.records[0], &world.records[0]),
+        record_left(&case.records[1], &world.records[1]),
+    ];
     let left = Left {
         outcome,
         host: world.host,
         images: world.images,
         events: world.events,
-        records: [
-            record_left(&case.records[0], &world.records[0]),
-            record_left(&case.records[1], &world.records[1]),
-        ],
+        records,
         parts,
+        told: standing::ask(case, &records, standing::answer),
         outside: None,
     };
     (left, trace)
@@ -112,6 +116,7 @@ mod library {
 mod library {
     use super::{Case, Left, RecordBytes};
     use crate::case::Inspection;
+    use crate::standing::{self, Answer, Asked};
     use model::{Controller, Outcome, Part};
     use vsmd3200::Record;
 
@@ -182,6 +187,7 @@ mod library {
             .iter()
             .map(|i| part(&images, &records, i))
             .collect();
+        let records = records.map(|record| *record.as_bytes());
         Left {
             outcome: Outcome {
                 answer: outcome.answer.number(),
@@ -192,8 +198,9 @@ mod library {
             host: host.into_lent(),
             images,
             events: events.into_lent(),
-            records: records.map(|record| *record.as_bytes()),
+            records,
             parts,
+            told: standing::ask(case, &records, told),
             outside,
         }
     }
@@ -239,6 +246,24 @@ mod library {
                 }
             }
         }
+    }
+
+    fn told(bytes: &RecordBytes, asked: Asked) -> Answer {
+        let record = Record::from_bytes(*bytes);
+        let sector = match asked {
+            Asked::Need => {
+                let need = record.image_need().map(|need| vec![need]);
+                return need.ok_or(standing::NOT_INITIALIZED);
+            }
+            Asked::Of { volume, number } => record.sector_of(volume, number),
+            Asked::At {
+                cylinder,
+                head,
+                sector,
+            } => record.sector_at(cylinder, head, sector),
+        };
+        let numbers = sector.map(|sector| vec![sector.place, sector.first, sector.mark]);
+        numbers.map_err(|untold| untold as u32)
     }
 
     /// Which part of which image was lent, told from where the lent bytes stand.
