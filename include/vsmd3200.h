@@ -443,7 +443,7 @@ uint32_t vsmd_image_need(const uint8_t *record, uint64_t record_len, uint64_t *b
  *   volume   0 or 1.
  *   number   the logical sector, from 0.
  *   place    Out: its place, counted in sectors from the start of the image; vsmd_inspect takes it.
- *   first    Out: its first byte in the image, which B bytes begin with.
+ *   first    Out: its first byte in the image; it has B bytes.
  *   mark     Out: the byte of the image that is its mark.
  *
  * Returns 0, or VSMD_RECORD0_SHORT, VSMD_RECORD_NOT_INITIALIZED, or VSMD_SECTOR_NOT_THERE where the volume has no such sector, is absent,

@@ -13,7 +13,8 @@ use geometry::VolumeNumber;
 use unit::Landing;
 use unit::Record;
 ghost use mathlib.Core.Path.{_≡_};
-ghost use Prim.Native.Nat.{_<_};
+ghost use Prim.Native.Nat.{_≤_, _<_};
+ghost use lib.ListN.{length};
 ghost use Rattle.geometry.specs.Drive.{driveSectors};
 ghost use Rattle.unit.specs.declared.Landing.{Landing};
 ghost use Rattle.unit.specs.declared.Spot.{Spot};
@@ -34,6 +35,17 @@ pub(crate) enum Wanted {
     Addressed(Address),
 }
 
+// The record that stands in some bytes, its tracks in a table that was empty.
+fn unit_in(record: &[u8], table: &mut [u32; 64]) -> Record
+    requires { ⌜ (276 ≤ length (now «record»)) × (now table ≡ noTracks) ⌝ }
+    ensures { λ r. ⌜ unitOf r (now (table .exit)) ≡ recordIn (now («record» .entry)) ⌝ }
+{
+    let u = layouts::record(record);
+    let pairs = u.pairs();
+    layouts::read_tracks(record, pairs, table);
+    u
+}
+
 // Reads a record, and its tracks into an empty table.
 fn read(record: &[u8], table: &mut [u32; 64]) -> Reading
     requires { ⌜ now table ≡ noTracks ⌝ }
@@ -45,9 +57,7 @@ fn read(record: &[u8], table: &mut [u32; 64]) -> Reading
     if record.len() < RECORD_LEN {
         return Reading::Refused(RECORD0_SHORT);
     }
-    let u = layouts::record(record);
-    let pairs = u.pairs();
-    layouts::read_tracks(record, pairs, table);
+    let u = unit_in(record, table);
     if u.counts_as_initialized(table) {
         Reading::Counts(u)
     } else {
