@@ -5,6 +5,7 @@ pub mod Left
 pub mod Outcomes
 pub mod Readings
 pub mod Standings
+pub mod Stepping
 pub mod Stored
 pub mod Tracks
 pub mod Untouched

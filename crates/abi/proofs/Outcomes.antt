@@ -14,6 +14,7 @@ use Rattle.abi.proofs.vsmd_outcome_len.Reads as outcome-len
 use Rattle.abi.proofs.vsmd_record_len.Reads as record-len
 use Rattle.abi.proofs.vsmd_run.Reads as run
 use Rattle.abi.proofs.vsmd_run_as.Reads as run-as
+use Rattle.abi.proofs.vsmd_step_as.Reads as step-as
 
 vsmd-layout-version-once : OneResult layout-version.Post
 vsmd-layout-version-once κ a x y e f p q = p ∙ sym q
@@ -39,6 +40,14 @@ vsmd-run-as-once :
     (lentOf (now (e .0)) (now (e .1 .0)) (now (e .1 .1 .0)) (now (e .1 .1 .1 .0)) (now (e .1 .1 .1 .1 .0))
     (now (e .1 .1 .1 .1 .1 .0)) (now (e .1 .1 .1 .1 .1 .1 .0))))
 vsmd-run-as-once κ a x y e f p q = p ∙ sym q
+
+vsmd-step-as-once :
+    OneOutcome step-as.Post
+    (λ κ x e.
+    calledOf x
+    (lentOf (now (e .0)) (now (e .1 .0)) (now (e .1 .1 .0)) (now (e .1 .1 .1 .0)) (now (e .1 .1 .1 .1 .0))
+    (now (e .1 .1 .1 .1 .1 .0)) (now (e .1 .1 .1 .1 .1 .1 .0))))
+vsmd-step-as-once κ a x y e f p q = p ∙ sym q
 
 vsmd-inspect-once :
     OneOutcome inspect.Post

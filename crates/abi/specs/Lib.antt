@@ -3,3 +3,4 @@ pub mod Layouts
 pub mod Machines
 pub mod Places
 pub mod Readings
+pub mod Stepping

@@ -135,10 +135,11 @@ fn put_volume(bytes: &mut [u8], at: usize, v: Volume)
     put_two(bytes, at, v.start_head(), v.heads());
 }
 
-fn flag(initialized: bool) -> u8
-    ensures { λ r. ⌜ r ≡ cond initialized 0x01 0x00 ⌝ }
+// A yes or no as a byte.
+pub(crate) fn flag(yes: bool) -> u8
+    ensures { λ r. ⌜ r ≡ cond yes 0x01 0x00 ⌝ }
 {
-    if initialized { 0x01 } else { 0x00 }
+    if yes { 0x01 } else { 0x00 }
 }
 
 // The byte of an order.

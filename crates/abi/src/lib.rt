@@ -9,13 +9,17 @@ ghost use Prim.Native.Nat.{_≤_};
 ghost use lib.ListN.{length};
 ghost use Rattle.abi.specs.Calls.{called, calledAs, calledOf, controllerOf, imageNumber, inspectedOf, inspection, lentOf, made};
 ghost use Rattle.abi.specs.Layouts.{outcomeLength, recordLength};
+ghost use Rattle.abi.specs.Stepping.{steppedAs};
 
 mod layouts;
 mod places;
+mod step;
 
 pub const RECORD_LEN: usize = 276;
 
 pub const OUTCOME_LEN: usize = 16;
+
+pub const STEPPED_LEN: usize = 16;
 
 // What a call answers that was refused: apart from the paper's numbers, also where a caller keeps only the low byte.
 pub const RECORD0_SHORT: u32 = 0x1F1;
@@ -25,6 +29,10 @@ pub const RECORD1_SHORT: u32 = 0x1F2;
 pub const OUTCOME_SHORT: u32 = 0x1F3;
 
 pub const CONTROLLER_UNKNOWN: u32 = 0x1F4;
+
+pub const STEPPED_SHORT: u32 = 0x1F5;
+
+pub const ENTRY_SHORT: u32 = 0x1F6;
 
 pub const NOT_INITIALIZED: u32 = 0x1F7;
 
@@ -192,6 +200,57 @@ pub extern "C" fn vsmd_run(
         first,
         allowance,
         0,
+    )
+}
+
+// Runs the one block at an address, whose event entry is the one with an index, as the controller with a number, and follows no link: `stepped` says whether
+// and where to go on. Answers 0; 3 where the block cannot be fetched; or one of five codes. Nothing is done unless it answers 0.
+#[no_mangle]
+pub extern "C" fn vsmd_step_as(
+    host: &mut [u8],
+    image0: &mut [u8],
+    image1: &mut [u8],
+    events: &mut [u8],
+    record0: &mut [u8],
+    record1: &mut [u8],
+    stepped: &mut [u8],
+    at: u32,
+    index: u32,
+    controller: u32,
+) -> u32
+    ensures { λ r. ⌜ (
+        let before = lentOf (now (host .entry)) (now (image0 .entry)) (now (image1 .entry)) (now (events .entry)) (now (record0 .entry))
+        (now (record1 .entry)) (now (stepped .entry)) in
+        let after = lentOf (now (host .exit)) (now (image0 .exit)) (now (image1 .exit)) (now (events .exit)) (now (record0 .exit))
+        (now (record1 .exit)) (now (stepped .exit)) in
+        calledOf r after ≡ steppedAs controller at index before) ⌝ }
+{
+    if record0.len() < RECORD_LEN {
+        return RECORD0_SHORT;
+    }
+    if record1.len() < RECORD_LEN {
+        return RECORD1_SHORT;
+    }
+    if stepped.len() < STEPPED_LEN {
+        return STEPPED_SHORT;
+    }
+    if 1 < controller {
+        return CONTROLLER_UNKNOWN;
+    }
+    if (events.len() as u64) < 8 * (index as u64) + 8 {
+        return ENTRY_SHORT;
+    }
+    step::step(
+        host,
+        image0,
+        image1,
+        events,
+        record0,
+        record1,
+        stepped,
+        controller_of(controller),
+        at,
+        index,
     )
 }
 
