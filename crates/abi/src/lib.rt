@@ -234,7 +234,7 @@ pub extern "C" fn vsmd_step_as(
     if stepped.len() < STEPPED_LEN {
         return STEPPED_SHORT;
     }
-    if 1 < controller {
+    if controller > 1 {
         return CONTROLLER_UNKNOWN;
     }
     if (events.len() as u64) < 8 * (index as u64) + 8 {
