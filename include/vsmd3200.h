@@ -1,9 +1,10 @@
 /* The command parser of a board that takes the place of an Interphase V/SMD 3200.
  *
  * vsmd_run runs a chain of parameter blocks ("blocks") that a host has laid out in its memory, vsmd_run_as does so for one of two
- * controllers that share their drives, and vsmd_inspect says which part of an image the sector at a place is. Three more tell by a
- * unit's record alone how long its image has to be and where a sector stands in it. All that crosses is bytes and numbers. The library
- * is proved in Rattle; it allocates nothing, keeps nothing between calls, takes no lock, and calls nothing but memcpy and memset. Link
+ * controllers that share their drives, and vsmd_step_as runs one block of a chain by itself, for a board that makes the chain in a loop
+ * of its own. vsmd_inspect says which part of an image the sector at a place is. Three more tell by a unit's record alone how long its
+ * image has to be and where a sector stands in it. All that crosses is bytes and numbers. The library is proved in Rattle; it
+ * allocates nothing, keeps nothing between calls, takes no lock, and calls nothing but memcpy and memset. Link
  * libvsmd.a; docs/TARGETS.md says for which processors there is one.
  *
  * What the library takes care of, and what you have to
@@ -32,7 +33,7 @@ extern "C" {
 #endif
 
 /* The version of this header, of the wrapper and of the archive that goes with them; CHANGELOG.md says what each one means for a caller. The
- * layouts of record and outcome have a number of their own, VSMD_LAYOUT_VERSION, which the library tells too. */
+ * layouts of record, outcome and what a step leaves have a number of their own, VSMD_LAYOUT_VERSION, which the library tells too. */
 #define VSMD_VERSION_MAJOR 0u
 #define VSMD_VERSION_MINOR 4u
 #define VSMD_VERSION_PATCH 0u
@@ -301,10 +302,31 @@ extern "C" {
 #define VSMD_OUTCOME_AT_BLOCKS 8u
 #define VSMD_OUTCOME_AT_SECTORS 12u
 
+/* ---- what a step leaves ----------------------------------------------------------------------------------------------------------
+ *
+ * 16 bytes, numbers big-endian:
+ *
+ *    0      version of the layout, 02
+ *    1      00
+ *    2, 3   length, 0010 hex
+ *    4      why the block failed, VSMD_COMMAND_UNKNOWN and up; 00 where it ended with status 80
+ *    5      01 where the block's link is to be followed: LK is set and the block ended with status 80; otherwise 00
+ *    6, 7   00
+ *    8..11  sectors moved
+ *   12..15  the link, as it stood in the block when it was fetched, whether it is to be followed or not */
+#define VSMD_STEPPED_LEN 16u
+
+#define VSMD_STEPPED_AT_VERSION 0u
+#define VSMD_STEPPED_AT_LENGTH 2u
+#define VSMD_STEPPED_AT_ANSWER 4u
+#define VSMD_STEPPED_AT_FOLLOW 5u
+#define VSMD_STEPPED_AT_SECTORS 8u
+#define VSMD_STEPPED_AT_LINK 12u
+
 /* ---- the event buffer ------------------------------------------------------------------------------------------------------------
  *
- * At least 512 bytes, room for 64 entries. The k-th block run, k from 1, leaves its entry in the 8 bytes from 8(k - 1) on; other
- * bytes of the buffer stay as they are.
+ * At least 512 bytes, room for 64 entries; a step asks for no more than the room of its own entry. The k-th block run, k from 1, leaves its
+ * entry in the 8 bytes from 8(k - 1) on; other bytes of the buffer stay as they are.
  *
  *    0      final status, 80 or 82 hex
  *    1      error byte, 00 at status 80
@@ -347,12 +369,14 @@ extern "C" {
 #define VSMD_TABLE_FULL 23u          /* the table has 32 pairs */
 #define VSMD_DRIVE_HELD 24u          /* the other controller holds the drive; tested after 10 and before all others */
 
-/* What a call returns that was refused: a buffer is too short for its layout, or there is no such controller, and nothing at all was
- * changed. No answer above has the low byte of one of these. */
+/* What a call returns that was refused: a buffer is too short for its layout or for the entry of a step, or there is no such controller,
+ * and nothing at all was changed. No answer above has the low byte of one of these. */
 #define VSMD_RECORD0_SHORT 0x1F1u
 #define VSMD_RECORD1_SHORT 0x1F2u
 #define VSMD_OUTCOME_SHORT 0x1F3u
 #define VSMD_CONTROLLER_UNKNOWN 0x1F4u
+#define VSMD_STEPPED_SHORT 0x1F5u
+#define VSMD_ENTRY_SHORT 0x1F6u
 
 /* What the calls return that tell of a unit by its record, where there is nothing to tell. */
 #define VSMD_RECORD_NOT_INITIALIZED 0x1F7u /* the unit is not initialized */
@@ -407,6 +431,46 @@ uint32_t vsmd_run_as(uint8_t *host, uint64_t host_len, uint8_t *image0, uint64_t
                      uint64_t record1_len, uint8_t *outcome, uint64_t outcome_len, uint32_t first, uint32_t allowance,
                      uint32_t controller);
 
+/* Runs one block by itself, for a controller of two: what a run makes of the block, but its link is not followed. So a board can make the chain in
+ * a loop of its own, which bounds the time of each call, and look at something else between two blocks. The stack of a step does not grow
+ * with the chain, and that of a run does with each further block.
+ *
+ *   host             as in vsmd_run. Out: what the one block stores there.
+ *   image0, image1   as in vsmd_run.
+ *   events           the event buffer, of at least 8 x index + 8 bytes. Out: the block's entry, in the 8 bytes from 8 x index on.
+ *   record0, record1 as in vsmd_run, stored anew where this block changed them.
+ *   stepped          In: anything. Out: what a step leaves in its first 16 bytes; those after them are not touched.
+ *   at               the address of the block.
+ *   index            which entry is the block's: how many blocks of the chain were run before it.
+ *   controller       VSMD_CONTROLLER_FIRST or VSMD_CONTROLLER_SECOND.
+ *
+ * Returns 0 where the block was run, also where it failed: vsmd_stepped_answer tells. Or VSMD_RECORD0_SHORT, VSMD_RECORD1_SHORT,
+ * VSMD_STEPPED_SHORT, VSMD_CONTROLLER_UNKNOWN, VSMD_ENTRY_SHORT where the event buffer has no room for the entry, VSMD_FIRST_BAD where the block
+ * is at an odd address or not wholly in host memory (tested in this order): then no byte of any buffer was changed, stepped included.
+ *
+ * A chain is made of steps with index 0, 1 and so on, from the first block on and then from link to link, as long as byte 5 of stepped
+ * is 01. Nothing is kept between two steps but what the buffers hold, so each of them is lent again as the step before left it.
+ *
+ *     uint32_t at = first, index = 0, code;
+ *     do {
+ *         code = vsmd_step_as(host, .., stepped, sizeof stepped, at, index, controller);
+ *         if (code != 0)
+ *             break;
+ *         at = vsmd_stepped_link(stepped);
+ *         index++;
+ *     } while (vsmd_stepped_follow(stepped) && index < allowance);
+ *
+ * A step has no allowance, and a chain may link in a circle: the loop has to have one of its own and stop when it is spent. What bounds it is
+ * yours, and may be over 64 where the event buffer has the room. What vsmd_run_as with the same allowance says of such a chain, the loop finds
+ * itself: VSMD_BLOCK_FAILED where stepped has an answer, VSMD_LINK_BAD where a step after the first returns VSMD_FIRST_BAD,
+ * VSMD_ALLOWANCE_SPENT where the loop stopped and the last block's link was to be followed, and else VSMD_DONE.
+ *
+ * A record is stored after each step, and after a run once. So a chain that maps tracks and then initializes leaves other bytes in a
+ * record after the last pair that counts than a run does; nobody reads them. */
+uint32_t vsmd_step_as(uint8_t *host, uint64_t host_len, uint8_t *image0, uint64_t image0_len, uint8_t *image1, uint64_t image1_len,
+                      uint8_t *events, uint64_t events_len, uint8_t *record0, uint64_t record0_len, uint8_t *record1,
+                      uint64_t record1_len, uint8_t *stepped, uint64_t stepped_len, uint32_t at, uint32_t index, uint32_t controller);
+
 /* Says where the sector at a place of a unit stands. It reads no image: the lengths of the images are all it asks of them. It is not
  * asked for a controller, and whoever holds the drive does not matter.
  *
@@ -456,7 +520,7 @@ uint32_t vsmd_sector_of(const uint8_t *record, uint64_t record_len, uint32_t vol
 uint32_t vsmd_sector_at(const uint8_t *record, uint64_t record_len, uint16_t cylinder, uint16_t head, uint16_t sector,
                         uint64_t *place, uint64_t *first, uint64_t *mark);
 
-/* ---- the fields of a record, an outcome and an event entry -----------------------------------------------------------------------*/
+/* ---- the fields of a record, an outcome, what a step leaves and an event entry ---------------------------------------------------*/
 
 static inline uint16_t vsmd_get16(const uint8_t *bytes)
 {
@@ -643,6 +707,29 @@ static inline uint32_t vsmd_outcome_sectors(const uint8_t *outcome)
     return vsmd_get32(outcome + VSMD_OUTCOME_AT_SECTORS);
 }
 
+/* Why the block of a step failed; 0 where it ended with status 80. */
+static inline uint8_t vsmd_stepped_answer(const uint8_t *stepped)
+{
+    return stepped[VSMD_STEPPED_AT_ANSWER];
+}
+
+/* Whether the block's link is to be followed. */
+static inline int vsmd_stepped_follow(const uint8_t *stepped)
+{
+    return stepped[VSMD_STEPPED_AT_FOLLOW] == 1;
+}
+
+static inline uint32_t vsmd_stepped_sectors(const uint8_t *stepped)
+{
+    return vsmd_get32(stepped + VSMD_STEPPED_AT_SECTORS);
+}
+
+/* The address of the next block, where vsmd_stepped_follow says that there is one. */
+static inline uint32_t vsmd_stepped_link(const uint8_t *stepped)
+{
+    return vsmd_get32(stepped + VSMD_STEPPED_AT_LINK);
+}
+
 /* The entry of a block in the event buffer, by how many blocks were run before it: from 0 to vsmd_outcome_blocks - 1. */
 static inline const uint8_t *vsmd_event_entry(const uint8_t *events, size_t before)
 {
@@ -680,8 +767,9 @@ static inline int32_t vsmd_event_travel(const uint8_t *entry)
 /* ---- texts -----------------------------------------------------------------------------------------------------------------------*/
 
 /* An answer in words, for a log or a console: of a run, of a block that failed, or of a call that was refused. The numbers of the three are
- * apart, so that one call serves for what vsmd_run returned and for vsmd_outcome_failed. The text is never NULL; a number that is no answer has
- * one as well. It is for people: a program goes by the number. */
+ * apart, so that one call serves for what vsmd_run returned and for vsmd_outcome_failed, and for what a step returned and vsmd_stepped_answer
+ * where they are not 0. The text is never NULL; a number that is no answer has one as well. It is for people: a program goes by the
+ * number. */
 static inline const char *vsmd_answer_text(uint32_t code)
 {
     switch (code) {
@@ -735,6 +823,10 @@ static inline const char *vsmd_answer_text(uint32_t code)
         return "the outcome is shorter than its layout";
     case VSMD_CONTROLLER_UNKNOWN:
         return "there is no controller with that number";
+    case VSMD_STEPPED_SHORT:
+        return "the room for what a step leaves is shorter than its layout";
+    case VSMD_ENTRY_SHORT:
+        return "the event buffer has no room for the entry";
     default:
         return "no answer of this library";
     }

@@ -1,6 +1,7 @@
 //! The answers of a run and of a failed block, and the codes of a refused call, by their numbers
 //! and in words. The words are those of `vsmd_answer_text` in `include/vsmd3200.h`.
 
+use core::error::Error;
 use core::fmt;
 
 /// How a run ended.
@@ -58,11 +59,12 @@ pub enum BlockAnswer {
     DriveHeld = 24,
 }
 
-/// Why a call was refused: what the library returns in the place of a run's answer. No run was
-/// made, and nothing was changed.
+/// Why a call was refused: what the library returns in the place of a run's answer. No block was
+/// run, and nothing was changed.
 ///
 /// This crate lends buffers that are long enough and names controllers that there are, so that none
-/// of its calls is refused. The codes are for whoever hears of a call that was made through C.
+/// of its calls is refused by these but [`step_as`](crate::step_as), whose [`StepRefused`] has the
+/// last. The codes are for whoever hears of a call that was made through C.
 #[derive(Clone, Copy, Debug, PartialEq, Eq, Hash)]
 #[repr(u16)]
 pub enum RefusedCall {
@@ -74,6 +76,21 @@ pub enum RefusedCall {
     OutcomeShort = 0x1F3,
     /// There is no controller with that number.
     ControllerUnknown = 0x1F4,
+    /// The room for what a step leaves is shorter than its layout.
+    SteppedShort = 0x1F5,
+    /// The event buffer has no room for the entry of a step.
+    EntryShort = 0x1F6,
+}
+
+/// Why a step was refused. The block was not run, and nothing was changed.
+#[derive(Clone, Copy, Debug, PartialEq, Eq, Hash)]
+#[repr(u16)]
+pub enum StepRefused {
+    /// The block's address is odd, or the block is not wholly in host memory. The number is that of
+    /// [`RunAnswer::FirstBad`], since a step has one block.
+    BlockBad = 3,
+    /// The event buffer has no room for the entry.
+    EntryShort = 0x1F6,
 }
 
 /// What is said of a number that is no answer.
@@ -212,11 +229,13 @@ impl BlockAnswer {
 
 impl RefusedCall {
     /// All of them, by number.
-    pub const ALL: [RefusedCall; 4] = [
+    pub const ALL: [RefusedCall; 6] = [
         RefusedCall::Record0Short,
         RefusedCall::Record1Short,
         RefusedCall::OutcomeShort,
         RefusedCall::ControllerUnknown,
+        RefusedCall::SteppedShort,
+        RefusedCall::EntryShort,
     ];
 
     /// The refusal in words, for a log or a console.
@@ -226,12 +245,40 @@ impl RefusedCall {
             RefusedCall::Record1Short => "record 1 is shorter than its layout",
             RefusedCall::OutcomeShort => "the outcome is shorter than its layout",
             RefusedCall::ControllerUnknown => "there is no controller with that number",
+            RefusedCall::SteppedShort => {
+                "the room for what a step leaves is shorter than its layout"
+            }
+            RefusedCall::EntryShort => "the event buffer has no room for the entry",
         }
     }
 
-    /// The refusal with a number, 1F1 to 1F4 (hex).
+    /// The refusal with a number, 1F1 to 1F6 (hex).
     pub fn from_number(number: u32) -> Option<RefusedCall> {
         let mut all = RefusedCall::ALL.into_iter();
+        all.find(|refused| refused.number() == number)
+    }
+
+    /// The refusal's number.
+    pub const fn number(self) -> u32 {
+        self as u32
+    }
+}
+
+impl StepRefused {
+    /// Both of them, by number.
+    pub const ALL: [StepRefused; 2] = [StepRefused::BlockBad, StepRefused::EntryShort];
+
+    /// The refusal in words, for a log or a console.
+    pub const fn text(self) -> &'static str {
+        match self {
+            StepRefused::BlockBad => "the block is at an odd address or not wholly in host memory",
+            StepRefused::EntryShort => RefusedCall::EntryShort.text(),
+        }
+    }
+
+    /// The refusal with a number, 3 or 1F6 (hex).
+    pub fn from_number(number: u32) -> Option<StepRefused> {
+        let mut all = StepRefused::ALL.into_iter();
         all.find(|refused| refused.number() == number)
     }
 
@@ -258,3 +305,11 @@ impl fmt::Display for RefusedCall {
         f.pad(self.text())
     }
 }
+
+impl fmt::Display for StepRefused {
+    fn fmt(&self, f: &mut fmt::Formatter) -> fmt::Result {
+        f.pad(self.text())
+    }
+}
+
+impl Error for StepRefused {}

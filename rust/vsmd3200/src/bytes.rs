@@ -294,6 +294,25 @@ pub mod outcome {
     pub const AT_SECTORS: usize = 12;
 }
 
+/// What a step leaves, which [`Stepped`](crate::Stepped) is read from.
+pub mod stepped {
+    /// The bytes that a step leaves.
+    pub const LEN: usize = 16;
+
+    /// The version of the layouts, 02.
+    pub const AT_VERSION: usize = 0;
+    /// The length, two bytes.
+    pub const AT_LENGTH: usize = 2;
+    /// Why the block failed; 00 where it ended with status 80.
+    pub const AT_ANSWER: usize = 4;
+    /// 01 where the block's link is to be followed.
+    pub const AT_FOLLOW: usize = 5;
+    /// The sectors moved, four bytes.
+    pub const AT_SECTORS: usize = 8;
+    /// The link as it stood in the block when it was fetched, four bytes.
+    pub const AT_LINK: usize = 12;
+}
+
 /// An entry of the event buffer.
 pub mod event {
     /// The bytes of an entry.

@@ -1,7 +1,9 @@
 //! The foreign calls, and the safe functions around them.
 
-use crate::answers::answer_text;
-use crate::layouts::{Controller, Outcome, Record, LAYOUT_VERSION, OUTCOME_LEN, RECORD_LEN};
+use crate::answers::{answer_text, StepRefused};
+use crate::layouts::{
+    Controller, Outcome, Record, Stepped, LAYOUT_VERSION, OUTCOME_LEN, RECORD_LEN, STEPPED_LEN,
+};
 
 /// The functions of the archive, as `include/vsmd3200.h` declares them. Each lent slice crosses
 /// as a pointer and a length. Lengths have 64 bits there, whatever those of this machine have.
@@ -45,6 +47,25 @@ pub(crate) mod foreign {
             outcome_len: u64,
             first: u32,
             allowance: u32,
+            controller: u32,
+        ) -> u32;
+        pub fn vsmd_step_as(
+            host: *mut u8,
+            host_len: u64,
+            image0: *mut u8,
+            image0_len: u64,
+            image1: *mut u8,
+            image1_len: u64,
+            events: *mut u8,
+            events_len: u64,
+            record0: *mut u8,
+            record0_len: u64,
+            record1: *mut u8,
+            record1_len: u64,
+            stepped: *mut u8,
+            stepped_len: u64,
+            at: u32,
+            index: u32,
             controller: u32,
         ) -> u32;
         pub fn vsmd_inspect(
@@ -105,9 +126,7 @@ pub fn layouts_match() -> bool {
             foreign::vsmd_outcome_len(),
         )
     };
-    version == LAYOUT_VERSION
-        && record == RECORD_LEN as u64
-        && outcome == OUTCOME_LEN as u64
+    version == LAYOUT_VERSION && record == RECORD_LEN as u64 && outcome == OUTCOME_LEN as u64
 }
 
 /// The layouts of the archive have to be those that this crate lays its bytes out by.
@@ -235,6 +254,102 @@ fn told(outcome: &[u8; OUTCOME_LEN], answer: u32) -> Outcome {
         _ => panic!(
             "the linked library left no outcome of this crate's layout, and answered {answer:#X}: {}",
             answer_text(answer)
+        ),
+    }
+}
+
+/// Runs the one block at the address `at` of host memory, for one of two controllers, and follows no
+/// link: for a board that makes the chain in a loop of its own. Each call then takes as long as one
+/// block, the board can look at something else between two, and the stack does not grow with the chain.
+///
+/// What is lent is what [`run_as`] is lent, and each block does what it does in a run. Its entry is the
+/// one with the number `index`, in the 8 bytes of `events` from 8 × `index` on; the buffer need not be
+/// longer than that. [`Stepped`] says how the block ended, and whether and where the chain goes on. A
+/// block that fails is no error of the call.
+///
+/// A step has no allowance, and a chain may link in a circle: the loop stops by an allowance of its own.
+///
+/// ```
+/// use vsmd3200::bytes::{block, command, option};
+/// use vsmd3200::{step_as, Controller, Record};
+///
+/// let mut host = [0u8; 64]; // a handshake at 0, linked to another at 32
+/// host[block::AT_COMMAND] = command::HANDSHAKE;
+/// host[block::AT_OPTIONS] = option::LK;
+/// host[block::AT_LINK..block::AT_LINK + 4].copy_from_slice(&32u32.to_be_bytes());
+/// host[32 + block::AT_COMMAND] = command::HANDSHAKE;
+/// let mut events = [0u8; 64]; // room for eight entries
+/// let mut records = [Record::UNINITIALIZED; 2];
+/// let (mut at, mut blocks, allowance) = (0, 0, 8);
+/// while blocks < allowance {
+///     let stepped = step_as(
+///         &mut host, &mut [], &mut [], &mut events, &mut records, at, blocks, Controller::First,
+///     )?;
+///     blocks += 1;
+///     if !stepped.follow {
+///         break;
+///     }
+///     at = stepped.link;
+/// }
+/// assert_eq!((blocks, at), (2, 32));
+/// assert_eq!((events[0], events[8], events[16]), (0x80, 0x80, 0x00));
+/// # Ok::<(), vsmd3200::StepRefused>(())
+/// ```
+///
+/// # Errors
+///
+/// Where the event buffer has no room for the entry, and where the block is at an odd address or not
+/// wholly in host memory, asked in this order. Nothing is changed then.
+///
+/// # Panics
+///
+/// Where the linked library has other layouts than this crate.
+#[allow(clippy::too_many_arguments)] // those of `run_as`, with block and entry for first and allowance
+pub fn step_as(
+    host: &mut [u8],
+    image0: &mut [u8],
+    image1: &mut [u8],
+    events: &mut [u8],
+    records: &mut [Record; 2],
+    at: u32,
+    index: u32,
+    controller: Controller,
+) -> Result<Stepped, StepRefused> {
+    assert_layouts();
+    let [record0, record1] = records;
+    let record0 = record0.as_mut_bytes();
+    let record1 = record1.as_mut_bytes();
+    let mut stepped = [0; STEPPED_LEN];
+    // SAFETY: as in `run_as`, with `stepped` in the place of the outcome.
+    let code = unsafe {
+        foreign::vsmd_step_as(
+            host.as_mut_ptr(),
+            host.len() as u64,
+            image0.as_mut_ptr(),
+            image0.len() as u64,
+            image1.as_mut_ptr(),
+            image1.len() as u64,
+            events.as_mut_ptr(),
+            events.len() as u64,
+            record0.as_mut_ptr(),
+            record0.len() as u64,
+            record1.as_mut_ptr(),
+            record1.len() as u64,
+            stepped.as_mut_ptr(),
+            stepped.len() as u64,
+            at,
+            index,
+            controller.number(),
+        )
+    };
+    if let Some(refused) = StepRefused::from_number(code) {
+        return Err(refused);
+    }
+    match Stepped::from_bytes(&stepped) {
+        Some(stepped) if code == 0 => Ok(stepped),
+        _ => panic!(
+            "the linked library left no step of this crate's layout, and answered {code:#X}: {}",
+            answer_text(code)
         ),
     }
 }

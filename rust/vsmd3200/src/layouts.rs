@@ -1,7 +1,8 @@
-//! The layouts in which records and outcomes cross, version 2: bytes, numbers big-endian.
+//! The layouts in which records, outcomes and what a step leaves cross, version 2: bytes, numbers
+//! big-endian.
 
 use crate::answers::{BlockAnswer, RunAnswer};
-use crate::bytes::{holder, order, outcome, pair, record, track};
+use crate::bytes::{holder, order, outcome, pair, record, stepped, track};
 
 /// The version of the layouts that this crate was written for.
 pub const LAYOUT_VERSION: u32 = 2;
@@ -15,6 +16,9 @@ pub const RECORD_LEN_V1: usize = record::LEN_V1;
 /// The bytes of an outcome.
 pub const OUTCOME_LEN: usize = outcome::LEN;
 
+/// The bytes that a step leaves.
+pub const STEPPED_LEN: usize = stepped::LEN;
+
 /// The most pairs that the table of a record has.
 pub const PAIRS_MOST: usize = 32;
 
@@ -27,6 +31,9 @@ const OPENING_V1: [u8; 4] = [0x01, 0x01, 0x00, 0x10];
 
 /// The four bytes with which an outcome opens: version, 00, and the length in two bytes.
 const OUTCOME_OPENING: [u8; 4] = [LAYOUT_VERSION as u8, 0x00, 0x00, OUTCOME_LEN as u8];
+
+/// The same of what a step leaves.
+const STEPPED_OPENING: [u8; 4] = [LAYOUT_VERSION as u8, 0x00, 0x00, STEPPED_LEN as u8];
 
 /// One of the two controllers that can share the drives. Unit n of both is drive n.
 #[derive(Clone, Copy, Debug, PartialEq, Eq, Hash)]
@@ -351,6 +358,45 @@ impl Outcome {
             failed,
             blocks: u32::from_be_bytes([b0, b1, b2, b3]),
             sectors: u32::from_be_bytes([s0, s1, s2, s3]),
+        })
+    }
+}
+
+/// What a step came to: how its block ended, and where the chain goes on.
+#[derive(Clone, Copy, Debug, PartialEq, Eq, Hash)]
+pub struct Stepped {
+    /// Why the block failed; None where it ended with status 80.
+    pub answer: Option<BlockAnswer>,
+    /// Whether the block's link is to be followed: LK is set, and the block ended with status 80.
+    pub follow: bool,
+    /// How many sectors were moved.
+    pub sectors: u32,
+    /// The link as it stood in the block when it was fetched, whether it is to be followed or not.
+    pub link: u32,
+}
+
+impl Stepped {
+    /// What stands in the bytes that a step left. None where they are not of this version: then the
+    /// library is another than this crate was written for.
+    pub fn from_bytes(bytes: &[u8; STEPPED_LEN]) -> Option<Stepped> {
+        let [o0, o1, o2, o3, answer, follow, z0, z1, s0, s1, s2, s3, l0, l1, l2, l3] = *bytes;
+        if [o0, o1, o2, o3] != STEPPED_OPENING || [z0, z1] != [0, 0] {
+            return None;
+        }
+        let answer = match answer {
+            0 => None,
+            number => Some(BlockAnswer::from_number(number)?),
+        };
+        let follow = match follow {
+            0 => false,
+            1 => true,
+            _ => return None,
+        };
+        Some(Stepped {
+            answer,
+            follow,
+            sectors: u32::from_be_bytes([s0, s1, s2, s3]),
+            link: u32::from_be_bytes([l0, l1, l2, l3]),
         })
     }
 }

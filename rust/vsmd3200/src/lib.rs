@@ -6,7 +6,8 @@
 //! records and outcomes in the bytes of their layouts, and gives the numbers names.
 //!
 //! [`run`] runs a chain of blocks on host memory, two images and two unit records, and [`run_as`]
-//! does so for either of two controllers. [`inspect`] lends one sector of an image. A [`Record`] tells
+//! does so for either of two controllers. [`step_as`] runs one block by itself, for a board that
+//! makes the chain in a loop of its own. [`inspect`] lends one sector of an image. A [`Record`] tells
 //! how long the image of its unit has to be, and where a sector stands in it. What is where in a
 //! block, a list, a UIB and the other layouts has its names in [`bytes`].
 //!
@@ -110,12 +111,12 @@ mod event;
 mod layouts;
 mod places;
 
-pub use answers::{answer_text, BlockAnswer, RefusedCall, RunAnswer};
-pub use calls::{inspect, layouts_match, part_of, run, run_as, Part};
+pub use answers::{answer_text, BlockAnswer, RefusedCall, RunAnswer, StepRefused};
+pub use calls::{inspect, layouts_match, part_of, run, run_as, step_as, Part};
 pub use event::Event;
 pub use layouts::{
-    Controller, Geometry, Order, Outcome, Pair, Record, Track, Volume, LAYOUT_VERSION, OUTCOME_LEN,
-    PAIRS_MOST, RECORD_LEN, RECORD_LEN_V1,
+    Controller, Geometry, Order, Outcome, Pair, Record, Stepped, Track, Volume, LAYOUT_VERSION,
+    OUTCOME_LEN, PAIRS_MOST, RECORD_LEN, RECORD_LEN_V1, STEPPED_LEN,
 };
 pub use places::{Standing, Untold};
 
@@ -123,7 +124,8 @@ pub use places::{Standing, Untold};
 /// means for a caller. The layouts have a number of their own, [`LAYOUT_VERSION`].
 pub const VERSION: &str = env!("CARGO_PKG_VERSION");
 
-/// The fewest bytes of an event buffer that a run takes: 64 entries of [`EVENT_LEN`].
+/// The fewest bytes of an event buffer that a run takes: 64 entries of [`EVENT_LEN`]. A step takes any
+/// that has room for its entry.
 pub const EVENTS_LEN_LEAST: usize = 512;
 
 /// The bytes of one entry of the event buffer: status, error, level, vector, and the travel of

@@ -9,7 +9,8 @@ use std::process::Command;
 use std::sync::LazyLock;
 use std::{env, fs};
 use vsmd3200::{
-    answer_text, bytes, BlockAnswer, Controller, Event, RefusedCall, RunAnswer, VERSION,
+    answer_text, bytes, BlockAnswer, Controller, Event, RefusedCall, RunAnswer, StepRefused,
+    Stepped, VERSION,
 };
 
 /// A file of the project.
@@ -131,6 +132,7 @@ fn of_wrapper() -> BTreeMap<String, u64> {
         "PAIR": pair { LEN AT_BAD AT_SPARE }
         "TRACK": track { AT_CYLINDER AT_HEAD AT_LAST }
         "OUTCOME": outcome { LEN AT_VERSION AT_LENGTH AT_ANSWER AT_FAILED AT_BLOCKS AT_SECTORS }
+        "STEPPED": stepped { LEN AT_VERSION AT_LENGTH AT_ANSWER AT_FOLLOW AT_SECTORS AT_LINK }
         "EVENT": event { LEN AT_STATUS AT_ERROR AT_LEVEL AT_VECTOR AT_TRAVEL }
     };
     let others = [
@@ -221,6 +223,14 @@ fn an_answer_is_displayed_by_its_text() {
         let text = texts.get(&code).map_or(none, String::as_str);
         assert_eq!(answer_text(code), text);
     }
+    // a step is refused by a number that is there already
+    for refused in StepRefused::ALL {
+        assert!(texts.contains_key(&refused.number()));
+        assert_eq!(StepRefused::from_number(refused.number()), Some(refused));
+        assert_eq!(refused.to_string(), refused.text());
+    }
+    let entry = StepRefused::EntryShort;
+    assert_eq!(answer_text(entry.number()), entry.text());
     // no two answers in the same words
     let mut words: Vec<&String> = texts.values().collect();
     words.sort();
@@ -287,6 +297,56 @@ int main(void)
         .map(|e| Event::from_bytes(e).travel)
         .collect();
     assert_eq!(read, travels);
+}
+
+#[test]
+fn what_a_step_leaves_is_read_as_the_header_reads_it() {
+    let left: [[u8; 16]; 4] = [
+        [2, 0, 0, 16, 0, 1, 0, 0, 0, 0, 0, 2, 0, 0, 0, 40],
+        [2, 0, 0, 16, 20, 0, 0, 0, 0, 1, 0, 3, 0x80, 0, 0, 1],
+        [2, 0, 0, 16, 24, 0, 0, 0, 0, 0, 0, 0, 0xFF, 0xFF, 0xFF, 0xFE],
+        [2, 0, 0, 16, 0, 0, 0, 0, 0xFF, 0xFE, 0xFD, 0xFC, 1, 2, 3, 4],
+    ];
+    let array: String = left.concat().iter().map(|b| format!("{b}, ")).collect();
+    let program = format!(
+        r#"
+static const uint8_t left[] = {{{array}}};
+int main(void)
+{{
+    size_t k;
+    for (k = 0; k < sizeof left; k += VSMD_STEPPED_LEN) {{
+        const uint8_t *stepped = left + k;
+        printf("%u %d ", vsmd_stepped_answer(stepped), vsmd_stepped_follow(stepped));
+        printf("%lu ", (unsigned long)vsmd_stepped_sectors(stepped));
+        printf("%lu\n", (unsigned long)vsmd_stepped_link(stepped));
+    }}
+    return 0;
+}}
+"#
+    );
+    let lines = left.iter().map(|bytes| {
+        let stepped = Stepped::from_bytes(bytes).unwrap();
+        let answer = stepped.answer.map_or(0, BlockAnswer::number);
+        let follow = u8::from(stepped.follow);
+        format!("{answer} {follow} {} {}", stepped.sectors, stepped.link)
+    });
+    assert_eq!(printed("stepped", &program), lines.collect::<Vec<_>>());
+    // bytes that no step of this version leaves
+    for (at, byte) in [
+        (0, 1),
+        (1, 1),
+        (2, 1),
+        (3, 12),
+        (4, 9),
+        (4, 21),
+        (4, 25),
+        (5, 2),
+        (6, 1),
+    ] {
+        let mut other = left[0];
+        other[at] = byte;
+        assert_eq!(Stepped::from_bytes(&other), None);
+    }
 }
 
 /// The program has functions of its own in the place of the library's, so that a library of other
