@@ -1,6 +1,7 @@
 /* The paper's session example through the C header: an initialize linked to a read of two sectors, laid out byte by byte. Then the
- * refusals of short buffers, the inspection, where sectors stand by a record alone, a bad track with its spare, two controllers on the
- * drive, a drive that counts by cylinder, and the upgrade of a record. One line where all is well; else what differs, and exit 1. */
+ * refusals of short buffers, the same chain made of steps, the inspection, where sectors stand by a record alone, a bad track with its
+ * spare, two controllers on the drive, a drive that counts by cylinder, and the upgrade of a record. Two lines where all is well; else
+ * what differs, and exit 1. */
 #include "vsmd3200.h"
 
 #include <inttypes.h>
@@ -200,6 +201,129 @@ static void the_example(struct lent *l)
     expect_lent(l, &wanted);
     expect_lent(&as_first, &wanted);
     expect_lent(&as_second, &wanted);
+}
+
+/* What the two steps of the example leave in the room of the outcome: after the first the link is to be followed, after the second there is none. */
+static const uint8_t stepped_after[2][16] = {
+    {0x02, 0x00, 0x00, 0x10, 0x00, 0x01, 0x00, 0x00, 0x00, 0x00, 0x00, 0x00, 0x00, 0x00, 0x00, BLOCK1},
+    {0x02, 0x00, 0x00, 0x10, 0x00, 0x00, 0x00, 0x00, 0x00, 0x00, 0x00, 0x02, 0x00, 0x00, 0x00, 0x00},
+};
+
+/* A step on the buffers of a run, with the outcome's for what it leaves. */
+static uint32_t step_with(struct lent *l, uint64_t events_len, uint64_t record0_len, uint64_t record1_len, uint64_t stepped_len, uint32_t at,
+                          uint32_t index, uint32_t controller)
+{
+    return vsmd_step_as(l->host, HOST_LEN, l->image0, IMAGE_LEN, l->image1, 0, l->events, events_len, l->record0, record0_len, l->record1,
+                        record1_len, l->outcome, stepped_len, at, index, controller);
+}
+
+static uint32_t step_as(struct lent *l, uint32_t at, uint32_t index, uint32_t controller)
+{
+    return step_with(l, EVENTS_LEN, RECORD, RECORD, 16, at, index, controller);
+}
+
+/* The chain in a loop, as the header has it, with an allowance that the example does not spend. Each step is lent no more of the event buffer than
+ * it asks for. */
+static void the_example_by_steps(const struct lent *by_run, uint32_t controller)
+{
+    struct lent l, wanted;
+    uint32_t at = BLOCK0, index = 0, sectors = 0, code;
+    lay_out(&l);
+    wanted = *by_run;
+    do {
+        code = step_with(&l, 8 * (uint64_t)index + 8, RECORD + 3, RECORD, 16 + 3, at, index, controller);
+        expect_number("what a step returns", code, 0);
+        if (code != 0 || index == 2)
+            break;
+        expect_bytes("what a step leaves", l.outcome, stepped_after[index], 16);
+        expect_number("the step's answer", vsmd_stepped_answer(l.outcome), 0);
+        sectors += vsmd_stepped_sectors(l.outcome);
+        at = vsmd_stepped_link(l.outcome);
+        index++;
+        expect_number("whether its link is to be followed", (uint64_t)vsmd_stepped_follow(l.outcome), index == 1);
+    } while (vsmd_stepped_follow(l.outcome) && index < VSMD_ALLOWANCE_MOST);
+    expect_number("the steps made", index, vsmd_outcome_blocks(by_run->outcome));
+    expect_number("the sectors moved by them", sectors, vsmd_outcome_sectors(by_run->outcome));
+    memcpy(wanted.outcome, stepped_after[1], sizeof stepped_after[1]);
+    expect_lent(&l, &wanted);
+}
+
+/* The initialize alone: what it stores is there, and of the read that it links to nothing is. */
+static void one_step(const struct lent *by_run)
+{
+    struct lent l, wanted;
+    lay_out(&l);
+    wanted = l;
+    expect_number("what a step alone returns", step_as(&l, BLOCK0, 64, VSMD_CONTROLLER_FIRST), 0);
+    wanted.host[BLOCK0 + 2] = 0x80;
+    wanted.host[BLOCK0 + 3] = 0x00;
+    memcpy(wanted.events + 8 * 64, events_after, VSMD_EVENT_LEN); /* the last entry that this buffer has room for */
+    memcpy(wanted.record0, by_run->record0, VSMD_RECORD_AT_TABLE);
+    wanted.record0[VSMD_RECORD_AT_CYLINDER + 1] = 0;
+    memcpy(wanted.outcome, stepped_after[0], sizeof stepped_after[0]);
+    expect_lent(&l, &wanted);
+}
+
+/* A block that fails is no refusal: the step returns 0 and says why. Its link is told and not to be followed, LK or not. */
+static void a_step_that_fails(void)
+{
+    struct lent l, wanted;
+    lay_out(&l);
+    l.host[BLOCK1 + 1] = 0x32;
+    vsmd_put32(l.host + BLOCK1 + VSMD_BLOCK_AT_LINK, 0x80010203u);
+    wanted = l;
+    expect_number("what the step of a block that fails returns", step_as(&l, BLOCK1, 1, VSMD_CONTROLLER_FIRST), 0);
+    expect_number("why it failed", vsmd_stepped_answer(l.outcome), VSMD_NOT_INITIALIZED);
+    expect_number("whether its link is to be followed", (uint64_t)vsmd_stepped_follow(l.outcome), 0);
+    expect_number("its link", vsmd_stepped_link(l.outcome), 0x80010203u);
+    expect_number("its sectors", vsmd_stepped_sectors(l.outcome), 0);
+    wanted.host[BLOCK1 + 2] = 0x82;
+    wanted.host[BLOCK1 + 3] = 0x40;
+    vsmd_put32(wanted.events + 8, 0x82400341u);
+    vsmd_put32(wanted.events + 12, 0);
+    memcpy(wanted.outcome, stepped_after[1], 4);
+    vsmd_put32(wanted.outcome + 4, (uint32_t)VSMD_NOT_INITIALIZED << 24);
+    vsmd_put32(wanted.outcome + 8, 0);
+    vsmd_put32(wanted.outcome + 12, 0x80010203u);
+    expect_lent(&l, &wanted);
+}
+
+/* Each refusal of a step by its own code, in the order of the header, and every byte as it was. In each call all that is asked later is wrong too. */
+static void refusals_of_steps(void)
+{
+    static const uint32_t places[] = {BLOCK0 + 1, HOST_LEN - 27, HOST_LEN - 28, HOST_LEN, 0xFFFFFFFEu, 0xFFFFFFFFu};
+    static const uint32_t controllers[] = {2, 0x100, 0x80000000u, 0xFFFFFFFFu};
+    struct lent l, before;
+    const uint32_t odd = BLOCK0 + 1;
+    size_t k;
+    lay_out(&before);
+    l = before;
+    expect_number("a step with record 0 short", step_with(&l, 15, RECORD - 1, RECORD - 1, 15, odd, 1, 2), VSMD_RECORD0_SHORT);
+    expect_number("a step with record 0 empty", step_with(&l, 16, 0, RECORD, 16, BLOCK0, 1, 0), VSMD_RECORD0_SHORT);
+    expect_number("a step with record 1 short", step_with(&l, 15, RECORD, RECORD - 1, 15, odd, 1, 2), VSMD_RECORD1_SHORT);
+    expect_number("a step with stepped short", step_with(&l, 15, RECORD, RECORD, 15, odd, 1, 2), VSMD_STEPPED_SHORT);
+    expect_number("a step with stepped empty", step_with(&l, 16, RECORD, RECORD, 0, BLOCK0, 1, 0), VSMD_STEPPED_SHORT);
+    for (k = 0; k < sizeof controllers / sizeof controllers[0]; k++)
+        expect_number("a step as no controller", step_with(&l, 15, RECORD, RECORD, 16, odd, 1, controllers[k]), VSMD_CONTROLLER_UNKNOWN);
+    expect_number("a step without room for its entry", step_with(&l, 15, RECORD, RECORD, 16, odd, 1, 1), VSMD_ENTRY_SHORT);
+    expect_number("a step without events", step_with(&l, 0, RECORD, RECORD, 16, BLOCK0, 0, 0), VSMD_ENTRY_SHORT);
+    expect_number("a step past the last entry", step_as(&l, BLOCK0, EVENTS_LEN / 8, 0), VSMD_ENTRY_SHORT);
+    /* 8 x index has over 32 bits there, and its lower 32 are those of an entry that there is */
+    expect_number("a step far past it", step_as(&l, BLOCK0, 0x20000000u, 0), VSMD_ENTRY_SHORT);
+    expect_number("a step as far as can be", step_as(&l, BLOCK0, 0xFFFFFFFFu, 0), VSMD_ENTRY_SHORT);
+    for (k = 0; k < sizeof places / sizeof places[0]; k++)
+        expect_number("a step where no block can be", step_as(&l, places[k], 0, 0), VSMD_FIRST_BAD);
+    expect_lent(&l, &before);
+}
+
+/* The example by run is what each controller's loop has to leave. */
+static void steps(const struct lent *by_run)
+{
+    the_example_by_steps(by_run, VSMD_CONTROLLER_FIRST);
+    the_example_by_steps(by_run, VSMD_CONTROLLER_SECOND);
+    one_step(by_run);
+    a_step_that_fails();
+    refusals_of_steps();
 }
 
 static void helpers(const struct lent *l)
@@ -687,6 +811,7 @@ int main(void)
     refusals();
     refusals_of_controllers();
     the_example(&l);
+    steps(&l);
     helpers(&l);
     inspections(&l);
     the_largest_drive();
@@ -703,6 +828,7 @@ int main(void)
     if (wrong)
         return 1;
     printf("two_sector_read: the session example, the refusals, the inspection, where sectors stand, a spare track, a drive of two "
-           "controllers and one by cylinder through C are as the papers have them\n");
+           "controllers and one by cylinder through C are as the papers have them\n"
+           "two_sector_read: the session example by steps leaves what the run leaves, and a step that is refused leaves every byte\n");
     return 0;
 }
