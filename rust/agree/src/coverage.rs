@@ -3,6 +3,7 @@
 use crate::case::{record_in, Case, RecordBytes, HOLDER_AT, ORDER_AT};
 use crate::sides::Left;
 use crate::standing::KINDS;
+use crate::steps;
 use crate::worlds::{TableWay, Theme, Way};
 use model::{Holder, Order, Outcome, Pair, Record, Table, Taken, Trace, Track, Visit};
 use model::{CHECKS, COMMANDS, STOPS};
@@ -240,6 +241,8 @@ pub struct Coverage {
     found_by_cylinder: u64,
     /// Records that came with bytes after the pairs that count, and were stored anew.
     tails: u64,
+    /// The chains that were made of steps too.
+    pub steps: steps::Tally,
 }
 
 impl Coverage {
@@ -266,6 +269,7 @@ impl Coverage {
             found_no_table: 0,
             found_by_cylinder: 0,
             tails: 0,
+            steps: steps::Tally::default(),
         }
     }
 
@@ -380,6 +384,7 @@ impl Coverage {
         self.found_no_table += other.found_no_table;
         self.found_by_cylinder += other.found_by_cylinder;
         self.tails += other.tails;
+        self.steps.join(&other.steps);
     }
 
     pub fn blocks(&self) -> u64 {

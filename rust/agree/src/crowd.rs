@@ -3,6 +3,7 @@
 use crate::compare::differences;
 use crate::coverage::Coverage;
 use crate::sides::{model_side, Opponent};
+use crate::steps;
 use crate::worlds::{world, Theme};
 use model::{with_fault, Fault};
 use std::panic::{catch_unwind, AssertUnwindSafe};
@@ -26,14 +27,28 @@ pub struct Crowd {
 /// Whether a fault is caught in what has an index.
 pub type Catches = fn(&Crowd, Fault, u64) -> bool;
 
-/// The first world in which the two sides differ.
-pub struct Disagreement {
-    pub index: u64,
+/// What differs in a world or a pair, and who they are that differ.
+pub struct Differs {
+    pub between: &'static str,
     pub lines: Vec<String>,
 }
 
-/// One world on both sides: what differs. The model in the library's place is without the same rule.
-pub fn one_world(crowd: &Crowd, index: u64, coverage: &mut Coverage) -> Vec<String> {
+impl Differs {
+    fn of(between: &'static str, lines: Vec<String>) -> Option<Differs> {
+        (!lines.is_empty()).then_some(Differs { between, lines })
+    }
+}
+
+/// The first world or pair in which something differs.
+pub struct Disagreement {
+    pub index: u64,
+    pub differs: Differs,
+}
+
+/// One world on both sides, and its chain by steps: what differs. The model in the library's place is
+/// without the same rule.
+pub fn one_world(crowd: &Crowd, index: u64, coverage: &mut Coverage) -> Option<Differs> {
+    let sides = "the library and the model";
     let case = world(crowd.theme, crowd.seed, index);
     let judged = catch_unwind(AssertUnwindSafe(|| {
         let model = || model_side(&case);
@@ -43,7 +58,7 @@ pub fn one_world(crowd: &Crowd, index: u64, coverage: &mut Coverage) -> Vec<Stri
         }
     }));
     let Ok((model, trace)) = judged else {
-        return vec!["the model panics".to_string()];
+        return Differs::of(sides, vec!["the model panics".to_string()]);
     };
     // records are read there once more, by the same rules
     let mut count = || coverage.add(&case, &model.outcome, &trace, &model);
@@ -55,7 +70,10 @@ pub fn one_world(crowd: &Crowd, index: u64, coverage: &mut Coverage) -> Vec<Stri
         (Opponent::Itself, Some(fault)) => with_fault(fault, || crowd.opponent.run(&case)),
         (opponent, _) => opponent.run(&case),
     };
-    differences(&case, &library, &model)
+    Differs::of(sides, differences(&case, &library, &model)).or_else(|| {
+        let lines = steps::differences(crowd.opponent, &case, &library, &mut coverage.steps);
+        Differs::of("the library's steps and its run", lines)
+    })
 }
 
 impl Crowd {
@@ -94,10 +112,9 @@ impl Crowd {
                 if index >= end.load(Ordering::Relaxed) {
                     return (coverage, None);
                 }
-                let lines = one_world(self, index, &mut coverage);
-                if !lines.is_empty() {
+                if let Some(differs) = one_world(self, index, &mut coverage) {
                     end.fetch_min(index, Ordering::Relaxed);
-                    return (coverage, Some(Disagreement { index, lines }));
+                    return (coverage, Some(Disagreement { index, differs }));
                 }
             }
         }

@@ -5,6 +5,7 @@
 //! Pairs of chains are for demand 3: the model says which may be run in either order, and the library
 //! runs them in both. Contests are for two machines that run in turn on the same drives. Places are for
 //! the rule that no two sectors stand in one: the library alone writes every sector and reads it back.
+//! The chain of each world is made of steps as well, which have to leave what the run left.
 
 mod case;
 mod compare;
@@ -22,6 +23,7 @@ mod places;
 mod sessions;
 mod sides;
 mod standing;
+mod steps;
 mod worlds;
 
 use coverage::Coverage;
@@ -230,23 +232,22 @@ fn sessions(crowd: &Crowd, count: u64, command: &[String]) -> bool {
 
 /// One world, shown whether or not the two agree.
 fn show(crowd: &Crowd, index: u64) -> bool {
-    let lines = one_world(crowd, index, &mut Coverage::new(crowd.theme));
+    let differs = one_world(crowd, index, &mut Coverage::new(crowd.theme));
     let case = worlds::world(crowd.theme, crowd.seed, index);
     print!("{}", dump::dump(&case));
-    for line in &lines {
+    for line in differs.iter().flat_map(|differs| &differs.lines) {
         println!("differs: {}", line);
     }
     println!(
         "agree: seed {} world {}: {}",
         crowd.seed,
         index,
-        if lines.is_empty() {
-            "no difference"
-        } else {
-            "different"
+        match &differs {
+            None => "no difference",
+            Some(_) => "different",
         }
     );
-    lines.is_empty()
+    differs.is_none()
 }
 
 fn worlds(crowd: &Crowd) -> bool {
@@ -254,13 +255,14 @@ fn worlds(crowd: &Crowd) -> bool {
     let (coverage, disagreement) = crowd.run();
     if let Some(found) = disagreement {
         println!("differs in seed {} world {}", crowd.seed, found.index);
-        for line in &found.lines {
+        for line in &found.differs.lines {
             println!("  {}", line);
         }
         let case = worlds::world(crowd.theme, crowd.seed, found.index);
         print!("{}", dump::dump(&case));
         println!(
-            "agree: the library and the model differ; again with --seed {} --{} {}",
+            "agree: {} differ; again with --seed {} --{} {}",
+            found.differs.between,
             crowd.seed,
             match crowd.theme {
                 Theme::Plain => "world",
@@ -278,6 +280,9 @@ fn worlds(crowd: &Crowd) -> bool {
         for line in &missing {
             println!("not covered: {}", line);
         }
+    }
+    if let Some(line) = coverage.steps.line() {
+        println!("agree: {}", line);
     }
     println!(
         "agree: {} worlds{}, {} blocks, no difference, {:.1} s{}",
@@ -306,11 +311,12 @@ fn pairs(crowd: &Crowd, count: u64) -> bool {
         Ok(tally) => tally,
         Err(found) => {
             print!("{}", pairs::dump(crowd.theme, crowd.seed, found.index));
-            for line in &found.lines {
+            for line in &found.differs.lines {
                 println!("differs: {}", line);
             }
             println!(
-                "agree: the orders differ though the condition is met; again with --seed {} --{} {}",
+                "agree: {} differ though the condition is met; again with --seed {} --{} {}",
+                found.differs.between,
                 crowd.seed,
                 match crowd.theme {
                     Theme::Plain => "pair",

@@ -5,7 +5,7 @@
 
 use crate::case::{Case, RecordBytes};
 use crate::compare::bytes;
-use crate::crowd::{Crowd, Disagreement};
+use crate::crowd::{Crowd, Differs, Disagreement};
 use crate::dump;
 use crate::sides::{model_side, Opponent};
 use crate::worlds::{pair, Theme};
@@ -439,7 +439,9 @@ fn count(crowd: &Crowd, pairs: u64) -> Result<Tally, Disagreement> {
         let pair = Followed::new(crowd.theme, crowd.seed, index);
         let lines = tally.add(&pair, crowd.opponent);
         if !lines.is_empty() {
-            return Err(Disagreement { index, lines });
+            let between = "the orders";
+            let differs = Differs { between, lines };
+            return Err(Disagreement { index, differs });
         }
         index += 1;
     }

@@ -33,6 +33,15 @@ impl Opponent {
         }
     }
 
+    /// The same chain made of steps, as long as a link is to be followed and fewer blocks were run than
+    /// the allowance has. Nothing is inspected. A line where a step was refused that no run is.
+    pub fn steps(self, case: &Case) -> Result<Left, String> {
+        match self {
+            Opponent::Library => library::steps(case),
+            Opponent::Itself => unreachable!("the model makes no steps"),
+        }
+    }
+
     /// The record of a drive that is released, and whether somebody held it.
     pub fn release(self, bytes: &RecordBytes) -> (RecordBytes, bool) {
         match self {
@@ -107,6 +116,10 @@ mod library {
         unreachable!("refused at the command line")
     }
 
+    pub fn steps(_: &Case) -> Result<Left, String> {
+        unreachable!("refused at the command line")
+    }
+
     pub fn release(_: &RecordBytes) -> (RecordBytes, bool) {
         unreachable!("refused at the command line")
     }
@@ -117,8 +130,9 @@ mod library {
     use super::{Case, Left, RecordBytes};
     use crate::case::Inspection;
     use crate::standing::{self, Answer, Asked};
+    use crate::steps::{self, Ended};
     use model::{Controller, Outcome, Part};
-    use vsmd3200::Record;
+    use vsmd3200::{Record, StepRefused};
 
     const GUARD: u8 = 0xa5;
 
@@ -159,63 +173,126 @@ mod library {
         }
     }
 
+    /// All that is lent of a case, with its guards.
+    struct Lent {
+        host: Guarded,
+        image0: Guarded,
+        image1: Guarded,
+        events: Guarded,
+        records: [Record; 2],
+    }
+
+    impl Lent {
+        fn of(case: &Case) -> Lent {
+            let shift = case.host.len() % 8;
+            Lent {
+                host: Guarded::new(&case.host, 32 + shift),
+                image0: Guarded::new(&case.images[0], 33 + shift),
+                image1: Guarded::new(&case.images[1], 34 + shift),
+                events: Guarded::new(&case.events, 35 + shift),
+                records: case.records.map(Record::from_bytes),
+            }
+        }
+
+        /// What is left of it, and what these inspections find.
+        fn left(self, outcome: Outcome, inspections: &[Inspection]) -> Left {
+            let named = [
+                ("host memory", &self.host),
+                ("image 0", &self.image0),
+                ("image 1", &self.image1),
+                ("events", &self.events),
+            ];
+            let outside = named
+                .iter()
+                .find(|(_, buffer)| !buffer.guards_stand())
+                .map(|(name, _)| *name);
+            let images = [self.image0.into_lent(), self.image1.into_lent()];
+            let parts = inspections
+                .iter()
+                .map(|i| part(&images, &self.records, i))
+                .collect();
+            Left {
+                outcome,
+                host: self.host.into_lent(),
+                images,
+                events: self.events.into_lent(),
+                records: self.records.map(|record| *record.as_bytes()),
+                parts,
+                told: Vec::new(),
+                outside,
+            }
+        }
+    }
+
     pub fn run(case: &Case) -> Left {
-        let shift = case.host.len() % 8;
-        let mut host = Guarded::new(&case.host, 32 + shift);
-        let mut image0 = Guarded::new(&case.images[0], 33 + shift);
-        let mut image1 = Guarded::new(&case.images[1], 34 + shift);
-        let mut events = Guarded::new(&case.events, 35 + shift);
-        let mut records = case.records.map(Record::from_bytes);
-        let outcome = call(
-            case,
-            [host.lent(), image0.lent(), image1.lent(), events.lent()],
-            &mut records,
-        );
-        let named = [
-            ("host memory", &host),
-            ("image 0", &image0),
-            ("image 1", &image1),
-            ("events", &events),
-        ];
-        let outside = named
-            .iter()
-            .find(|(_, buffer)| !buffer.guards_stand())
-            .map(|(name, _)| *name);
-        let images = [image0.into_lent(), image1.into_lent()];
-        let parts = case
-            .inspections
-            .iter()
-            .map(|i| part(&images, &records, i))
-            .collect();
-        let records = records.map(|record| *record.as_bytes());
+        let mut lent = Lent::of(case);
+        let outcome = call(case, &mut lent);
+        let outcome = Outcome {
+            answer: outcome.answer.number(),
+            failed: outcome.failed.map_or(0, |failed| failed.number()),
+            blocks: outcome.blocks,
+            sectors: outcome.sectors,
+        };
+        let left = lent.left(outcome, &case.inspections);
         Left {
-            outcome: Outcome {
-                answer: outcome.answer.number(),
-                failed: outcome.failed.map_or(0, |failed| failed.number()),
-                blocks: outcome.blocks,
-                sectors: outcome.sectors,
-            },
-            host: host.into_lent(),
-            images,
-            events: events.into_lent(),
-            records,
-            parts,
-            told: standing::ask(case, &records, told),
-            outside,
+            told: standing::ask(case, &left.records, told),
+            ..left
+        }
+    }
+
+    /// The loop goes by `follow` alone, as a board's would: a step that said it of a block which failed
+    /// would be seen by the blocks run after it.
+    pub fn steps(case: &Case) -> Result<Left, String> {
+        let mut lent = Lent::of(case);
+        let controller = named(case.controller);
+        let (mut at, mut failed, mut blocks, mut sectors) = (case.first, 0, 0, 0);
+        let ended = loop {
+            let stepped = vsmd3200::step_as(
+                lent.host.lent(),
+                lent.image0.lent(),
+                lent.image1.lent(),
+                lent.events.lent(),
+                &mut lent.records,
+                at,
+                blocks,
+                controller,
+            );
+            let stepped = match stepped {
+                Ok(stepped) => stepped,
+                Err(StepRefused::BlockBad) => break Ended::NotFetched,
+                Err(refused) => return Err(format!("step {} is refused: {}", blocks + 1, refused)),
+            };
+            failed = stepped.answer.map_or(0, |failed| failed.number());
+            blocks += 1;
+            sectors += stepped.sectors;
+            if !stepped.follow {
+                break Ended::NoLink;
+            }
+            if blocks >= case.allowance {
+                break Ended::Spent;
+            }
+            at = stepped.link;
+        };
+        Ok(lent.left(steps::outcome(ended, failed, blocks, sectors), &[]))
+    }
+
+    /// A controller by the wrapper's name for it.
+    fn named(controller: Controller) -> vsmd3200::Controller {
+        match controller {
+            Controller::First => vsmd3200::Controller::First,
+            Controller::Second => vsmd3200::Controller::Second,
         }
     }
 
     /// The run by the call that is for its controller. The first has two: which of them is made goes by
     /// whether host memory has an odd length, so that both are tried.
-    fn call(case: &Case, lent: [&mut [u8]; 4], records: &mut [Record; 2]) -> vsmd3200::Outcome {
+    fn call(case: &Case, lent: &mut Lent) -> vsmd3200::Outcome {
         let Case {
             first, allowance, ..
         } = *case;
-        let [host, image0, image1, events] = lent;
-        let controller = match case.controller {
-            Controller::First => vsmd3200::Controller::First,
-            Controller::Second => vsmd3200::Controller::Second,
-        };
+        let (host, image0, image1) = (lent.host.lent(), lent.image0.lent(), lent.image1.lent());
+        let (events, records) = (lent.events.lent(), &mut lent.records);
+        let controller = named(case.controller);
         if case.controller == Controller::First && host.len() % 2 == 0 {
             vsmd3200::run(host, image0, image1, events, records, first, allowance)
         } else {
