@@ -431,9 +431,9 @@ uint32_t vsmd_run_as(uint8_t *host, uint64_t host_len, uint8_t *image0, uint64_t
                      uint64_t record1_len, uint8_t *outcome, uint64_t outcome_len, uint32_t first, uint32_t allowance,
                      uint32_t controller);
 
-/* Runs one block by itself, for a controller of two: what a run makes of the block, but its link is not followed. So a board can make the chain in
- * a loop of its own, which bounds the time of each call, and look at something else between two blocks. The stack of a step does not grow
- * with the chain, and that of a run does with each further block.
+/* Runs one block by itself, for a controller of two. The block does what it does in a run, and its link is not followed. So a board can make
+ * the chain in a loop of its own: each call takes as long as one block, and between two the board can look at something else. The stack of a
+ * step does not grow with the chain; that of a run does, with each further block.
  *
  *   host             as in vsmd_run. Out: what the one block stores there.
  *   image0, image1   as in vsmd_run.
@@ -449,7 +449,8 @@ uint32_t vsmd_run_as(uint8_t *host, uint64_t host_len, uint8_t *image0, uint64_t
  * is at an odd address or not wholly in host memory (tested in this order): then no byte of any buffer was changed, stepped included.
  *
  * A chain is made of steps with index 0, 1 and so on, from the first block on and then from link to link, as long as byte 5 of stepped
- * is 01. Nothing is kept between two steps but what the buffers hold, so each of them is lent again as the step before left it.
+ * is 01. Nothing is kept between two steps but what the buffers hold, so each of them is lent again as the step before left it. What the
+ * host or the other controller changes between two steps the next one finds; in a run there is no such moment.
  *
  *     uint32_t at = first, index = 0, code;
  *     do {
@@ -460,12 +461,12 @@ uint32_t vsmd_run_as(uint8_t *host, uint64_t host_len, uint8_t *image0, uint64_t
  *         index++;
  *     } while (vsmd_stepped_follow(stepped) && index < allowance);
  *
- * A step has no allowance, and a chain may link in a circle: the loop has to have one of its own and stop when it is spent. What bounds it is
- * yours, and may be over 64 where the event buffer has the room. What vsmd_run_as with the same allowance says of such a chain, the loop finds
- * itself: VSMD_BLOCK_FAILED where stepped has an answer, VSMD_LINK_BAD where a step after the first returns VSMD_FIRST_BAD,
- * VSMD_ALLOWANCE_SPENT where the loop stopped and the last block's link was to be followed, and else VSMD_DONE.
+ * A step has no allowance, and a chain may link in a circle: the loop has to have an allowance of its own and to stop when it is spent. How
+ * large it is, is yours to say, and it may be over 64 where the event buffer has the room. How a run of the chain with the same allowance would have
+ * ended, the loop can tell: VSMD_BLOCK_FAILED where stepped has an answer, VSMD_LINK_BAD where a step after the first returns VSMD_FIRST_BAD,
+ * VSMD_ALLOWANCE_SPENT where the loop stopped and the last block's link was to be followed, and otherwise VSMD_DONE.
  *
- * A record is stored after each step, and after a run once. So a chain that maps tracks and then initializes leaves other bytes in a
+ * A record is stored after each step that changed it, and by a run once. So a chain that maps tracks and then initializes leaves other bytes in a
  * record after the last pair that counts than a run does; nobody reads them. */
 uint32_t vsmd_step_as(uint8_t *host, uint64_t host_len, uint8_t *image0, uint64_t image0_len, uint8_t *image1, uint64_t image1_len,
                       uint8_t *events, uint64_t events_len, uint8_t *record0, uint64_t record0_len, uint8_t *record1,
