@@ -130,7 +130,6 @@ mod library {
     use super::{Case, Left, RecordBytes};
     use crate::case::Inspection;
     use crate::standing::{self, Answer, Asked};
-    use crate::steps::{self, Ended};
     use model::{Controller, Outcome, Part};
     use vsmd3200::{Record, StepRefused};
 
@@ -240,13 +239,13 @@ mod library {
         }
     }
 
-    /// The loop goes by `follow` alone, as a board's would: a step that said it of a block which failed
-    /// would be seen by the blocks run after it.
+    /// The outcome is the one that a run has which ended as the loop did. The loop goes by `follow` alone,
+    /// as a board's would: a step that said it of a block which failed would be seen by the blocks after it.
     pub fn steps(case: &Case) -> Result<Left, String> {
         let mut lent = Lent::of(case);
         let controller = named(case.controller);
         let (mut at, mut failed, mut blocks, mut sectors) = (case.first, 0, 0, 0);
-        let ended = loop {
+        let answer = loop {
             let stepped = vsmd3200::step_as(
                 lent.host.lent(),
                 lent.image0.lent(),
@@ -259,21 +258,28 @@ mod library {
             );
             let stepped = match stepped {
                 Ok(stepped) => stepped,
-                Err(StepRefused::BlockBad) => break Ended::NotFetched,
+                Err(StepRefused::BlockBad) if blocks == 0 => break 3,
+                Err(StepRefused::BlockBad) => break 5,
                 Err(refused) => return Err(format!("step {} is refused: {}", blocks + 1, refused)),
             };
             failed = stepped.answer.map_or(0, |failed| failed.number());
             blocks += 1;
             sectors += stepped.sectors;
             if !stepped.follow {
-                break Ended::NoLink;
+                break if failed == 0 { 0 } else { 4 };
             }
             if blocks >= case.allowance {
-                break Ended::Spent;
+                break 6;
             }
             at = stepped.link;
         };
-        Ok(lent.left(steps::outcome(ended, failed, blocks, sectors), &[]))
+        let outcome = Outcome {
+            answer,
+            failed,
+            blocks,
+            sectors,
+        };
+        Ok(lent.left(outcome, &[]))
     }
 
     /// A controller by the wrapper's name for it.

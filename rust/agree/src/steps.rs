@@ -4,7 +4,6 @@
 use crate::case::{stored_end, Case, RecordBytes, PAIRS_AT};
 use crate::compare::bytes;
 use crate::sides::{Left, Opponent};
-use model::Outcome;
 
 const SIDES: [&str; 2] = ["steps", "run"];
 
@@ -85,33 +84,4 @@ pub fn differences(opponent: Opponent, case: &Case, run: &Left, tally: &mut Tall
 fn counting(record: &RecordBytes) -> (&[u8], &[u8]) {
     let pairs = u16::from_be_bytes([record[PAIRS_AT], record[PAIRS_AT + 1]]);
     record.split_at(stored_end(pairs))
-}
-
-/// What a run says that ended as these steps did: with so many blocks and sectors, the last of them
-/// with this answer.
-pub fn outcome(ended: Ended, failed: u8, blocks: u32, sectors: u32) -> Outcome {
-    let answer = match ended {
-        _ if failed != 0 => 4,
-        Ended::NoLink => 0,
-        // the first block of a run has an answer of its own
-        Ended::NotFetched if blocks == 0 => 3,
-        Ended::NotFetched => 5,
-        Ended::Spent => 6,
-    };
-    Outcome {
-        answer,
-        failed,
-        blocks,
-        sectors,
-    }
-}
-
-/// Why a loop of steps ended.
-pub enum Ended {
-    /// The last block's link is not to be followed.
-    NoLink,
-    /// The next block cannot be fetched.
-    NotFetched,
-    /// The allowance is spent, and the last block's link is to be followed.
-    Spent,
 }
