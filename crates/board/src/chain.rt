@@ -15,7 +15,8 @@ ghost use Prim.Native.Nat.{_+_, _*_, _≤_};
 ghost use lib.ListN.{length};
 ghost use Rattle.board.specs.Ends.{endedOf};
 ghost use Rattle.board.specs.Chain.{counted, executed, fetched, nothing, ran};
-ghost use Rattle.board.specs.Steps.{EndedIn, KnowsBoth, RanOne, Spare, SteppedOn, nothingLearnt, steppedOf, outcomeWith};
+ghost use Rattle.board.specs.Steps.{EndedIn, KnowsBoth, RanOne, Spare, SteppedOn, WentLeg, WentOn};
+ghost use Rattle.board.specs.Steps.{legOf, nextAt, nothingLearnt, steppedOf, outcomeWith};
 ghost use Rattle.block.specs.Block.{effectOn};
 ghost use Rattle.block.specs.Steps.{Did, Knows, BlockRoom, driveWith, three};
 ghost use Rattle.board.specs.Records.{unitIn, unitsIn};
@@ -62,6 +63,16 @@ pub struct End {
     pub blocks: u32,
     pub sectors: u32,
 }
+
+// A leg of a chain: how it ended, and, where its allowance is spent, from which address and with what knowledge the chain goes on.
+pub(crate) struct Leg {
+    pub end: End,
+    pub at: u32,
+    pub learnt: Learnt,
+}
+
+// How many blocks fetch and execute run before the stack is given back.
+const LEG: u32 = 8;
 
 // What a run came to. `failed` is the failed block's number with the answer BlockFailed, and 0 with any other.
 pub struct Outcome {
@@ -183,11 +194,19 @@ fn ended(answer: RunAnswer, failed: u8, count: Count) -> End
     }
 }
 
-// A failed block ends the chain, with its number.
-fn failed(r: Refusal, count: Count) -> End
-    ensures { λ o. ⌜ o ≡ endedOf RunAnswer.BlockFailed (refusalNumber r) count ⌝ }
+// A leg that stops there: how it ended, and the address and the knowledge that a next one would begin with.
+fn stopped(answer: RunAnswer, failed: u8, count: Count, at: u32, learnt: Learnt) -> Leg
+    ensures { λ r. ⌜ r ≡ legOf (endedOf answer failed count) at learnt ⌝ }
 {
-    ended(RunAnswer::BlockFailed, r.number(), count)
+    let end = ended(answer, failed, count);
+    Leg { end, at, learnt }
+}
+
+// A failed block ends the chain, with its number.
+fn failed(r: Refusal, count: Count, at: u32, learnt: Learnt) -> Leg
+    ensures { λ o. ⌜ o ≡ legOf (endedOf RunAnswer.BlockFailed (refusalNumber r) count) at learnt ⌝ }
+{
+    stopped(RunAnswer::BlockFailed, r.number(), count, at, learnt)
 }
 
 // Each fetch spends one of the allowance. What is asked first, before the block's address is looked at, is whether any is left.
@@ -205,20 +224,20 @@ fn fetch(
     at: u32,
     left: u32,
     count: Count,
-) -> End
+) -> Leg
     requires { ⌜ Spare (now events) left count × KnowsBoth learnt (unitIn (now record0) (now map0)) (unitIn (now record1) (now map1)) ⌝ }
     ensures { λ r. ⌜ (
         let before = worldOf c (now (host .entry)) (now (image0 .entry)) (now (image1 .entry)) (now (events .entry)) (now (map0 .entry))
         (now (map1 .entry)) (unitsIn (now (record0 .entry)) (now (record1 .entry))) in
         let after = worldOf c (now (host .exit)) (now (image0 .exit)) (now (image1 .exit)) (now (events .exit)) (now (map0 .exit))
         (now (map1 .exit)) (unitsIn (now (record0 .exit)) (now (record1 .exit))) in
-        EndedIn (fetched left count at before) after r) ⌝ }
+        WentLeg left count at before after r) ⌝ }
 {
     if left == 0 {
-        return ended(RunAnswer::AllowanceSpent, 0, count);
+        return stopped(RunAnswer::AllowanceSpent, 0, count, at, learnt);
     }
     if !holds_block(host, at) {
-        return ended(RunAnswer::LinkBad, 0, count);
+        return stopped(RunAnswer::LinkBad, 0, count, at, learnt);
     }
     execute(
         host,
@@ -252,7 +271,7 @@ fn execute(
     at: u32,
     left: u32,
     count: Count,
-) -> End
+) -> Leg
     requires { ⌜
         InMemory (now host) at 28 × Spare (now events) (left + 1) count × KnowsBoth learnt (unitIn (now record0) (now map0))
         (unitIn (now record1) (now map1)) ⌝ }
@@ -261,7 +280,7 @@ fn execute(
         (now (map1 .entry)) (unitsIn (now (record0 .entry)) (now (record1 .entry))) in
         let after = worldOf c (now (host .exit)) (now (image0 .exit)) (now (image1 .exit)) (now (events .exit)) (now (map0 .exit))
         (now (map1 .exit)) (unitsIn (now (record0 .exit)) (now (record1 .exit))) in
-        EndedIn (executed (fetched left) count at before) after r) ⌝ }
+        WentOn (executed (fetched left) count at before) (nextAt (left + 1) count at before) after r) ⌝ }
 {
     let step = step(
         host,
@@ -281,7 +300,7 @@ fn execute(
     let answer = s.answer;
     let count = counted(count, s.sectors);
     match answer {
-        BlockAnswer::Failed(r) => failed(r, count),
+        BlockAnswer::Failed(r) => failed(r, count, s.link, step.learnt),
         BlockAnswer::Ended => {
             if s.linked {
                 fetch(
@@ -300,10 +319,103 @@ fn execute(
                     count,
                 )
             } else {
-                ended(RunAnswer::Done, 0, count)
+                stopped(RunAnswer::Done, 0, count, s.link, step.learnt)
             }
         }
     }
+}
+
+// Whether an answer says that the allowance is spent.
+fn is_spent(answer: RunAnswer) -> bool
+    ensures { λ r. ⌜ Says r (answer ≡ RunAnswer.AllowanceSpent) ⌝ }
+{
+    match answer {
+        RunAnswer::AllowanceSpent => true,
+        _ => false,
+    }
+}
+
+// A chain in legs. Where a leg has spent its own allowance and the chain has some left, the next begins where that one stopped.
+fn legs(
+    host: &mut [u8],
+    image0: &mut [u8],
+    image1: &mut [u8],
+    events: &mut [u8],
+    map0: &mut [u32; 64],
+    map1: &mut [u32; 64],
+    record0: &mut [u16; Record::NUMBERS],
+    record1: &mut [u16; Record::NUMBERS],
+    c: Controller,
+    learnt: Learnt,
+    at: u32,
+    left: u32,
+    count: Count,
+) -> End
+    requires { ⌜ Spare (now events) left count × KnowsBoth learnt (unitIn (now record0) (now map0)) (unitIn (now record1) (now map1)) ⌝ }
+    ensures { λ r. ⌜ (
+        let before = worldOf c (now (host .entry)) (now (image0 .entry)) (now (image1 .entry)) (now (events .entry)) (now (map0 .entry))
+        (now (map1 .entry)) (unitsIn (now (record0 .entry)) (now (record1 .entry))) in
+        let after = worldOf c (now (host .exit)) (now (image0 .exit)) (now (image1 .exit)) (now (events .exit)) (now (map0 .exit))
+        (now (map1 .exit)) (unitsIn (now (record0 .exit)) (now (record1 .exit))) in
+        EndedIn (fetched left count at before) after r) ⌝ }
+{
+    if left <= LEG {
+        let leg = fetch(
+            host,
+            image0,
+            image1,
+            events,
+            map0,
+            map1,
+            record0,
+            record1,
+            c,
+            learnt,
+            at,
+            left,
+            count,
+        );
+        return leg.end;
+    }
+    let leg = fetch(
+        host,
+        image0,
+        image1,
+        events,
+        map0,
+        map1,
+        record0,
+        record1,
+        c,
+        learnt,
+        at,
+        LEG,
+        count,
+    );
+    let so_far = leg.end;
+    let answer = so_far.answer;
+    if !is_spent(answer) {
+        return so_far;
+    }
+    let count = Count {
+        blocks: so_far.blocks,
+        sectors: so_far.sectors,
+    };
+    legs(
+        host,
+        image0,
+        image1,
+        events,
+        map0,
+        map1,
+        record0,
+        record1,
+        c,
+        leg.learnt,
+        leg.at,
+        left - LEG,
+        count,
+    )
 }
 
 fn counted(count: Count, sectors: u16) -> Count
@@ -394,7 +506,7 @@ pub fn run(
     }
     let mut record0 = units.zero.numbers();
     let mut record1 = units.one.numbers();
-    let end = fetch(
+    let end = legs(
         host,
         image0,
         image1,

@@ -6,11 +6,11 @@ use Rattle.board.proofs.chain.failed.Tie as tie
 number-requires : tie.Need-number-requires
 number-requires c κs = search needs
 
-ended-requires : tie.Need-ended-requires
-ended-requires c κs = search needs
+stopped-requires : tie.Need-stopped-requires
+stopped-requires c κs = search needs
 
 returns : tie.Need-returns
-returns c = rw (c .ended .ensures, c .before .number .ensures)
+returns c = rw (c .stopped .ensures, c .before .number .ensures)
 
 pub failed-spec : {M : Type 1} → statement M
-failed-spec = tie.close (tie.spec number-requires ended-requires returns)
+failed-spec = tie.close (tie.spec number-requires stopped-requires returns)

@@ -98,8 +98,8 @@ unasked-requires c κs = search needs
 nothing-requires : tie.Need-nothing-requires
 nothing-requires c κs = search needs
 
-fetch-requires : tie.Need-fetch-requires
-fetch-requires c κs =
+legs-requires : tie.Need-legs-requires
+legs-requires c κs =
     let told = numbers (c .before .before) .before in
     let third = told .before .before in
     let second = third .before .before in
@@ -130,8 +130,8 @@ same-length-8 c = search needs
 
 returns-4 : tie.Need-returns-4
 returns-4 c =
-    let fetched = c .before .before .before .before .before .before .before .before .before .before .before .before in
-    let begun = fetched .before in
+    let through = c .before .before .before .before .before .before .before .before .before .before .before .before in
+    let begun = through .before in
     let two = numbers (begun .before .before) in
     let third = two .before .before in
     let asked = third .before in
@@ -142,7 +142,7 @@ returns-4 c =
     let room = first .before .holds-entries in
     let allowed = second .before .is-allowance in
     let held = asked .holds-block in
-    let f = fetched .fetch in
+    let f = through .legs in
     rw (c .outcome-with .ensures, c .before .units-of .ensures)
     (came-to _ _ (f .result)
     (ended-the-same _ _ _ (f .result)
@@ -173,7 +173,7 @@ run-spec =
     numbers-requires-2
     unasked-requires
     nothing-requires
-    fetch-requires
+    legs-requires
     units-of-requires
     outcome-with-requires
     same-length-5
