@@ -1,4 +1,4 @@
-/* The stack that vsmd_run takes, for chains of 1, 16 and 64 blocks, the most of any command tried, without pairs and with 32. Each is run
+/* The stack that vsmd_run takes, for chains of 1, 8, 16 and 64 blocks, the most of any command tried, without pairs and with 32. Each is run
  * on a stack of its own that was painted before and has nothing on it but the call: how far down the paint is gone is the room that a
  * caller has to have. */
 #define _XOPEN_SOURCE 700
@@ -89,11 +89,11 @@ static size_t painted_over(void)
 int main(void)
 {
     static const uint8_t commands[] = {0x81, 0x82, 0x85, 0x86, 0x8A, 0x8C, 0xA1, 0xA2};
-    static const unsigned chains[] = {1, 16, 64};
-    size_t c, n, taken, most[3] = {0, 0, 0};
+    static const unsigned chains[] = {1, 8, 16, 64};
+    size_t c, n, taken, most[4] = {0, 0, 0, 0};
     unsigned pairs;
     for (c = 0; c < sizeof commands; c++) {
-        for (n = 0; n < 3; n++) {
+        for (n = 0; n < 4; n++) {
             for (pairs = 0; pairs <= (commands[c] == 0x85 ? 0 : VSMD_PAIRS_MOST); pairs += VSMD_PAIRS_MOST) {
                 lay(commands[c], chains[n]);
                 make_record(pairs);
@@ -109,7 +109,6 @@ int main(void)
             }
         }
     }
-    printf("stack of vsmd_run: %zu bytes for 1 block, %zu for 16, %zu for 64; %zu for each further block\n", most[0], most[1], most[2],
-           (most[2] - most[0]) / 63);
+    printf("stack of vsmd_run: %zu bytes for 1 block, %zu for 8, %zu for 16, %zu for 64\n", most[0], most[1], most[2], most[3]);
     return 0;
 }
