@@ -134,3 +134,10 @@ pub const EVENT_LEN: usize = bytes::event::LEN;
 
 /// The largest allowance that a run takes; the smallest is 1.
 pub const ALLOWANCE_MOST: u32 = 64;
+
+/// The bytes of stack that a run takes at most, behind the wrapper: measured, on every processor that
+/// the library is built for.
+pub const STACK_MOST: usize = 12288;
+
+/// The same of a step.
+pub const STEP_STACK_MOST: usize = 4608;

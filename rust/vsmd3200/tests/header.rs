@@ -142,6 +142,8 @@ fn of_wrapper() -> BTreeMap<String, u64> {
         ("VSMD_PAIRS_MOST", vsmd3200::PAIRS_MOST as u64),
         ("VSMD_EVENTS_LEN_LEAST", vsmd3200::EVENTS_LEN_LEAST as u64),
         ("VSMD_ALLOWANCE_MOST", vsmd3200::ALLOWANCE_MOST.into()),
+        ("VSMD_STACK_MOST", vsmd3200::STACK_MOST as u64),
+        ("VSMD_STEP_STACK_MOST", vsmd3200::STEP_STACK_MOST as u64),
         ("VSMD_CONTROLLER_FIRST", Controller::First.number().into()),
         ("VSMD_CONTROLLER_SECOND", Controller::Second.number().into()),
     ];
