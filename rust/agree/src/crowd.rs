@@ -1,6 +1,6 @@
 //! Many worlds over all cores, and the faults seeded one at a time.
 
-use crate::compare::differences;
+use crate::compare::{differences, told_differently};
 use crate::coverage::Coverage;
 use crate::sides::{model_side, Opponent};
 use crate::steps;
@@ -70,7 +70,9 @@ pub fn one_world(crowd: &Crowd, index: u64, coverage: &mut Coverage) -> Option<D
         (Opponent::Itself, Some(fault)) => with_fault(fault, || crowd.opponent.run(&case)),
         (opponent, _) => opponent.run(&case),
     };
-    Differs::of(sides, differences(&case, &library, &model)).or_else(|| {
+    let mut lines = differences(&case, &library, &model);
+    lines.extend(told_differently(&library, &model));
+    Differs::of(sides, lines).or_else(|| {
         let lines = steps::differences(crowd.opponent, &case, &library, &mut coverage.steps);
         Differs::of("the library's steps and its run", lines)
     })
