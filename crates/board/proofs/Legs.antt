@@ -170,14 +170,11 @@ module _ (m left : ℕ) (t : Count) (at : ℕ) (w w′ : World) (r : Leg) (less 
 
   module _ (spent : r .end .answer ≡ RunAnswer.AllowanceSpent) where
     -- The chain goes on as the next leg does.
-    pub leg-on :
-        (v : World) (e : End) → EndedIn (fetched (left - m) (countOf (r .end)) (r .at) w′) v e → EndedIn (fetched left t at w) v e
-    leg-on v e rest =
-        rw
-        (ap (λ (k : ℕ). fetched k t at w) whole
+    pub leg-on : fetched left t at w ≡ fetched (left - m) (countOf (r .end)) (r .at) w′
+    leg-on =
+        ap (λ (k : ℕ). fetched k t at w) whole
         ∙ leg-spent m (left - m) t at w (answers ∙ spent)
-        ∙ (λ i. fetched (left - m) (countOf (sym (went .ended .result) i)) (sym (went .next spent) i) (sym (went .ended .world) i)))
-        rest
+        ∙ (λ i. fetched (left - m) (countOf (sym (went .ended .result) i)) (sym (went .next spent) i) (sym (went .ended .world) i))
 
     -- And what is spare is spare for it.
     pub leg-spare :
@@ -189,4 +186,27 @@ module _ (m left : ℕ) (t : Count) (at : ℕ) (w w′ : World) (r : Leg) (less 
           entries = omega (arith, spare .entries, same, run);
           blocks = omega (arith, spare .blocks, run);
           sectors = went .sectors;
+        }
+
+-- ---- between two legs
+
+-- What is left comes to what the whole chain comes to, what is spare is spare for it, and what is known is so.
+pub record Between (e : Ending) (w : World) (learnt : Learnt) (at left : ℕ) (t : Count) : Type 0 where
+  pub comes : e ≡ fetched left t at w
+  pub spare : Spare (w .events) left t
+  pub knows : KnowsBoth learnt (w .drive0 .unit) (w .drive1 .unit)
+
+module _ (m : ℕ) (e : Ending) (w : World) (learnt : Learnt) (at left : ℕ) (t : Count) (less : m ≤ left) (so : Between e w learnt at left t) where
+  module _ (w′ : World) (r : Leg) (went : WentLeg m t at w w′ r) where
+    pub between-last : (r .end .answer ≡ RunAnswer.AllowanceSpent → ⊥) → EndedIn e w′ (r .end)
+    between-last unspent = rw (so .comes) (leg-last m left t at w w′ r less went unspent)
+
+    pub between-on :
+        r .end .answer ≡ RunAnswer.AllowanceSpent → length (w′ .events) ≡ length (w .events) →
+        Between e w′ (r .learnt) (r .at) (left - m) (countOf (r .end))
+    between-on spent same =
+        record {
+          comes = so .comes ∙ leg-on m left t at w w′ r less went spent;
+          spare = leg-spare m left t at w w′ r less went spent (w .events) (w′ .events) same (so .spare);
+          knows = went .knows;
         }

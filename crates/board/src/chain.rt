@@ -335,7 +335,7 @@ fn is_spent(answer: RunAnswer) -> bool
     }
 }
 
-// A chain in legs. Where a leg has spent its own allowance and the chain has some left, the next begins where that one stopped.
+// A chain in legs. Where a leg has spent its allowance and the chain has some left, the next begins where that one stopped.
 fn legs(
     host: &mut [u8],
     image0: &mut [u8],
@@ -359,7 +359,11 @@ fn legs(
         (now (map1 .exit)) (unitsIn (now (record0 .exit)) (now (record1 .exit))) in
         EndedIn (fetched left count at before) after r) ⌝ }
 {
-    if left <= LEG {
+    let mut known = learnt;
+    let mut from = at;
+    let mut rest = left;
+    let mut tally = count;
+    while LEG < rest {
         let leg = fetch(
             host,
             image0,
@@ -370,12 +374,24 @@ fn legs(
             record0,
             record1,
             c,
-            learnt,
-            at,
-            left,
-            count,
+            known,
+            from,
+            LEG,
+            tally,
         );
-        return leg.end;
+        let so_far = leg.end;
+        let answer = so_far.answer;
+        if !is_spent(answer) {
+            return so_far;
+        }
+        let learnt = leg.learnt;
+        known = learnt;
+        from = leg.at;
+        rest -= LEG;
+        tally = Count {
+            blocks: so_far.blocks,
+            sectors: so_far.sectors,
+        };
     }
     let leg = fetch(
         host,
@@ -387,35 +403,12 @@ fn legs(
         record0,
         record1,
         c,
-        learnt,
-        at,
-        LEG,
-        count,
+        known,
+        from,
+        rest,
+        tally,
     );
-    let so_far = leg.end;
-    let answer = so_far.answer;
-    if !is_spent(answer) {
-        return so_far;
-    }
-    let count = Count {
-        blocks: so_far.blocks,
-        sectors: so_far.sectors,
-    };
-    legs(
-        host,
-        image0,
-        image1,
-        events,
-        map0,
-        map1,
-        record0,
-        record1,
-        c,
-        leg.learnt,
-        leg.at,
-        left - LEG,
-        count,
-    )
+    leg.end
 }
 
 fn counted(count: Count, sectors: u16) -> Count
