@@ -392,8 +392,8 @@ extern "C" {
 /* The bytes of stack that a run and a step take at most, measured: on every processor that docs/TARGETS.md names, for every command, with a scatter of
  * 64 elements last and full tables. The host cannot have a call take more: a chain of 64 blocks is the longest. What memcpy and memset take
  * is not counted, nor what an interrupt puts on the same stack. */
-#define VSMD_STACK_MOST 12288u
-#define VSMD_STEP_STACK_MOST 4608u
+#define VSMD_STACK_MOST 8192u
+#define VSMD_STEP_STACK_MOST 4096u
 
 /* ---- calls -----------------------------------------------------------------------------------------------------------------------*/
 

@@ -137,7 +137,7 @@ pub const ALLOWANCE_MOST: u32 = 64;
 
 /// The bytes of stack that a run takes at most, behind the wrapper: measured, on every processor that
 /// the library is built for.
-pub const STACK_MOST: usize = 12288;
+pub const STACK_MOST: usize = 8192;
 
 /// The same of a step.
-pub const STEP_STACK_MOST: usize = 4608;
+pub const STEP_STACK_MOST: usize = 4096;
