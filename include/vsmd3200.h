@@ -834,6 +834,10 @@ static inline const char *vsmd_answer_text(uint32_t code)
         return "the room for what a step leaves is shorter than its layout";
     case VSMD_ENTRY_SHORT:
         return "the event buffer has no room for the entry";
+    case VSMD_RECORD_NOT_INITIALIZED:
+        return "the record is of a unit that is not initialized";
+    case VSMD_SECTOR_NOT_THERE:
+        return "the unit has no such sector";
     default:
         return "no answer of this library";
     }

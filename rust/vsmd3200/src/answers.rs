@@ -80,6 +80,10 @@ pub enum RefusedCall {
     SteppedShort = 0x1F5,
     /// The event buffer has no room for the entry of a step.
     EntryShort = 0x1F6,
+    /// The record that was asked is of a unit that is not initialized.
+    RecordNotInitialized = 0x1F7,
+    /// The unit has no such sector.
+    SectorNotThere = 0x1F8,
 }
 
 /// Why a step was refused. The block was not run, and nothing was changed.
@@ -229,13 +233,15 @@ impl BlockAnswer {
 
 impl RefusedCall {
     /// All of them, by number.
-    pub const ALL: [RefusedCall; 6] = [
+    pub const ALL: [RefusedCall; 8] = [
         RefusedCall::Record0Short,
         RefusedCall::Record1Short,
         RefusedCall::OutcomeShort,
         RefusedCall::ControllerUnknown,
         RefusedCall::SteppedShort,
         RefusedCall::EntryShort,
+        RefusedCall::RecordNotInitialized,
+        RefusedCall::SectorNotThere,
     ];
 
     /// The refusal in words, for a log or a console.
@@ -249,10 +255,12 @@ impl RefusedCall {
                 "the room for what a step leaves is shorter than its layout"
             }
             RefusedCall::EntryShort => "the event buffer has no room for the entry",
+            RefusedCall::RecordNotInitialized => "the record is of a unit that is not initialized",
+            RefusedCall::SectorNotThere => "the unit has no such sector",
         }
     }
 
-    /// The refusal with a number, 1F1 to 1F6 (hex).
+    /// The refusal with a number, 1F1 to 1F8 (hex).
     pub fn from_number(number: u32) -> Option<RefusedCall> {
         let mut all = RefusedCall::ALL.into_iter();
         all.find(|refused| refused.number() == number)
