@@ -39,7 +39,7 @@ needing bytes held =
     ite (decLt (length bytes) recordLength) (neededOf record0Short held)
     (ite (counts? (recordIn bytes)) (neededOf 0 (need (geometry (recordIn bytes)))) (neededOf notInitialized held))
 
--- What asking for a sector comes to: the code, and what the caller's three numbers hold then: its place in the image, its first byte, and its mark.
+-- What asking for a sector comes to: the code, and what the caller's three numbers hold then: its place in the image, its first byte, and the byte that is its mark.
 pub record Located : Type 0 where
   pub code : ℕ
   pub place : ℕ

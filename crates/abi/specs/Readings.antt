@@ -17,6 +17,7 @@ use Rattle.abi.specs.Calls.{record0Short}
 use Rattle.abi.specs.Layouts.{recordIn, recordLength}
 use Rattle.abi.specs.Places.{notInitialized, numberedIn}
 
+-- A unit that counts as initialized, or the code of `Places` for why there is none.
 unfoldable pub reading : (bytes : List ℕ) → Reading
 reading bytes =
     ite (decLt (length bytes) recordLength) (Refused record0Short)
@@ -27,6 +28,7 @@ abbrev pub unitRead : Reading → (tracks : List ℕ) (other : UnitRecord) → U
 unitRead (Counts u) tracks other = unitOf u tracks
 unitRead (Refused code) tracks other = other
 
+-- The two ways of asking for a sector are those of `Places`.
 abbrev pub landsAs : Wanted → UnitRecord → Landing
 landsAs (Numbered volume number) u = numberedIn volume number u
 landsAs (Addressed a) u = landingAt u a

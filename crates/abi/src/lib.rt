@@ -1,4 +1,4 @@
-// The static library: a run and an inspection for firmware in C or Rust, on byte slices and numbers.
+// The static library for firmware in C or Rust: a run, a block by itself, an inspection, and where a sector stands, on byte slices and numbers.
 // Records and outcomes cross as bytes, by the layouts of specs/Layouts; what is done with them is board's, by its promise.
 // A buffer that is too short for its layout is refused, and nothing is changed. That pointers are good and apart only the caller knows.
 use board::Units;

@@ -22,7 +22,7 @@ use Rattle.request.specs.declared.Buffer.{Buffer}
 use Rattle.request.specs.declared.Move.{Move}
 use Rattle.request.specs.declared.Start.{Start}
 use Rattle.unit.specs.declared.Controller.the-variants.{First}
-use Rattle.worked.specs.SmallDrive.{All, GoesOn, Holds, Judged, RefusesWith, Stands, asking, byCylinder, host, move, starred, unit, unitBy}
+use Rattle.worked.specs.SmallDrive.{All, TwoFrom, Holds, Judged, RefusesWith, Stands, asking, byCylinder, host, move, starred, unit, unitBy}
 use Rattle.worked.specs.SmallDrive.Line.{scatters}
 use Rattle.worked.specs.SmallDrive.Expected.{answer, passes}
 use Rattle.worked.proofs.Drive.{begins-at, counts-by, cylinder-is, driveBy, need-7800, number, place, place-is, present-by, sectors-40, sectors-80, track, volume-0}
@@ -37,10 +37,10 @@ stands-there by v n inside =
     record { in-volume = inside; there = place-is by v n; first-byte = firstByte-is (driveBy by) (place by v n) }
 
 -- From a physical address on.
-goes-on :
+two-from :
     (by : Bool) (c h s : ℕ) → (c < 10) × (h < 2) × (s < 4) × (number by c h s < 79) →
-    GoesOn by c h s (place by Zero (number by c h s)) (place by Zero (number by c h s + 1)) (track by Zero (number by c h s + 1) .0)
-goes-on by c h s is =
+    TwoFrom by c h s (place by Zero (number by c h s)) (place by Zero (number by c h s + 1)) (track by Zero (number by c h s + 1) .0)
+two-from by c h s is =
     record {
       number = number by c h s;
       begins = begins-at by c h s (omega arith);
@@ -149,10 +149,10 @@ by-cylinder-hold =
     and stands-there false Zero _ (omega (arith, volume-0 false))
     and stands-there false Zero _ (omega (arith, volume-0 false))
     and outside-is-16 false _ 1 7800 _ 80 refl (omega arith)
-    and goes-on false 0 1 3 (omega arith)
-    and goes-on true 0 1 3 (omega arith)
-    and goes-on false 9 0 3 (omega arith)
-    and goes-on true 9 0 3 (omega arith)
+    and two-from false 0 1 3 (omega arith)
+    and two-from true 0 1 3 (omega arith)
+    and two-from false 9 0 3 (omega arith)
+    and two-from true 9 0 3 (omega arith)
     and read-passes false _ 40 40 7800 (begins-at false 0 1 0 (omega arith)) (omega arith)
     and outside-is-16 false _ 41 7800 _ 40 (begins-at false 0 1 0 (omega arith)) (omega arith)
     and read-passes true _ 4 76 7800 (begins-at true 0 1 0 (omega arith)) (omega arith)

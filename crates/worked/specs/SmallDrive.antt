@@ -83,7 +83,7 @@ Judged by m image passes =
     verdict (asking by m image) ≡ Do (carrying (jobOf m (numberThere (startNumber (withIncrement by drive) VolumeNumber.Zero (m .target .start)))))
 
 -- A physical address of volume 0 has a number; the sector there and the next one stand at two places, and the heads end on the cylinder of the next.
-pub record GoesOn (by : Bool) (c h s first second cylinder : ℕ) : Type 0 where
+pub record TwoFrom (by : Bool) (c h s first second cylinder : ℕ) : Type 0 where
   pub number : ℕ
   pub begins : numbered (withIncrement by drive) VolumeNumber.Zero c h s ≡ Number.Is number
   pub in-volume : number + 1 < volumeSectors (withIncrement by drive) VolumeNumber.Zero
@@ -119,14 +119,14 @@ pub data Line : Type 0 where
   -- on the unit with spares: two addresses, and a byte that both reach
   meet : Address → Address → ℕ → Line
   -- in an order: a cylinder, a head and a sector of volume 0; its place, the place of the sector after it, and the cylinder of that
-  goesOn : (byHead : Bool) → (cylinder head sector : ℕ) → ℕ → ℕ → ℕ → Line
+  twoFrom : (byHead : Bool) → (cylinder head sector : ℕ) → ℕ → ℕ → ℕ → Line
 
 abbrev pub Holds : Line → Type 0
 Holds (standsOn u v n place byte) = Stands u v n place byte
 Holds (readsBy by from count image says) = Judged by (move from count (Buffer.Piece 512)) image says
 Holds (scatters k says) = Judged true (move (Start.Logical 0) k (Buffer.List 0 k)) 7800 says
 Holds (meet a b x) = Meeting a b x
-Holds (goesOn by c h s first second cylinder) = GoesOn by c h s first second cylinder
+Holds (twoFrom by c h s first second cylinder) = TwoFrom by c h s first second cylinder
 
 -- Lines of the small drive as 01 has it; of the unit with spares; and of the drive by cylinder.
 abbrev pub stands : VolumeNumber → ℕ → ℕ → ℕ → Line
@@ -186,10 +186,10 @@ byCylinder =
     standsAlong VolumeNumber.Zero 40 4 256 ∷
     standsAlong VolumeNumber.Zero 79 115 7360 ∷
     readsBy false (Start.Logical 80) 1 7800 (answer 16) ∷
-    goesOn false 0 1 3 7 16 1 ∷
-    goesOn true 0 1 3 7 12 1 ∷
-    goesOn false 9 0 3 111 4 0 ∷
-    goesOn true 9 0 3 111 112 9 ∷
+    twoFrom false 0 1 3 7 16 1 ∷
+    twoFrom true 0 1 3 7 12 1 ∷
+    twoFrom false 9 0 3 111 4 0 ∷
+    twoFrom true 9 0 3 111 112 9 ∷
     readsBy false (Start.Physical 0 1 0) 40 7800 passes ∷
     readsBy false (Start.Physical 0 1 0) 41 7800 (answer 16) ∷
     readsBy true (Start.Physical 0 1 0) 76 7800 passes ∷
