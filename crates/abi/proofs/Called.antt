@@ -2,8 +2,8 @@
 -- Each is a case of the definition.
 use Prim.Native.Nat.{ℕ, _*_, _≤_, _<_, min}
 use mathlib.Core.List.{List}
-use mathlib.Core.Logic.{if-neg, if-pos}
-use mathlib.Core.Path.{_≡_, _∙_, ap}
+use mathlib.Core.Logic.{if-neg, if-pos, ite}
+use mathlib.Core.Path.{_≡_, refl, _∙_, ap}
 use native.Mathlib.Decide.{decLt}
 use native.Mathlib.Omega.{arith}
 use lib.ListN.{length}
@@ -12,7 +12,7 @@ use Rattle.board.specs.declared.chain.Outcome.{Outcome}
 use Rattle.board.specs.declared.inspection.Part.{Part}
 use Rattle.board.specs.Chain.{Ending, ran}
 use Rattle.board.specs.Inspection.{partOf}
-use Rattle.abi.specs.Calls.{CallLent, answered, calledAs, calledOf, controllerOf, controllerUnknown, imageNumber, inspectedOf, inspection, lentOf, made, outcomeShort, record0Short, record1Short, recordLeft, worldIn}
+use Rattle.abi.specs.Calls.{CallLent, Called, answered, calledAs, calledOf, controllerOf, controllerUnknown, imageNumber, inspectedOf, inspection, lentOf, made, outcomeShort, record0Short, record1Short, recordLeft, unlessRefused, worldIn}
 use Rattle.abi.specs.Layouts.{outcomeBytes, recordIn, wordsFrom}
 use Rattle.board.specs.declared.Units.{Units}
 use Rattle.unit.specs.declared.Controller.{Controller}
@@ -66,42 +66,46 @@ pub made-is :
 made-is c first allowance l units is-zero is-one came left0 left1 is-number left =
     answered-is l (ran first allowance (worldIn c l)) (rw (is-zero, is-one) at came) left0 left1 is-number left
 
-module _ (controller first allowance : ℕ) (l : CallLent) where
-  pub called-refused-0 : length (l .record0) < 276 → calledAs controller first allowance l ≡ calledOf record0Short l
-  unfolding calledAs
-  called-refused-0 short = if-pos (decLt (length (l .record0)) 276) short _ _
+-- Past the tests before it, each test that a run and a step begin with.
+module _ (short controller : ℕ) (l : CallLent) (done : Called) where
+  pub refused-0 : length (l .record0) < 276 → unlessRefused short controller l done ≡ calledOf record0Short l
+  refused-0 less = if-pos (decLt (length (l .record0)) 276) less _ _
 
-  pub called-refused-1 :
-      276 ≤ length (l .record0) → length (l .record1) < 276 → calledAs controller first allowance l ≡ calledOf record1Short l
-  unfolding calledAs
-  called-refused-1 long0 short =
-      if-neg (decLt (length (l .record0)) 276) (λ h. omega arith) _ _ ∙ if-pos (decLt (length (l .record1)) 276) short _ _
+  module _ (long0 : 276 ≤ length (l .record0)) where
+    pub refused-1 : length (l .record1) < 276 → unlessRefused short controller l done ≡ calledOf record1Short l
+    refused-1 less = if-neg (decLt (length (l .record0)) 276) (λ h. omega arith) _ _ ∙ if-pos (decLt (length (l .record1)) 276) less _ _
 
-  pub called-refused-2 :
-      276 ≤ length (l .record0) → 276 ≤ length (l .record1) → length (l .outcome) < 16 →
-      calledAs controller first allowance l ≡ calledOf outcomeShort l
-  unfolding calledAs
-  called-refused-2 long0 long1 short =
-      if-neg (decLt (length (l .record0)) 276) (λ h. omega arith) _ _ ∙
-      if-neg (decLt (length (l .record1)) 276) (λ h. omega arith) _ _ ∙ if-pos (decLt (length (l .outcome)) 16) short _ _
+    module _ (long1 : 276 ≤ length (l .record1)) where
+      past-records :
+          unlessRefused short controller l done ≡
+          ite (decLt (length (l .outcome)) 16) (calledOf short l) (ite (decLt 1 controller) (calledOf controllerUnknown l) done)
+      past-records =
+          if-neg (decLt (length (l .record0)) 276) (λ h. omega arith) _ _ ∙ if-neg (decLt (length (l .record1)) 276) (λ h. omega arith) _ _
 
-  pub called-refused-3 :
-      276 ≤ length (l .record0) → 276 ≤ length (l .record1) → 16 ≤ length (l .outcome) → 1 < controller →
-      calledAs controller first allowance l ≡ calledOf controllerUnknown l
-  unfolding calledAs
-  called-refused-3 long0 long1 long none =
-      if-neg (decLt (length (l .record0)) 276) (λ h. omega arith) _ _ ∙
-      if-neg (decLt (length (l .record1)) 276) (λ h. omega arith) _ _ ∙
-      if-neg (decLt (length (l .outcome)) 16) (λ h. omega arith) _ _ ∙ if-pos (decLt 1 controller) none _ _
+      pub refused-2 : length (l .outcome) < 16 → unlessRefused short controller l done ≡ calledOf short l
+      refused-2 less = past-records ∙ if-pos (decLt (length (l .outcome)) 16) less _ _
 
-  pub called-made :
-      276 ≤ length (l .record0) → 276 ≤ length (l .record1) → 16 ≤ length (l .outcome) → controller ≤ 1 →
-      calledAs controller first allowance l ≡ made (controllerOf controller) first allowance l
-  unfolding calledAs
-  called-made long0 long1 long one-of-two =
-      if-neg (decLt (length (l .record0)) 276) (λ h. omega arith) _ _ ∙
-      if-neg (decLt (length (l .record1)) 276) (λ h. omega arith) _ _ ∙
-      if-neg (decLt (length (l .outcome)) 16) (λ h. omega arith) _ _ ∙ if-neg (decLt 1 controller) (λ h. omega arith) _ _
+      module _ (long : 16 ≤ length (l .outcome)) where
+        pub refused-3 : 1 < controller → unlessRefused short controller l done ≡ calledOf controllerUnknown l
+        refused-3 none =
+            past-records ∙ if-neg (decLt (length (l .outcome)) 16) (λ h. omega arith) _ _ ∙ if-pos (decLt 1 controller) none _ _
+
+        pub not-refused : controller ≤ 1 → unlessRefused short controller l done ≡ done
+        not-refused one-of-two =
+            past-records ∙ if-neg (decLt (length (l .outcome)) 16) (λ h. omega arith) _ _ ∙ if-neg (decLt 1 controller) (λ h. omega arith) _ _
+
+pub called-is :
+    (controller first allowance : ℕ) (l : CallLent) →
+    calledAs controller first allowance l ≡ unlessRefused outcomeShort controller l (made (controllerOf controller) first allowance l)
+unfolding calledAs
+called-is controller first allowance l = refl
+
+pub called-made :
+    (controller first allowance : ℕ) (l : CallLent) →
+    276 ≤ length (l .record0) → 276 ≤ length (l .record1) → 16 ≤ length (l .outcome) → controller ≤ 1 →
+    calledAs controller first allowance l ≡ made (controllerOf controller) first allowance l
+called-made controller first allowance l long0 long1 long one-of-two =
+    called-is controller first allowance l ∙ not-refused outcomeShort controller l _ long0 long1 long one-of-two
 
 module _ (record0 record1 : List ℕ) (long0 long1 unit place image at bytes : ℕ) where
   pub inspection-refused-0 :

@@ -3,7 +3,7 @@
 use Prim.Native.Nat.{ℕ, _+_, _*_, _≤_, _<_}
 use mathlib.Core.List.{List}
 use mathlib.Core.Logic.{if-neg, if-pos, ite}
-use mathlib.Core.Path.{_≡_, _∙_, ap, sym}
+use mathlib.Core.Path.{_≡_, refl, _∙_, ap, sym}
 use native.Mathlib.Decide.{decLt}
 use native.Mathlib.Omega.{arith}
 use lib.ListN.{length}
@@ -19,8 +19,9 @@ use Rattle.unit.specs.Standing.{unitOf}
 use Rattle.wire.proofs.Decided.{inMemory?}
 use Rattle.wire.specs.Memory.{InMemory}
 use Rattle.wire.specs.Storing.{written}
-use Rattle.abi.specs.Calls.{CallLent, Called, calledOf, controllerOf, controllerUnknown, lentOf, record0Short, record1Short, recordLeft, worldIn}
+use Rattle.abi.specs.Calls.{CallLent, Called, calledOf, controllerOf, lentOf, recordLeft, unlessRefused, worldIn}
 use Rattle.abi.specs.Layouts.{recordIn}
+use Rattle.abi.proofs.Called.{not-refused}
 use Rattle.abi.specs.Stepping.{blockBad, goesOn, noEntry, steppedAs, steppedBytes, steppedOnce, steppedShort}
 
 -- A step of the world that stands in the bytes, as the code ran it and stored what it left.
@@ -83,48 +84,23 @@ module _ (c : Controller) (at i : ℕ) (l : CallLent) (units : Units) (tracks0 t
       (λ j. calledOf 3 (lentOf (on-host j) (on-image0 j) (on-image1 j) (on-events j) (l .record0) (l .record1) (l .outcome)))
       ∙ sym (if-neg (inMemory? (l .host) at 28) (λ inside. none .0 (record { place = inside; entry = room })) _ _)
 
+-- Past the tests that it shares with a run, the room for the entry.
 module _ (controller at i : ℕ) (l : CallLent) where
-  -- Past the tests before it, each test of a step.
-  pub stepped-refused-0 : length (l .record0) < 276 → steppedAs controller at i l ≡ calledOf record0Short l
+  abbrev placed : Called
+  placed = ite (inMemory? (l .host) at 28) (steppedOnce (controllerOf controller) at i l) (calledOf blockBad l)
+
+  pub stepped-is :
+      steppedAs controller at i l ≡
+      unlessRefused steppedShort controller l (ite (decLt (length (l .events)) (8 * i + 8)) (calledOf noEntry l) placed)
   unfolding steppedAs
-  stepped-refused-0 short = if-pos (decLt (length (l .record0)) 276) short _ _
+  stepped-is = refl
 
-  module _ (long0 : 276 ≤ length (l .record0)) where
-    abbrev past0 : {A : Type 0} (a b : A) → ite (decLt (length (l .record0)) 276) a b ≡ b
-    past0 a b = if-neg (decLt (length (l .record0)) 276) (λ h. omega arith) a b
+  module _ (long0 : 276 ≤ length (l .record0)) (long1 : 276 ≤ length (l .record1)) (long : 16 ≤ length (l .outcome)) (one-of-two : controller ≤ 1) where
+    pub stepped-no-entry : length (l .events) < 8 * i + 8 → steppedAs controller at i l ≡ calledOf noEntry l
+    stepped-no-entry less =
+        stepped-is ∙ not-refused steppedShort controller l _ long0 long1 long one-of-two ∙ if-pos (decLt (length (l .events)) (8 * i + 8)) less _ _
 
-    pub stepped-refused-1 : length (l .record1) < 276 → steppedAs controller at i l ≡ calledOf record1Short l
-    unfolding steppedAs
-    stepped-refused-1 short = past0 _ _ ∙ if-pos (decLt (length (l .record1)) 276) short _ _
-
-    module _ (long1 : 276 ≤ length (l .record1)) where
-      abbrev past1 : {A : Type 0} (a b : A) → ite (decLt (length (l .record1)) 276) a b ≡ b
-      past1 a b = if-neg (decLt (length (l .record1)) 276) (λ h. omega arith) a b
-
-      pub stepped-refused-2 : length (l .outcome) < 16 → steppedAs controller at i l ≡ calledOf steppedShort l
-      unfolding steppedAs
-      stepped-refused-2 short = past0 _ _ ∙ past1 _ _ ∙ if-pos (decLt (length (l .outcome)) 16) short _ _
-
-      module _ (long : 16 ≤ length (l .outcome)) where
-        abbrev past2 : {A : Type 0} (a b : A) → ite (decLt (length (l .outcome)) 16) a b ≡ b
-        past2 a b = if-neg (decLt (length (l .outcome)) 16) (λ h. omega arith) a b
-
-        pub stepped-refused-3 : 1 < controller → steppedAs controller at i l ≡ calledOf controllerUnknown l
-        unfolding steppedAs
-        stepped-refused-3 none = past0 _ _ ∙ past1 _ _ ∙ past2 _ _ ∙ if-pos (decLt 1 controller) none _ _
-
-        module _ (one-of-two : controller ≤ 1) where
-          abbrev past3 : {A : Type 0} (a b : A) → ite (decLt 1 controller) a b ≡ b
-          past3 a b = if-neg (decLt 1 controller) (λ h. omega arith) a b
-
-          pub stepped-refused-4 : length (l .events) < 8 * i + 8 → steppedAs controller at i l ≡ calledOf noEntry l
-          unfolding steppedAs
-          stepped-refused-4 short = past0 _ _ ∙ past1 _ _ ∙ past2 _ _ ∙ past3 _ _ ∙ if-pos (decLt (length (l .events)) (8 * i + 8)) short _ _
-
-          pub stepped-made :
-              8 * i + 8 ≤ length (l .events) →
-              steppedAs controller at i l ≡
-              ite (inMemory? (l .host) at 28) (steppedOnce (controllerOf controller) at i l) (calledOf blockBad l)
-          unfolding steppedAs
-          stepped-made room =
-              past0 _ _ ∙ past1 _ _ ∙ past2 _ _ ∙ past3 _ _ ∙ if-neg (decLt (length (l .events)) (8 * i + 8)) (λ h. omega arith) _ _
+    pub stepped-made : 8 * i + 8 ≤ length (l .events) → steppedAs controller at i l ≡ placed
+    stepped-made room =
+        stepped-is ∙ not-refused steppedShort controller l _ long0 long1 long one-of-two
+        ∙ if-neg (decLt (length (l .events)) (8 * i + 8)) (λ h. omega arith) _ _

@@ -16,7 +16,7 @@ use Rattle.demands.proofs.Tables.{run-keeps-blank}
 use Rattle.board.specs.Chain.{ran}
 use Rattle.abi.specs.Calls.{Called, CallLent, calledAs, calledOf, controllerOf, made, recordLeft, standsIn?, worldIn}
 use Rattle.abi.specs.Layouts.{recordBytes, recordIn}
-use Rattle.abi.proofs.Called.{called-made, called-refused-0, called-refused-1, called-refused-2, called-refused-3}
+use Rattle.abi.proofs.Called.{called-is, called-made, refused-0, refused-1, refused-2, refused-3}
 use Rattle.abi.proofs.Laws.{Narrow, left-reads-back, read-blank, record-length}
 use Rattle.abi.proofs.Left.{left-anew, left-as-it-came, stands-as-read}
 use Rattle.abi.proofs.Tracks.{past-written}
@@ -38,10 +38,10 @@ module _ (controller first allowance : ℕ) (l : CallLent) where
       by-cases (decLe 16 (length (l .outcome)))
       (λ fits.
       by-cases (decLe controller 1) (λ there. rw (called-made controller first allowance l fits0 fits1 fits there) run)
-      (λ none. rw (called-refused-3 controller first allowance l fits0 fits1 fits (omega arith)) (refused _)))
-      (λ short. rw (called-refused-2 controller first allowance l fits0 fits1 (omega arith)) (refused _)))
-      (λ short. rw (called-refused-1 controller first allowance l fits0 (omega arith)) (refused _)))
-      (λ short. rw (called-refused-0 controller first allowance l (omega arith)) (refused _))
+      (λ none. rw (called-is controller first allowance l ∙ refused-3 _ controller l _ fits0 fits1 fits (omega arith)) (refused _)))
+      (λ short. rw (called-is controller first allowance l ∙ refused-2 _ controller l _ fits0 fits1 (omega arith)) (refused _)))
+      (λ short. rw (called-is controller first allowance l ∙ refused-1 _ controller l _ fits0 (omega arith)) (refused _)))
+      (λ short. rw (called-is controller first allowance l ∙ refused-0 _ controller l _ (omega arith)) (refused _))
 
   pub record0-comes-back :
       (RunWritesRecord first allowance before Zero → ⊥) → calledAs controller first allowance l .lent .record0 ≡ l .record0

@@ -104,14 +104,18 @@ abbrev pub controllerOf : ℕ → Controller
 controllerOf zero = First
 controllerOf (suc n) = Second
 
--- A run of the controller with a number (02, K10). The lengths of the layouts' buffers are asked first, and then the number: there are two controllers.
-unfoldable pub calledAs : (controller first allowance : ℕ) → CallLent → Called
-calledAs controller first allowance l =
+-- What is asked before anything is done: the lengths of the layouts' buffers, the last of which has a code of its own, and then the number: there are two
+-- controllers.
+abbrev pub unlessRefused : (short controller : ℕ) → CallLent → Called → Called
+unlessRefused short controller l done =
     ite (decLt (length (l .record0)) recordLength) (calledOf record0Short l)
     (ite (decLt (length (l .record1)) recordLength) (calledOf record1Short l)
-    (ite (decLt (length (l .outcome)) outcomeLength) (calledOf outcomeShort l)
-    (ite (decLt 1 controller) (calledOf controllerUnknown l)
-    (made (controllerOf controller) first allowance l))))
+    (ite (decLt (length (l .outcome)) outcomeLength) (calledOf short l)
+    (ite (decLt 1 controller) (calledOf controllerUnknown l) done)))
+
+-- A run of the controller with a number (02, K10).
+unfoldable pub calledAs : (controller first allowance : ℕ) → CallLent → Called
+calledAs controller first allowance l = unlessRefused outcomeShort controller l (made (controllerOf controller) first allowance l)
 
 -- A run that is told no controller is the first one's.
 abbrev pub called : (first allowance : ℕ) → CallLent → Called

@@ -27,11 +27,8 @@ use Rattle.iopb.specs.Layout.{blockAt}
 use Rattle.unit.specs.declared.Controller.{Controller}
 use Rattle.wire.proofs.Decided.{inMemory?}
 use Rattle.wire.specs.Storing.{written}
-use Rattle.abi.specs.Calls.{CallLent, Called, calledOf, controllerOf, controllerUnknown, lentOf, record0Short, record1Short, recordLeft, worldIn}
-use Rattle.abi.specs.Layouts.{outcomeBytes, recordLength}
-
-abbrev pub steppedLength : ℕ
-steppedLength = 16
+use Rattle.abi.specs.Calls.{CallLent, Called, calledOf, controllerOf, lentOf, recordLeft, unlessRefused, worldIn}
+use Rattle.abi.specs.Layouts.{outcomeBytes}
 
 -- The codes of a step, beside those that it shares with a run; that of a block that cannot be fetched is the run's 3, "odd, or not wholly in host memory".
 abbrev pub steppedShort : ℕ
@@ -64,13 +61,9 @@ steppedOnce c at i l =
     (lentOf (w′ .host) (w′ .drive0 .image) (w′ .drive1 .image) (w′ .events) (recordLeft (l .record0) (w′ .drive0 .unit))
     (recordLeft (l .record1) (w′ .drive1 .unit)) (written (l .outcome) 0 told))
 
--- A step of the controller with a number. The lengths of the layouts' buffers are asked first, then the controller's number, as in a run; then room for the
--- entry, then the block's place.
+-- A step of the controller with a number: refused as a run is, then where there is no room for the entry, then by the block's place.
 unfoldable pub steppedAs : (controller at i : ℕ) → CallLent → Called
 steppedAs controller at i l =
-    ite (decLt (length (l .record0)) recordLength) (calledOf record0Short l)
-    (ite (decLt (length (l .record1)) recordLength) (calledOf record1Short l)
-    (ite (decLt (length (l .outcome)) steppedLength) (calledOf steppedShort l)
-    (ite (decLt 1 controller) (calledOf controllerUnknown l)
+    unlessRefused steppedShort controller l
     (ite (decLt (length (l .events)) (8 * i + 8)) (calledOf noEntry l)
-    (ite (inMemory? (l .host) at 28) (steppedOnce (controllerOf controller) at i l) (calledOf blockBad l))))))
+    (ite (inMemory? (l .host) at 28) (steppedOnce (controllerOf controller) at i l) (calledOf blockBad l)))

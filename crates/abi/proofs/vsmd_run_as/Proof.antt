@@ -1,7 +1,7 @@
 -- Each buffer of a layout that is too short is met before anything is stored, and then a controller that there is not.
 -- Past the four tests the call is the run.
 use Rattle.abi.specs.Calls.{lentOf, made}
-use Rattle.abi.proofs.Called.{called-made, called-refused-0, called-refused-1, called-refused-2, called-refused-3}
+use Rattle.abi.proofs.Called.{called-is, called-made, refused-0, refused-1, refused-2, refused-3}
 use denote.Ref.{now}
 use native.Mathlib.Omega.{arith}
 use mathlib.Core.Path.{sym, _∙_, ap}
@@ -10,16 +10,16 @@ use Rattle.abi.proofs.vsmd_run_as.Statement.{statement}
 use Rattle.abi.proofs.vsmd_run_as.Tie as tie
 
 returns : tie.Need-returns
-returns c = sym (called-refused-0 _ _ _ _ (omega arith))
+returns c = sym (called-is _ _ _ _ ∙ refused-0 _ _ _ _ (omega arith))
 
 returns-2 : tie.Need-returns-2
-returns-2 c = sym (called-refused-1 _ _ _ _ (omega arith) (omega arith))
+returns-2 c = sym (called-is _ _ _ _ ∙ refused-1 _ _ _ _ (omega arith) (omega arith))
 
 returns-3 : tie.Need-returns-3
-returns-3 c = sym (called-refused-2 _ _ _ _ (omega arith) (omega arith) (omega arith))
+returns-3 c = sym (called-is _ _ _ _ ∙ refused-2 _ _ _ _ (omega arith) (omega arith) (omega arith))
 
 returns-4 : tie.Need-returns-4
-returns-4 c = sym (called-refused-3 _ _ _ _ (omega arith) (omega arith) (omega arith) (omega arith))
+returns-4 c = sym (called-is _ _ _ _ ∙ refused-3 _ _ _ _ (omega arith) (omega arith) (omega arith) (omega arith))
 
 controller-of-requires : tie.Need-controller-of-requires
 controller-of-requires c κs = search needs

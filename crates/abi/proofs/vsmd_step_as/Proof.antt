@@ -3,7 +3,8 @@
 use mathlib.Core.Logic.{ite}
 use Rattle.abi.specs.Calls.{calledOf, lentOf}
 use Rattle.abi.specs.Stepping.{blockBad, steppedOnce}
-use Rattle.abi.proofs.Stepping.{stepped-made, stepped-refused-0, stepped-refused-1, stepped-refused-2, stepped-refused-3, stepped-refused-4}
+use Rattle.abi.proofs.Called.{refused-0, refused-1, refused-2, refused-3}
+use Rattle.abi.proofs.Stepping.{stepped-is, stepped-made, stepped-no-entry}
 use Rattle.wire.proofs.Decided.{inMemory?}
 use denote.Ref.{now}
 use native.Mathlib.Omega.{arith}
@@ -13,16 +14,16 @@ use Rattle.abi.proofs.vsmd_step_as.Statement.{statement}
 use Rattle.abi.proofs.vsmd_step_as.Tie as tie
 
 returns : tie.Need-returns
-returns c = sym (stepped-refused-0 _ _ _ _ (omega arith))
+returns c = sym (stepped-is _ _ _ _ ∙ refused-0 _ _ _ _ (omega arith))
 
 returns-2 : tie.Need-returns-2
-returns-2 c = sym (stepped-refused-1 _ _ _ _ (omega arith) (omega arith))
+returns-2 c = sym (stepped-is _ _ _ _ ∙ refused-1 _ _ _ _ (omega arith) (omega arith))
 
 returns-3 : tie.Need-returns-3
-returns-3 c = sym (stepped-refused-2 _ _ _ _ (omega arith) (omega arith) (omega arith))
+returns-3 c = sym (stepped-is _ _ _ _ ∙ refused-2 _ _ _ _ (omega arith) (omega arith) (omega arith))
 
 returns-4 : tie.Need-returns-4
-returns-4 c = sym (stepped-refused-3 _ _ _ _ (omega arith) (omega arith) (omega arith) (omega arith))
+returns-4 c = sym (stepped-is _ _ _ _ ∙ refused-3 _ _ _ _ (omega arith) (omega arith) (omega arith) (omega arith))
 
 mul-if5 : tie.Need-mul-if5
 mul-if5 c = search needs
@@ -31,7 +32,7 @@ add-if5 : tie.Need-add-if5
 add-if5 c = search needs
 
 returns-5 : tie.Need-returns-5
-returns-5 c = sym (stepped-refused-4 _ _ _ _ (omega arith) (omega arith) (omega arith) (omega arith) (omega arith))
+returns-5 c = sym (stepped-no-entry _ _ _ _ (omega arith) (omega arith) (omega arith) (omega arith) (omega arith))
 
 controller-of-requires : tie.Need-controller-of-requires
 controller-of-requires c κs = search needs
