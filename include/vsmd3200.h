@@ -194,7 +194,8 @@ extern "C" {
  *   16       order of the tracks: 00 by head, 01 by cylinder
  *   17       holder of the drive: 00 nobody, 01 the first controller, 02 the second
  *   18, 19   how many pairs count, 0 to 32
- *   20..275  room for 32 pairs of 8 bytes, each a bad track and then its spare; a track is its cylinder (2 bytes), its head (1) and 00
+ *   20..275  room for 32 pairs of 8 bytes, those that count first, each a bad track and then its spare; a track is its cylinder (2 bytes), its
+ *            head (1) and 00. An initialize that succeeds makes all of these bytes 00
  *
  * With H the greater end (start head plus heads) of the volumes present, a track is on the drive where its cylinder is below C, its head
  * below H, counted over the whole drive whatever volume has it, and its last byte 00.
@@ -235,8 +236,9 @@ extern "C" {
  * layout, or with a number over 02 there, is held by nobody; the unit is not initialized then, and an initialize by either controller
  * mends it. A machine that is gone gives nothing up: vsmd_record_release does so for it.
  *
- * The bytes after the last pair that counts are neither read nor written. A record that a block changed is stored anew up to there: an 85
- * stores its pair after the others, and a table that was cleared has its old bytes still, under the number 0.
+ * What stands in bytes 20 to 275 past the pairs that count may be anything, is never judged, and comes back as it came, but for two blocks: an
+ * 85 that ends with status 80 stores its pair there, after the others, and an initialize that does makes every byte of the table 00, those that
+ * counted and those that did not. After it only what a later 85 adds stands there.
  *
  * An image has C x H x S sectors of B bytes, one after the other, and then a mark byte for each sector: 00 for a good one, anything else
  * for one that cannot be read. An image may be longer; what comes after the marks is never touched. */
@@ -397,8 +399,9 @@ extern "C" {
 
 /* ---- calls -----------------------------------------------------------------------------------------------------------------------*/
 
-/* The version of the layouts above, and the lengths that the library asks of a record and of an outcome. Compare them with
- * VSMD_LAYOUT_VERSION, VSMD_RECORD_LEN and VSMD_OUTCOME_LEN once, at start: they tell of an archive that does not go with this header. */
+/* The version of the layouts above, and the lengths that the library asks of a record and of an outcome. What a step leaves is as long as an
+ * outcome. Compare them with VSMD_LAYOUT_VERSION, VSMD_RECORD_LEN, VSMD_OUTCOME_LEN and VSMD_STEPPED_LEN once, at start, as
+ * vsmd_layouts_match does: they tell of an archive that does not go with this header. */
 uint32_t vsmd_layout_version(void);
 uint64_t vsmd_record_len(void);
 uint64_t vsmd_outcome_len(void);
@@ -411,9 +414,10 @@ uint64_t vsmd_outcome_len(void);
  *   image0, image1   the images of units 0 and 1. Out: the data that writes, gathers and formats moved. Their lengths may be 0;
  *                    vsmd_no_image is an address for such a one.
  *   events           the event buffer. Out: an entry for each block run.
- *   record0, record1 the records of units 0 and 1. Out: stored anew up to the last pair that counts where a block changed the record
- *                    (an initialize, heads that stand elsewhere, a pair more, another holder), and otherwise byte for byte as they
- *                    came in. Bytes after the last pair that counts, and after the first 276, are not touched.
+ *   record0, record1 the records of units 0 and 1. Out: all 276 bytes stored anew where a block changed the record (an initialize, heads
+ *                    that stand elsewhere, a pair more, another holder), and otherwise byte for byte as they came in. Those of the
+ *                    table past the pairs that count are stored as they came, or as 00 after an initialize. Bytes after the first
+ *                    276 are not touched.
  *   outcome          In: anything. Out: the outcome in its first 16 bytes; those after them are not touched.
  *   first            the address of the first block.
  *   allowance        how many blocks may be fetched, 1 to 64; a chain that links in a circle ends by it.
@@ -472,8 +476,8 @@ uint32_t vsmd_run_as(uint8_t *host, uint64_t host_len, uint8_t *image0, uint64_t
  * ended, the loop can tell: VSMD_BLOCK_FAILED where stepped has an answer, VSMD_LINK_BAD where a step after the first returns VSMD_FIRST_BAD,
  * VSMD_ALLOWANCE_SPENT where the loop stopped and the last block's link was to be followed, and otherwise VSMD_DONE.
  *
- * A record is stored after each step that changed it, and by a run once. So a chain that maps tracks and then initializes leaves other bytes in a
- * record after the last pair that counts than a run does; nobody reads them. */
+ * A record is stored after each step that changed it, and by a run once. Where nobody changes anything between two steps, they leave in every byte of
+ * host memory, images, event buffer and records what a run of the chain with the same allowance leaves. */
 uint32_t vsmd_step_as(uint8_t *host, uint64_t host_len, uint8_t *image0, uint64_t image0_len, uint8_t *image1, uint64_t image1_len,
                       uint8_t *events, uint64_t events_len, uint8_t *record0, uint64_t record0_len, uint8_t *record1,
                       uint64_t record1_len, uint8_t *stepped, uint64_t stepped_len, uint32_t at, uint32_t index, uint32_t controller);
@@ -555,7 +559,8 @@ static inline void vsmd_put32(uint8_t *bytes, uint32_t number)
  * versions have come together, and no record or outcome means what it says here. */
 static inline int vsmd_layouts_match(void)
 {
-    return vsmd_layout_version() == VSMD_LAYOUT_VERSION && vsmd_record_len() == VSMD_RECORD_LEN && vsmd_outcome_len() == VSMD_OUTCOME_LEN;
+    return vsmd_layout_version() == VSMD_LAYOUT_VERSION && vsmd_record_len() == VSMD_RECORD_LEN && vsmd_outcome_len() == VSMD_OUTCOME_LEN &&
+           vsmd_outcome_len() == VSMD_STEPPED_LEN;
 }
 
 /* An address to hand over, with length 0, for the image of a unit that has none; it serves for any empty buffer. NULL does not: the library's

@@ -105,6 +105,13 @@ static void expect_lent(const struct lent *got, const struct lent *wanted)
     expect_bytes("outcome", got->outcome, wanted->outcome, sizeof got->outcome);
 }
 
+/* What an initialize that succeeds leaves of the table of unit 0: no pair counts, and every byte of its room is 00. */
+static void cleared(struct lent *wanted)
+{
+    vsmd_put16(wanted->record0 + VSMD_RECORD_AT_PAIRS, 0);
+    memset(wanted->record0 + VSMD_RECORD_AT_TABLE, 0, RECORD - VSMD_RECORD_AT_TABLE);
+}
+
 /* Every byte of the lent buffers gets a value of its own, as far as a byte can, and the example is laid over it. Unit 0 is not
  * initialized, and what stands in the room for its pairs is anything; record 1 is of no known version. */
 static void lay_out(struct lent *l)
@@ -143,6 +150,7 @@ static void layouts(void)
     expect_number("the layouts' version", vsmd_layout_version(), VSMD_LAYOUT_VERSION);
     expect_number("the length of a record", vsmd_record_len(), VSMD_RECORD_LEN);
     expect_number("the length of an outcome", vsmd_outcome_len(), VSMD_OUTCOME_LEN);
+    expect_number("whether the layouts match", (uint64_t)vsmd_layouts_match(), 1);
 }
 
 /* A buffer too short for its layout: its own code, record 0 first, and every byte as it was. */
@@ -197,6 +205,7 @@ static void the_example(struct lent *l)
     memcpy(wanted.host + DATA + 64, wanted.image0 + 768, 64);
     memcpy(wanted.events, events_after, sizeof events_after);
     memcpy(wanted.record0, record_after, sizeof record_after);
+    cleared(&wanted);
     memcpy(wanted.outcome, outcome_after, sizeof outcome_after);
     expect_lent(l, &wanted);
     expect_lent(&as_first, &wanted);
@@ -258,7 +267,7 @@ static void one_step(const struct lent *by_run)
     wanted.host[BLOCK0 + 2] = 0x80;
     wanted.host[BLOCK0 + 3] = 0x00;
     memcpy(wanted.events + 8 * 64, events_after, VSMD_EVENT_LEN); /* the last entry that this buffer has room for */
-    memcpy(wanted.record0, by_run->record0, VSMD_RECORD_AT_TABLE);
+    memcpy(wanted.record0, by_run->record0, RECORD);
     wanted.record0[VSMD_RECORD_AT_CYLINDER + 1] = 0;
     memcpy(wanted.outcome, stepped_after[0], sizeof stepped_after[0]);
     expect_lent(&l, &wanted);
@@ -316,6 +325,38 @@ static void refusals_of_steps(void)
     expect_lent(&l, &before);
 }
 
+/* An 85, an initialize and, where there is more, another 85 in one chain, by a run and by steps: of the first pair no byte is left. */
+static void a_pair_is_cleared_in_its_chain(int more)
+{
+    struct lent l, by_steps;
+    uint8_t wanted[VSMD_RECORD_LEN];
+    uint32_t at = BLOCK0, index = 0;
+    lay_out(&l);
+    memcpy(l.record0, record_after, sizeof record_after); /* what stands in the room for its pairs is anything */
+    memcpy(l.host + BLOCK0, remap, sizeof remap);
+    l.host[BLOCK0 + 1] = VSMD_OPTION_LK;
+    vsmd_put32(l.host + BLOCK0 + VSMD_BLOCK_AT_LINK, BLOCK1);
+    memcpy(l.host + BLOCK1, initialize, sizeof initialize);
+    l.host[BLOCK1 + 1] = more ? VSMD_OPTION_LK : 0;
+    vsmd_put32(l.host + BLOCK1 + VSMD_BLOCK_AT_LINK, DATA);
+    memcpy(l.host + DATA, remap, sizeof remap);
+    l.host[DATA + VSMD_BLOCK_AT_CYLINDER + 1] = 2;
+    by_steps = l;
+    expect_number("the answer of the 85 and the initialize", run_with(&l, RECORD, RECORD, 16), VSMD_DONE);
+    expect_number("the blocks of their chain", vsmd_outcome_blocks(l.outcome), more ? 3 : 2);
+    vsmd_record_make(wanted, 10, 4, 64, 0, 2, 2, 1, 0);
+    if (more)
+        vsmd_record_add_pair(wanted, 2, 0, 9, 2);
+    expect_bytes("the record after an 85 and an initialize", l.record0, wanted, sizeof wanted);
+    do {
+        expect_number("what a step of their chain returns", step_as(&by_steps, at, index, VSMD_CONTROLLER_FIRST), 0);
+        at = vsmd_stepped_link(by_steps.outcome);
+        index++;
+    } while (vsmd_stepped_follow(by_steps.outcome) && index < VSMD_ALLOWANCE_MOST);
+    memcpy(by_steps.outcome, l.outcome, sizeof l.outcome);
+    expect_lent(&by_steps, &l);
+}
+
 /* The example by run is what each controller's loop has to leave. */
 static void steps(const struct lent *by_run)
 {
@@ -323,6 +364,8 @@ static void steps(const struct lent *by_run)
     the_example_by_steps(by_run, VSMD_CONTROLLER_SECOND);
     one_step(by_run);
     a_step_that_fails();
+    a_pair_is_cleared_in_its_chain(0);
+    a_pair_is_cleared_in_its_chain(1);
     refusals_of_steps();
 }
 
@@ -471,10 +514,11 @@ static void ended(struct lent *wanted, uint8_t status, uint8_t error, uint8_t fa
     wanted->events[7] = travel;
 }
 
-/* An 85 adds its pair and changes nothing else; the same once more is refused. */
+/* An 85 adds its pair and changes nothing else, whatever stands past it; the same once more is refused. */
 static void a_pair_is_added(struct lent *l)
 {
     struct lent wanted;
+    memset(l->record0 + VSMD_RECORD_AT_TABLE, 0x5A, RECORD - VSMD_RECORD_AT_TABLE);
     memcpy(l->host + BLOCK0, remap, sizeof remap);
     wanted = *l;
     expect_number("the answer of the 85", run_with(l, RECORD, RECORD, 16), VSMD_DONE);
@@ -533,7 +577,7 @@ static void pairs_told(const struct lent *l)
     expect_bytes("the record made with the pair", other, l->record0, VSMD_RECORD_AT_TABLE + VSMD_PAIR_LEN);
 }
 
-/* An initialize stores the number 0 and leaves the bytes of the table. */
+/* An initialize clears the table: the number, the pair, and what stands past it. */
 static void the_table_is_cleared(struct lent *l)
 {
     struct lent wanted;
@@ -544,7 +588,7 @@ static void the_table_is_cleared(struct lent *l)
     expect_number("the answer of the initialize", run_with(l, RECORD, RECORD, 16), VSMD_DONE);
     ended(&wanted, 0x80, 0x00, 0, 0, 0);
     wanted.record0[VSMD_RECORD_AT_CYLINDER + 1] = 0;
-    wanted.record0[VSMD_RECORD_AT_PAIRS + 1] = 0;
+    cleared(&wanted);
     expect_lent(l, &wanted);
 }
 

@@ -1,70 +1,66 @@
 -- What a call comes to, by which of its buffers are long enough and whether there is such a controller.
 -- Each is a case of the definition.
-use Prim.Native.Nat.{ℕ, _*_, _≤_, _<_, min}
+use Prim.Native.Nat.{ℕ, _≤_, _<_}
 use mathlib.Core.List.{List}
 use mathlib.Core.Logic.{if-neg, if-pos, ite}
-use mathlib.Core.Path.{_≡_, refl, _∙_, ap}
+use mathlib.Core.Path.{_≡_, refl, sym, _∙_, ap}
 use native.Mathlib.Decide.{decLt}
 use native.Mathlib.Omega.{arith}
 use lib.ListN.{length}
 use Rattle.answers.specs.Numbers.{runNumber}
 use Rattle.board.specs.declared.chain.Outcome.{Outcome}
 use Rattle.board.specs.declared.inspection.Part.{Part}
-use Rattle.board.specs.Chain.{Ending, ran}
+use Rattle.board.specs.Chain.{Ending, ends, ran}
 use Rattle.board.specs.Inspection.{partOf}
-use Rattle.abi.specs.Calls.{CallLent, Called, answered, calledAs, calledOf, controllerOf, controllerUnknown, imageNumber, inspectedOf, inspection, lentOf, made, outcomeShort, record0Short, record1Short, recordLeft, unlessRefused, worldIn}
-use Rattle.abi.specs.Layouts.{outcomeBytes, recordIn, wordsFrom}
+use Rattle.abi.specs.Calls.{CallLent, Called, answered, calledAs, calledOf, controllerOf, controllerUnknown, imageNumber, inspectedOf, inspection, lentOf, made, outcomeShort, record0Short, record1Short, recordLeft, unlessRefused}
+use Rattle.abi.specs.Layouts.{outcomeBytes, recordIn}
+use Rattle.abi.specs.Unread.{filledIn, readIn}
+use Rattle.abi.proofs.Unread.{fill, run-filled, worldRead}
 use Rattle.board.specs.declared.Units.{Units}
 use Rattle.unit.specs.declared.Controller.{Controller}
-use Rattle.unit.specs.Standing.{UnitRecord, byValue, noTracks, pairs, unitOf}
+use Rattle.unit.specs.Standing.{unitOf}
 use Rattle.board.specs.Run.{CameTo, worldOf}
 use Rattle.wire.specs.Storing.{written}
 
--- A run that was made, from what the code ran and stored, and from what it read.
-pub answered-is :
+-- A run that was made, from what the code ran and stored; what it left of tracks that were not read is as it stands in the bytes.
+answered-is :
     (l : CallLent) (e : Ending) {c : Controller} {r : Outcome} {number : ℕ} {host image0 image1 events tracks0 tracks1 record0 record1 outcome : List ℕ} →
     CameTo e (worldOf c host image0 image1 events tracks0 tracks1 (r .units)) r →
-    record0 ≡ recordLeft (l .record0) (unitOf (r .units .zero) tracks0) →
-    record1 ≡ recordLeft (l .record1) (unitOf (r .units .one) tracks1) →
+    record0 ≡ recordLeft (l .record0) (filledIn (l .record0) (unitOf (r .units .zero) tracks0)) →
+    record1 ≡ recordLeft (l .record1) (filledIn (l .record1) (unitOf (r .units .one) tracks1)) →
     number ≡ runNumber (r .answer) →
     outcome ≡ written (l .outcome) 0 (outcomeBytes number (r .failed) (r .blocks) (r .sectors)) →
-    calledOf number (lentOf host image0 image1 events record0 record1 outcome) ≡ answered l e
+    calledOf number (lentOf host image0 image1 events record0 record1 outcome) ≡
+    answered l (ends (e .answer) (e .failed) (e .tally) (fill c l (e .world)))
 answered-is l e came left0 left1 is-number left =
     let on-host = ap (λ w. w .host) (came .world) in
     let on-image0 = ap (λ w. w .drive0 .image) (came .world) in
     let on-image1 = ap (λ w. w .drive1 .image) (came .world) in
     let on-events = ap (λ w. w .events) (came .world) in
-    let on-unit0 = ap (λ w. w .drive0 .unit) (came .world) in
-    let on-unit1 = ap (λ w. w .drive1 .unit) (came .world) in
+    let on-unit0 = ap (λ w. filledIn (l .record0) (w .drive0 .unit)) (came .world) in
+    let on-unit1 = ap (λ w. filledIn (l .record1) (w .drive1 .unit)) (came .world) in
     let on-answer = ap (λ o. o .answer) (came .result) in
     let on-failed = ap (λ o. o .failed) (came .result) in
     let on-blocks = ap (λ o. o .blocks) (came .result) in
     let on-sectors = ap (λ o. o .sectors) (came .result) in
     cc
 
--- A record and the tracks that were read for it make the record that stands in the bytes.
-pub tracks-read :
-    (bytes : List ℕ) (u : UnitRecord) {n : ℕ} {tracks : List ℕ} →
-    byValue u ≡ byValue (recordIn bytes) →
-    n ≡ pairs u →
-    tracks ≡ written noTracks 0 (wordsFrom bytes 20 (2 * min n 32)) →
-    unitOf (byValue u) tracks ≡ recordIn bytes
-tracks-read bytes u is counts read = rw (read, counts, is)
-
+-- And from what it read.
 pub made-is :
     (c : Controller) (first allowance : ℕ) (l : CallLent) (units : Units) {r : Outcome} {number : ℕ}
     {tracks0 tracks1 host image0 image1 events tracks0′ tracks1′ record0 record1 outcome : List ℕ} →
-    unitOf (units .zero) tracks0 ≡ recordIn (l .record0) →
-    unitOf (units .one) tracks1 ≡ recordIn (l .record1) →
+    unitOf (units .zero) tracks0 ≡ readIn (l .record0) →
+    unitOf (units .one) tracks1 ≡ readIn (l .record1) →
     CameTo (ran first allowance (worldOf c (l .host) (l .image0) (l .image1) (l .events) tracks0 tracks1 units))
     (worldOf c host image0 image1 events tracks0′ tracks1′ (r .units)) r →
-    record0 ≡ recordLeft (l .record0) (unitOf (r .units .zero) tracks0′) →
-    record1 ≡ recordLeft (l .record1) (unitOf (r .units .one) tracks1′) →
+    record0 ≡ recordLeft (l .record0) (filledIn (l .record0) (unitOf (r .units .zero) tracks0′)) →
+    record1 ≡ recordLeft (l .record1) (filledIn (l .record1) (unitOf (r .units .one) tracks1′)) →
     number ≡ runNumber (r .answer) →
     outcome ≡ written (l .outcome) 0 (outcomeBytes number (r .failed) (r .blocks) (r .sectors)) →
     calledOf number (lentOf host image0 image1 events record0 record1 outcome) ≡ made c first allowance l
 made-is c first allowance l units is-zero is-one came left0 left1 is-number left =
-    answered-is l (ran first allowance (worldIn c l)) (rw (is-zero, is-one) at came) left0 left1 is-number left
+    answered-is l (ran first allowance (worldRead c l)) (rw (is-zero, is-one) at came) left0 left1 is-number left ∙
+    ap (answered l) (sym (run-filled c l first allowance))
 
 -- Past the tests before it, each test that a run and a step begin with.
 module _ (short controller : ℕ) (l : CallLent) (done : Called) where

@@ -1,5 +1,8 @@
+pub mod Again
+pub mod AsRead
 pub mod Called
 pub mod EachForItself
+pub mod InSteps
 pub mod Laws
 pub mod Left
 pub mod Outcomes
@@ -8,4 +11,5 @@ pub mod Standings
 pub mod Stepping
 pub mod Stored
 pub mod Tracks
+pub mod Unread
 pub mod Untouched

@@ -1,5 +1,5 @@
 -- What a step comes to, by which of its buffers are long enough, whether there is such a controller, and whether the block can be fetched.
--- Each is a case of the definition; what was run is board's step, of the records that stand in the bytes.
+-- Each is a case of the definition; what was run is board's step, of the records as they were read.
 use Prim.Native.Nat.{ℕ, _+_, _*_, _≤_, _<_}
 use mathlib.Core.List.{List}
 use mathlib.Core.Logic.{if-neg, if-pos, ite}
@@ -19,17 +19,18 @@ use Rattle.unit.specs.Standing.{unitOf}
 use Rattle.wire.proofs.Decided.{inMemory?}
 use Rattle.wire.specs.Memory.{InMemory}
 use Rattle.wire.specs.Storing.{written}
-use Rattle.abi.specs.Calls.{CallLent, Called, calledOf, controllerOf, lentOf, recordLeft, unlessRefused, worldIn}
-use Rattle.abi.specs.Layouts.{recordIn}
+use Rattle.abi.specs.Calls.{CallLent, Called, calledOf, controllerOf, lentOf, recordLeft, unlessRefused}
+use Rattle.abi.specs.Unread.{filledIn, readIn}
 use Rattle.abi.proofs.Called.{not-refused}
+use Rattle.abi.proofs.Unread.{answer-filled, sectors-filled, world-filled, worldRead}
 use Rattle.abi.specs.Stepping.{blockBad, goesOn, noEntry, steppedAs, steppedBytes, steppedOnce, steppedShort}
 
--- A step of the world that stands in the bytes, as the code ran it and stored what it left.
+-- A step, as the code read it, ran it and stored what it left. Tracks that were not read are as they stand in the bytes.
 stood-once :
     (c : Controller) (at i : ℕ) (l : CallLent) (s : Stepped) {host image0 image1 events tracks0 tracks1 record0 record1 stepped : List ℕ} →
-    SteppedTo (worldIn c l) at i (worldOf c host image0 image1 events tracks0 tracks1 (s .units)) s →
-    record0 ≡ recordLeft (l .record0) (unitOf (s .units .zero) tracks0) →
-    record1 ≡ recordLeft (l .record1) (unitOf (s .units .one) tracks1) →
+    SteppedTo (worldRead c l) at i (worldOf c host image0 image1 events tracks0 tracks1 (s .units)) s →
+    record0 ≡ recordLeft (l .record0) (filledIn (l .record0) (unitOf (s .units .zero) tracks0)) →
+    record1 ≡ recordLeft (l .record1) (filledIn (l .record1) (unitOf (s .units .one) tracks1)) →
     stepped ≡ written (l .outcome) 0 (steppedBytes (blockNumber (s .answer)) (goesOn (s .answer) (s .linked)) (s .sectors) (s .link)) →
     calledOf 0 (lentOf host image0 image1 events record0 record1 stepped) ≡ steppedOnce c at i l
 stood-once c at i l s to left0 left1 told =
@@ -37,13 +38,13 @@ stood-once c at i l s to left0 left1 told =
     let on-image0 = ap (λ w. w .drive0 .image) (to .world) in
     let on-image1 = ap (λ w. w .drive1 .image) (to .world) in
     let on-events = ap (λ w. w .events) (to .world) in
-    let on-unit0 = ap (λ w. w .drive0 .unit) (to .world) in
-    let on-unit1 = ap (λ w. w .drive1 .unit) (to .world) in
+    let on-unit0 = ap (λ w. filledIn (l .record0) (w .drive0 .unit)) (to .world) in
+    let on-unit1 = ap (λ w. filledIn (l .record1) (w .drive1 .unit)) (to .world) in
     let on-answer = to .answer in
     let on-sectors = to .sectors in
     let on-linked = to .linked in
     let on-link = to .link in
-    cc
+    rw (world-filled c l at i, answer-filled c l at i, sectors-filled c l at i) (cc)
 
 module _ (c : Controller) (at i : ℕ) (l : CallLent) (units : Units) (tracks0 tracks1 : List ℕ) where
   -- The world that was run.
@@ -56,12 +57,12 @@ module _ (c : Controller) (at i : ℕ) (l : CallLent) (units : Units) (tracks0 t
   -- A block that was run,
   pub once-is :
       (s : Stepped) (r : Single) (tracks0′ tracks1′ : List ℕ) {host image0 image1 events record0 record1 stepped : List ℕ} →
-      unitOf (units .zero) tracks0 ≡ recordIn (l .record0) →
-      unitOf (units .one) tracks1 ≡ recordIn (l .record1) →
+      unitOf (units .zero) tracks0 ≡ readIn (l .record0) →
+      unitOf (units .one) tracks1 ≡ readIn (l .record1) →
       r ≡ Single.Ran s →
       RanOne ran at i host image0 image1 events tracks0′ tracks1′ r →
-      record0 ≡ recordLeft (l .record0) (unitOf (s .units .zero) tracks0′) →
-      record1 ≡ recordLeft (l .record1) (unitOf (s .units .one) tracks1′) →
+      record0 ≡ recordLeft (l .record0) (filledIn (l .record0) (unitOf (s .units .zero) tracks0′)) →
+      record1 ≡ recordLeft (l .record1) (filledIn (l .record1) (unitOf (s .units .one) tracks1′)) →
       stepped ≡ written (l .outcome) 0 (steppedBytes (blockNumber (s .answer)) (goesOn (s .answer) (s .linked)) (s .sectors) (s .link)) →
       calledOf 0 (lentOf host image0 image1 events record0 record1 stepped) ≡ steps
   once-is s r tracks0′ tracks1′ {host} {image0} {image1} {events} is-zero is-one is-ran done left0 left1 told =

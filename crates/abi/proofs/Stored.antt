@@ -5,10 +5,12 @@ use mathlib.Core.Bool.{Bool}
 use mathlib.Core.List.{List, [], _∷_, _++_}
 use mathlib.Core.Path.{_≡_, refl}
 use native.Mathlib.Numerals.{add-one}
-use lib.ListN.{set}
+use lib.ListN.{set, take}
 use Rattle.geometry.specs.declared.Geometry.{Geometry}
 use Rattle.geometry.specs.declared.Volume.{Volume}
-use Rattle.abi.specs.Layouts.{geometryBytes, openingBytes, outcomeBytes, trackBytes, volumeBytes}
+use Rattle.unit.specs.Standing.{UnitRecord, cylinder, geometry, initialized, pairs, table}
+use Rattle.abi.specs.Layouts.{geometryBytes, headBytes, openingBytes, orderAndHolder, outcomeBytes, trackBytes, volumeBytes}
+use Rattle.abi.specs.Unread.{known}
 use Rattle.wire.specs.Storing.{stored, twoBytes, with16, with32, written}
 
 pub two-stored : (bytes : List ℕ) (at a b : ℕ) → set (set bytes at a) (at + 1) b ≡ written bytes at (a ∷ b ∷ [])
@@ -30,13 +32,17 @@ unfolding written stored
 geometry-stored bytes c s b v w = refl
 
 pub record-stored :
-    (bytes : List ℕ) (i : Bool) (g : Geometry) (y o h n : ℕ) (ts : List ℕ) →
-    written
-    (with16 (written (with16 (written (written bytes 0 (openingBytes i)) 4 (geometryBytes g)) 14 y) 16 (o ∷ h ∷ [])) 18 n)
-    20 (trackBytes ts)
-    ≡ written bytes 0 (openingBytes i ++ geometryBytes g ++ twoBytes y ++ (o ∷ h ∷ []) ++ twoBytes n ++ trackBytes ts)
+    (bytes : List ℕ) (u : UnitRecord) {i : Bool} {g : Geometry} {y n m k : ℕ} {first second third fourth fifth : List ℕ} →
+    i ≡ initialized u → g ≡ geometry u → y ≡ cylinder u → n ≡ pairs u → m ≡ pairs u → k ≡ known m (table u) →
+    first ≡ written bytes 0 (openingBytes i) →
+    second ≡ written first 4 (geometryBytes g) →
+    third ≡ with16 second 14 y →
+    fourth ≡ written third 16 (orderAndHolder u) →
+    fifth ≡ with16 fourth 18 n →
+    written fifth 20 (trackBytes (take k (table u))) ≡ written bytes 0 (headBytes u ++ trackBytes (take (known (pairs u) (table u)) (table u)))
 unfolding written stored
-record-stored bytes i g y o h n ts = refl
+record-stored bytes u is-i is-g is-y is-n is-m is-k one two three four five =
+    rw (five, four, three, two, one, is-k, is-m, is-n, is-y, is-g, is-i) refl
 
 -- An outcome, in the same way.
 pub outcome-stored :

@@ -6,7 +6,7 @@ use mathlib.Core.Path.{_≡_, refl, sym, ap, _∙_}
 use native.Mathlib.Nat.{add-assoc, add-zero, zero-add}
 use native.Mathlib.Omega.{arith}
 use lib.ListN.{drop, getD, length, set, take}
-use lib.Seq.{ext-getD, getD-append-add, getD-set-other, getD-take, length-take-le, sets-eq, take-suc}
+use lib.Seq.{ext-getD, getD-append-add, getD-set-other, getD-take, length-take-le, set-getD, sets-eq, take-suc}
 use Rattle.wire.specs.Words.{be32, fourBytes, word}
 use Rattle.wire.proofs.Laws.{word-same}
 use Rattle.block.proofs.Entries.{with32-is, written-row}
@@ -89,7 +89,7 @@ unfolding trackBytes
 length-tracks [] = refl
 length-tracks (t ∷ ts) = omega (arith, length-tracks ts)
 
-tracks-row : (ts us : List ℕ) → trackBytes (ts ++ us) ≡ trackBytes ts ++ trackBytes us
+pub tracks-row : (ts us : List ℕ) → trackBytes (ts ++ us) ≡ trackBytes ts ++ trackBytes us
 unfolding trackBytes
 tracks-row [] us = refl
 tracks-row (t ∷ ts) us = rw (tracks-row ts us)
@@ -119,3 +119,29 @@ tracks-back (t ∷ ts) rest low =
     let first : be32 (fourBytes t ++ (trackBytes ts ++ rest)) 0 ≡ t = omega (arith, low 0 (omega arith)) in
     let others = words-past (fourBytes t) (trackBytes ts ++ rest) 0 (length ts) ∙ tracks-back ts rest (λ i less. low (suc i) (omega arith)) in
     cc
+
+-- ---- bytes that stand there already
+
+-- A list stored where it stands changes nothing.
+pub written-the-same : (l : List ℕ) (at : ℕ) (xs : List ℕ) → ((i : ℕ) → i < length xs → getD xs i 0 ≡ getD l (at + i) 0) → written l at xs ≡ l
+unfolding written
+written-the-same l at [] same = refl
+written-the-same l at (x ∷ xs) same =
+    let first : set l at x ≡ l = ap (set l at) (same 0 (omega arith) ∙ ap (λ (j : ℕ). getD l j 0) (add-zero at)) ∙ set-getD l at 0 in
+    ap (λ (k : List ℕ). written k (suc at) xs) first ∙
+    written-the-same l (suc at) xs
+    (λ i less. same (suc i) (omega arith) ∙ ap (λ (j : ℕ). getD l j 0) (omega arith))
+
+-- Words that were read are stored as the bytes that they were read from.
+pub bytes-back :
+    (bytes : List ℕ) → ((i : ℕ) → getD bytes i 0 < 256) → (at n i : ℕ) → i < 4 * n →
+    getD (trackBytes (wordsFrom bytes at n)) i 0 ≡ getD bytes (at + i) 0
+unfolding wordsFrom trackBytes word
+bytes-back bytes low at zero i less = absurd (omega arith)
+bytes-back bytes low at (suc n) zero less = omega (arith, low (at + 0), low (at + 1), low (at + 2), low (at + 3))
+bytes-back bytes low at (suc n) (suc zero) less = omega (arith, low (at + 0), low (at + 1), low (at + 2), low (at + 3))
+bytes-back bytes low at (suc n) (suc (suc zero)) less = omega (arith, low (at + 0), low (at + 1), low (at + 2), low (at + 3))
+bytes-back bytes low at (suc n) (suc (suc (suc zero))) less = omega (arith, low (at + 0), low (at + 1), low (at + 2), low (at + 3))
+bytes-back bytes low at (suc n) (suc (suc (suc (suc i)))) less =
+    let next : at + 4 + i ≡ at + suc (suc (suc (suc i))) = omega arith in
+    bytes-back bytes low (at + 4) n i (omega arith) ∙ ap (λ (j : ℕ). getD bytes j 0) next

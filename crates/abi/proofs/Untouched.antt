@@ -1,25 +1,23 @@
 -- The bytes of a record are stored only where a block changed the record: those of any other come back as they were, also from a call
--- that is refused. A run keeps the record of a unit of which it writes none, a record that is the same is left as it came, and a store goes no
--- further than the pairs that count. What a call leaves reads back as the record that its run left.
-use Prim.Native.Nat.{ℕ, _+_, _*_, _≤_, min}
-use mathlib.Core.List.{List}
+-- that is refused. A run keeps the record of a unit of which it writes none, and a record that is the same is left as it came. What a call leaves reads back
+-- as the record that its run left.
+use Prim.Native.Nat.{ℕ, _≤_}
 use mathlib.Core.Logic.{by-cases}
 use mathlib.Core.Path.{_≡_, refl, sym, ap, _∙_}
 use native.Mathlib.Decide.{decLe}
 use native.Mathlib.Omega.{arith}
-use lib.ListN.{getD, length}
+use lib.ListN.{length}
 use Rattle.unit.specs.declared.UnitNumber.the-variants.{Zero, One}
-use Rattle.unit.specs.Standing.{UnitRecord, pairs, table}
 use Rattle.demands.specs.Footprint.{RunWritesRecord}
 use Rattle.demands.proofs.Keeps.{run-keeps-record}
-use Rattle.demands.proofs.Tables.{run-keeps-blank}
+use Rattle.demands.proofs.Tables.{run-keeps-long}
 use Rattle.board.specs.Chain.{ran}
-use Rattle.abi.specs.Calls.{Called, CallLent, calledAs, calledOf, controllerOf, made, recordLeft, standsIn?, worldIn}
-use Rattle.abi.specs.Layouts.{recordBytes, recordIn}
+use Rattle.abi.specs.Calls.{Called, CallLent, calledAs, calledOf, controllerOf, made, worldIn}
+use Rattle.abi.specs.Layouts.{recordIn}
 use Rattle.abi.proofs.Called.{called-is, called-made, refused-0, refused-1, refused-2, refused-3}
-use Rattle.abi.proofs.Laws.{Narrow, left-reads-back, read-blank, record-length}
-use Rattle.abi.proofs.Left.{left-anew, left-as-it-came, stands-as-read}
-use Rattle.abi.proofs.Tracks.{past-written}
+use Rattle.abi.proofs.Laws.{Narrow, left-reads-back}
+use Rattle.abi.proofs.Left.{left-as-it-came}
+use Rattle.abi.proofs.Tracks.{length-words}
 use Rattle.board.specs.World.{World}
 
 module _ (controller first allowance : ℕ) (l : CallLent) where
@@ -47,13 +45,13 @@ module _ (controller first allowance : ℕ) (l : CallLent) where
       (RunWritesRecord first allowance before Zero → ⊥) → calledAs controller first allowance l .lent .record0 ≡ l .record0
   record0-comes-back none =
       every-call (λ c. c .lent .record0 ≡ l .record0) (λ code. refl)
-      (left-as-it-came (l .record0) _ (stands-as-read (l .record0) (sym (run-keeps-record first allowance before Zero none))))
+      (left-as-it-came (l .record0) _ (sym (run-keeps-record first allowance before Zero none)))
 
   pub record1-comes-back :
       (RunWritesRecord first allowance before One → ⊥) → calledAs controller first allowance l .lent .record1 ≡ l .record1
   record1-comes-back none =
       every-call (λ c. c .lent .record1 ≡ l .record1) (λ code. refl)
-      (left-as-it-came (l .record1) _ (stands-as-read (l .record1) (sym (run-keeps-record first allowance before One none))))
+      (left-as-it-came (l .record1) _ (sym (run-keeps-record first allowance before One none)))
 
   -- After a call that was made a record reads as the one that the run left, its table and its holder with it, whatever its bytes were before: two calls in a row are
   -- two runs in a row.
@@ -65,19 +63,9 @@ module _ (controller first allowance : ℕ) (l : CallLent) where
     pub record0-reads-back : Narrow (left .drive0 .unit) → recordIn (calledAs controller first allowance l .lent .record0) ≡ left .drive0 .unit
     record0-reads-back narrow =
         ap (λ (c : Called). recordIn (c .lent .record0)) (called-made controller first allowance l fits0 fits1 fits there)
-        ∙ left-reads-back (left .drive0 .unit) narrow (run-keeps-blank first allowance before Zero (read-blank (l .record0))) (l .record0) fits0
+        ∙ left-reads-back (left .drive0 .unit) narrow (run-keeps-long first allowance before Zero (length-words (l .record0) 20 64)) (l .record0) fits0
 
     pub record1-reads-back : Narrow (left .drive1 .unit) → recordIn (calledAs controller first allowance l .lent .record1) ≡ left .drive1 .unit
     record1-reads-back narrow =
         ap (λ (c : Called). recordIn (c .lent .record1)) (called-made controller first allowance l fits0 fits1 fits there)
-        ∙ left-reads-back (left .drive1 .unit) narrow (run-keeps-blank first allowance before One (read-blank (l .record1))) (l .record1) fits1
-
--- Of a record that is stored, the bytes past the pairs that count are as they came.
-pub past-the-pairs-as-they-came :
-    (bytes : List ℕ) (u : UnitRecord) → length (table u) ≡ 64 → (i : ℕ) → 20 + 8 * min (pairs u) 32 ≤ i →
-    getD (recordLeft bytes u) i 0 ≡ getD bytes i 0
-past-the-pairs-as-they-came bytes u long i past =
-    by-cases (standsIn? bytes u) (λ stands. ap (λ (l : List ℕ). getD l i 0) (left-as-it-came bytes u stands))
-    (λ other.
-    ap (λ (l : List ℕ). getD l i 0) (left-anew bytes u other) ∙
-    past-written bytes 0 (recordBytes u) i (omega (arith, record-length u long)))
+        ∙ left-reads-back (left .drive1 .unit) narrow (run-keeps-long first allowance before One (length-words (l .record1) 20 64)) (l .record1) fits1

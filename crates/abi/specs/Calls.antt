@@ -1,27 +1,25 @@
 -- What the exported calls do, in bytes: a run and an inspection as board defines them, on records that cross as bytes. A buffer that is
--- too short for its layout, and a controller that there is not, is refused with a code of its own, and nothing is changed.
+-- too short for its layout, and a controller that there is not, are refused with a code each, and nothing is changed.
 use Prim.Native.Nat.{ℕ, zero, suc}
-use mathlib.Core.List.{List, List-discrete}
-use mathlib.Core.Logic.{ite, Dec·and}
-use mathlib.Core.Path.{_≡_}
-use native.Mathlib.Decide.{decLt, ℕ-discrete}
+use mathlib.Core.List.{List}
+use mathlib.Core.Logic.{ite}
+use native.Mathlib.Decide.{decLt}
 use lib.ListN.{length}
 use Rattle.answers.specs.Numbers.{runNumber}
 use Rattle.unit.specs.declared.UnitNumber.{UnitNumber}
 use Rattle.unit.specs.declared.UnitNumber.the-variants.{Zero, One}
-use Rattle.unit.proofs.Decided.{same?}
+use Rattle.unit.proofs.Decided.{same-with-table?}
 use Rattle.unit.specs.declared.Controller.{Controller}
 use Rattle.unit.specs.declared.Controller.the-variants.{First, Second}
-use Rattle.unit.specs.Standing.{UnitRecord, byValue, pairs, table}
+use Rattle.unit.specs.Standing.{UnitRecord}
 use Rattle.board.specs.declared.inspection.Part.{Part}
 use Rattle.board.specs.Chain.{Ending, ran}
 use Rattle.board.specs.Inspection.{partOf}
-use Rattle.abi.specs.Layouts.{endingBytes, outcomeLength, recordBytes, recordIn, recordLength, tracksIn}
+use Rattle.abi.specs.Layouts.{endingBytes, outcomeLength, recordBytes, recordIn, recordLength}
 use Rattle.board.specs.World.{World}
-use Rattle.spares.specs.Lands.{counted}
 use Rattle.wire.specs.Storing.{written}
 
--- All that a caller lends to a run, no two of them overlapping: what a caller in C has to see to.
+-- All that a caller lends to a run, or to a step, where `stepped` has the outcome's place; no two of them overlapping, which a caller in C has to see to.
 pub record CallLent : Type 0 where
   pub host : List ℕ
   pub image0 : List ℕ
@@ -75,26 +73,21 @@ worldIn c l =
       events = l .events;
     }
 
--- A record stands in some bytes: all that goes by value, and the tracks of the pairs that count.
-abbrev pub StandsIn : List ℕ → UnitRecord → Type 0
-StandsIn bytes u = (byValue (recordIn bytes) ≡ byValue u) × (counted (pairs u) (tracksIn bytes) ≡ counted (pairs u) (table u))
-
-pub standsIn? : (bytes : List ℕ) (u : UnitRecord) → Dec (StandsIn bytes u)
-standsIn? bytes u =
-    Dec·and (same? (byValue (recordIn bytes)) (byValue u))
-    (List-discrete ℕ-discrete (counted (pairs u) (tracksIn bytes)) (counted (pairs u) (table u)))
-
--- A record's bytes after a run: as they came, byte for byte, where the record stands in them; and else the record is stored.
+-- A record's bytes after a run or a step: as they came, byte for byte, where the record in them is the same, holder and table included; and else it is stored, in all
+-- its bytes. Bytes in which an initialized record stands are those that it is stored as (proofs/Again), and a block leaves a record as it was or initialized: so it does
+-- not matter how often one is left.
 unfoldable pub recordLeft : List ℕ → UnitRecord → List ℕ
-recordLeft bytes u = ite (standsIn? bytes u) bytes (written bytes 0 (recordBytes u))
+recordLeft bytes u = ite (same-with-table? (recordIn bytes) u) bytes (written bytes 0 (recordBytes u))
+
+-- What is lent once a world stands in it, and what is told of how it came to that.
+abbrev pub lentAfter : CallLent → World → (told : List ℕ) → CallLent
+lentAfter l w told =
+    lentOf (w .host) (w .drive0 .image) (w .drive1 .image) (w .events) (recordLeft (l .record0) (w .drive0 .unit)) (recordLeft (l .record1) (w .drive1 .unit))
+    (written (l .outcome) 0 told)
 
 -- A run that was made: its answer is returned, and the world that it leaves stands in the bytes.
 abbrev pub answered : CallLent → Ending → Called
-answered l e =
-    let w = e .world in
-    calledOf (runNumber (e .answer))
-    (lentOf (w .host) (w .drive0 .image) (w .drive1 .image) (w .events) (recordLeft (l .record0) (w .drive0 .unit))
-    (recordLeft (l .record1) (w .drive1 .unit)) (written (l .outcome) 0 (endingBytes e)))
+answered l e = calledOf (runNumber (e .answer)) (lentAfter l (e .world) (endingBytes e))
 
 abbrev pub made : Controller → ℕ → ℕ → CallLent → Called
 made c first allowance l = answered l (ran first allowance (worldIn c l))
@@ -104,8 +97,7 @@ abbrev pub controllerOf : ℕ → Controller
 controllerOf zero = First
 controllerOf (suc n) = Second
 
--- What is asked before anything is done: the lengths of the layouts' buffers, the last of which has a code of its own, and then the number: there are two
--- controllers.
+-- What is asked before anything is done: the lengths of the records, and that of the third buffer, for which `short` is the code; then the controller's number, which is 0 or 1.
 abbrev pub unlessRefused : (short controller : ℕ) → CallLent → Called → Called
 unlessRefused short controller l done =
     ite (decLt (length (l .record0)) recordLength) (calledOf record0Short l)

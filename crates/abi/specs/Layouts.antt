@@ -1,5 +1,5 @@
 -- How a unit record and the outcome of a run cross the boundary to a program that is not written in Rattle: as bytes. This is version 2;
--- one number serves both layouts. Each says its version and its length, since both may grow. Numbers are big-endian. Bytes of a longer
+-- one number serves these two and what a step leaves (Stepping). Each says its version and its length, since they may grow. Numbers are big-endian. Bytes of a longer
 -- buffer past the layout are not touched.
 --
 --   record, 276 bytes                                  outcome, 16 bytes
@@ -16,7 +16,7 @@
 --   17        the holder: 00 nobody, 01 the first controller, 02 the second, any other not initialized
 --   18, 19    the pairs that count
 --   20..275   32 pairs of tracks, bad and spare: cylinder (2), head, 00
-use Prim.Native.Nat.{ℕ, zero, suc, _+_, _*_, min}
+use Prim.Native.Nat.{ℕ, zero, suc, _+_}
 use mathlib.Core.Bool.{Bool, cond, not, _&&_}
 use mathlib.Core.List.{List, [], _∷_, _++_}
 use lib.Dec.{eqb, leb}
@@ -28,13 +28,12 @@ use Rattle.geometry.specs.declared.VolumeNumber.the-variants.{Zero, One}
 use Rattle.geometry.specs.Drive.{B, C, N, S, byHead, geometryOf, start, volume, volumeOf, withIncrement}
 use Rattle.unit.specs.declared.Holder.{Holder}
 use Rattle.unit.specs.declared.Holder.the-variants.{Nobody}
-use Rattle.unit.specs.Standing.{UnitRecord, cylinder, geometry, heldBy, holder, initialized, noTracks, pairs, table}
+use Rattle.unit.specs.Standing.{UnitRecord, cylinder, geometry, heldBy, holder, initialized, pairs, table}
 use Rattle.answers.specs.Numbers.{runNumber}
 use Rattle.board.specs.Chain.{Ending}
-use Rattle.spares.specs.Lands.{counted}
 use Rattle.unit.specs.Made.{recordOf}
 use Rattle.unit.specs.HolderNumbers.{holderNumber, holderOf}
-use Rattle.wire.specs.Storing.{twoBytes, written}
+use Rattle.wire.specs.Storing.{twoBytes}
 
 abbrev pub recordLength : ℕ
 recordLength = 276
@@ -72,9 +71,9 @@ unfoldable pub wordsFrom : List ℕ → (at n : ℕ) → List ℕ
 wordsFrom bytes at zero = []
 wordsFrom bytes at (suc n) = be32 bytes at ∷ wordsFrom bytes (at + 4) n
 
--- The tracks of the pairs that count. Bytes past them are not read.
+-- The table: 64 tracks, bad and spare in turn, those that count first.
 abbrev pub tracksIn : List ℕ → List ℕ
-tracksIn bytes = written noTracks 0 (wordsFrom bytes 20 (2 * min (pairsIn bytes) 32))
+tracksIn bytes = wordsFrom bytes 20 64
 
 -- The record that stands in some bytes.
 abbrev pub recordIn : List ℕ → UnitRecord
@@ -102,11 +101,14 @@ unfoldable pub trackBytes : List ℕ → List ℕ
 trackBytes [] = []
 trackBytes (t ∷ ts) = fourBytes t ++ trackBytes ts
 
--- The bytes of a record, to the last pair that counts. Those past it are not stored: an initialize, after which none counts, leaves them all.
+-- The bytes of a record: those before its table, and the table, whether its pairs count or not. A table has 64 tracks, and the one that an 87 leaves has 64 zeros (unit, `fresh`):
+-- "A successful 87 clears the table" (02, K5) in the bytes too.
+abbrev pub headBytes : UnitRecord → List ℕ
+headBytes u =
+    openingBytes (initialized u) ++ geometryBytes (geometry u) ++ twoBytes (cylinder u) ++ orderAndHolder u ++ twoBytes (pairs u)
+
 abbrev pub recordBytes : UnitRecord → List ℕ
-recordBytes u =
-    openingBytes (initialized u) ++ geometryBytes (geometry u) ++ twoBytes (cylinder u) ++ orderAndHolder u ++ twoBytes (pairs u) ++
-    trackBytes (counted (pairs u) (table u))
+recordBytes u = headBytes u ++ trackBytes (table u)
 
 -- The bytes of an outcome.
 abbrev pub outcomeBytes : (answer failed blocks sectors : ℕ) → List ℕ

@@ -7,15 +7,18 @@ use unit::Record;
 ghost use mathlib.Core.Bool.{cond};
 ghost use mathlib.Core.List.{[], _∷_};
 ghost use mathlib.Core.Path.{_≡_};
-ghost use Prim.Native.Nat.{_+_, _*_, _≤_, min};
-ghost use lib.ListN.{length};
-ghost use Rattle.abi.specs.Calls.{StandsIn, recordLeft};
+ghost use Prim.Native.Nat.{ℕ, _+_, _*_, _≤_, _<_, min};
+ghost use lib.ListN.{getD, length, take};
+ghost use Rattle.abi.specs.Calls.{recordLeft};
 ghost use Rattle.abi.specs.Layouts.{geometryBytes, geometryIn, holderIn, openingBytes, orderAndHolder, orderByte, outcomeBytes, recordBytes, recordIn, saysInitialized, trackBytes, volumeBytes, volumeIn, wordsFrom};
+ghost use Rattle.abi.specs.Unread.{filledIn, known, nothingRead, readIn};
 ghost use Rattle.unit.specs.Made.{bare};
 ghost use Rattle.unit.specs.Standing.{byValue, unitOf};
 ghost use Rattle.wire.specs.Promise.{Says};
-ghost use Rattle.spares.specs.Lands.{counted};
 ghost use Rattle.wire.specs.Storing.{written};
+
+// What stands in a table for a track that was not read: no track has this number.
+pub(crate) const UNREAD: u32 = 0xFFFF_FFFF;
 
 fn volume(bytes: &[u8], at: usize) -> Volume
     requires { ⌜ at + 2 ≤ length (now bytes) ⌝ }
@@ -55,6 +58,7 @@ fn says_initialized(bytes: &[u8]) -> bool
 fn holder(bytes: &[u8]) -> Holder
     requires { ⌜ 276 ≤ length (now bytes) ⌝ }
     ensures { λ r. ⌜ r ≡ holderIn (now (bytes .entry)) ⌝ }
+    ensures bytes { λ _. ⌜ ((i : ℕ) → getD (now (bytes .entry)) i 0 < 256) ⌝ }
 {
     if bytes[0] != 2 {
         return Holder::Nobody;
@@ -65,10 +69,11 @@ fn holder(bytes: &[u8]) -> Holder
     Holder::of(bytes[17] as u16)
 }
 
-// The record that stands in some bytes, but for its table.
-pub(crate) fn record(bytes: &[u8]) -> Record
+// The record that stands in some bytes, but for its table. That each of them is a byte, as their type says, is told to whoever asks.
+fn record(bytes: &[u8]) -> Record
     requires { ⌜ 276 ≤ length (now bytes) ⌝ }
     ensures { λ r. ⌜ r ≡ byValue (recordIn (now (bytes .entry))) ⌝ }
+    ensures bytes { λ _. ⌜ ((i : ℕ) → getD (now (bytes .entry)) i 0 < 256) ⌝ }
 {
     Record::new(
         says_initialized(bytes),
@@ -79,7 +84,7 @@ pub(crate) fn record(bytes: &[u8]) -> Record
 }
 
 // Reads the tracks of the pairs that count. With none, no byte is read and the table stays as it is.
-pub(crate) fn read_tracks(bytes: &[u8], pairs: u16, table: &mut [u32; 64])
+fn read_tracks(bytes: &[u8], pairs: u16, table: &mut [u32; 64])
     requires { ⌜ 276 ≤ length (now bytes) ⌝ }
     ensures { λ _. ⌜ now (table .exit) ≡ written (now (table .entry)) 0 (wordsFrom (now (bytes .entry)) 20 (2 * min pairs 32)) ⌝ }
 {
@@ -91,14 +96,39 @@ pub(crate) fn read_tracks(bytes: &[u8], pairs: u16, table: &mut [u32; 64])
     }
 }
 
-// Whether the tracks of the pairs that count stand in some bytes.
-fn holds_tracks(bytes: &[u8], pairs: u16, table: &[u32; 64]) -> bool
-    requires { ⌜ 276 ≤ length (now bytes) ⌝ }
-    ensures { λ r. ⌜ Says r (wordsFrom (now (bytes .entry)) 20 (2 * min pairs 32) ≡ counted pairs (now (table .entry))) ⌝ }
+// The record that stands in some bytes. Its tracks that count are put into a table of which nothing was read, and no other is looked at.
+pub(crate) fn unit_in(bytes: &[u8], table: &mut [u32; 64]) -> Record
+    requires { ⌜ (276 ≤ length (now bytes)) × (now table ≡ nothingRead) ⌝ }
+    ensures { λ r. ⌜ unitOf r (now (table .exit)) ≡ readIn (now (bytes .entry)) ⌝ }
+{
+    let u = record(bytes);
+    let pairs = u.pairs();
+    read_tracks(bytes, pairs, table);
+    u
+}
+
+// How many tracks at the head of a table are known: those of the pairs that count, and all of them once a block has cleared the table.
+fn known_tracks(table: &[u32; 64], pairs: u16) -> usize
+    ensures { λ r. ⌜ r ≡ known pairs (now (table .entry)) ⌝ }
+    ensures most { λ r. ⌜ r ≤ 64 ⌝ }
+    ensures long { λ _. ⌜ length (now (table .entry)) ≡ 64 ⌝ }
 {
     // a slice tells its length
     let tracks = &table[..];
-    let m = 2 * spares::in_room(pairs);
+    if tracks[63] == UNREAD {
+        2 * spares::in_room(pairs)
+    } else {
+        64
+    }
+}
+
+// Whether the first m tracks of a table stand in some bytes.
+fn holds_tracks(bytes: &[u8], m: usize, table: &[u32; 64]) -> bool
+    requires { ⌜ (276 ≤ length (now bytes)) × (m ≤ 64) ⌝ }
+    ensures { λ r. ⌜ Says r (wordsFrom (now (bytes .entry)) 20 m ≡ take m (now (table .entry))) ⌝ }
+{
+    // a slice tells its length
+    let tracks = &table[..];
     let mut k = 0;
     while k < m {
         if wire::be32(bytes, 20 + 4 * k) != tracks[k] {
@@ -109,15 +139,18 @@ fn holds_tracks(bytes: &[u8], pairs: u16, table: &[u32; 64]) -> bool
     true
 }
 
-// Whether a record stands in some bytes.
+// Whether a record, with the tracks that were not read as they stand in some bytes, is the one that stands there.
 fn stands_in(bytes: &[u8], u: Record, table: &[u32; 64]) -> bool
     requires { ⌜ 276 ≤ length (now bytes) ⌝ }
-    ensures { λ r. ⌜ Says r (StandsIn (now (bytes .entry)) (unitOf u (now (table .entry)))) ⌝ }
+    ensures { λ r. ⌜ (
+        let before = now (bytes .entry) in
+        Says r (recordIn before ≡ filledIn before (unitOf u (now (table .entry))))) ⌝ }
+    ensures bytes { λ _. ⌜ ((i : ℕ) → getD (now (bytes .entry)) i 0 < 256) ⌝ }
 {
     if !record(bytes).same(u) {
         return false;
     }
-    holds_tracks(bytes, u.pairs(), table)
+    holds_tracks(bytes, known_tracks(table, u.pairs()), table)
 }
 
 fn put_two(bytes: &mut [u8], at: usize, first: u8, second: u8)
@@ -176,14 +209,13 @@ fn put_order_and_holder(bytes: &mut [u8], u: Record)
     put_two(bytes, 16, order, u.holder().number());
 }
 
-// Stores the tracks of the pairs that count, and no others: bytes past them stay as they are.
-fn put_tracks(bytes: &mut [u8], table: &[u32; 64], pairs: u16)
-    requires { ⌜ 276 ≤ length (now bytes) ⌝ }
-    ensures { λ _. ⌜ now (bytes .exit) ≡ written (now (bytes .entry)) 20 (trackBytes (counted pairs (now (table .entry)))) ⌝ }
+// Stores the first m tracks of a table, and no others: bytes past them stay as they are.
+fn put_tracks(bytes: &mut [u8], table: &[u32; 64], m: usize)
+    requires { ⌜ (276 ≤ length (now bytes)) × (m ≤ 64) ⌝ }
+    ensures { λ _. ⌜ now (bytes .exit) ≡ written (now (bytes .entry)) 20 (trackBytes (take m (now (table .entry)))) ⌝ }
 {
     // a slice tells its length
     let tracks = &table[..];
-    let m = 2 * spares::in_room(pairs);
     let mut i = 0;
     while i < m {
         wire::put32(bytes, 20 + 4 * i, tracks[i]);
@@ -191,22 +223,27 @@ fn put_tracks(bytes: &mut [u8], table: &[u32; 64], pairs: u16)
     }
 }
 
+// Stores a record, its tracks as far as they are known: the others stand there.
 fn put_record(bytes: &mut [u8], u: Record, table: &[u32; 64])
-    requires { ⌜ 276 ≤ length (now bytes) ⌝ }
-    ensures { λ _. ⌜ now (bytes .exit) ≡ written (now (bytes .entry)) 0 (recordBytes (unitOf u (now (table .entry)))) ⌝ }
+    requires { ⌜ (276 ≤ length (now bytes)) × ((i : ℕ) → getD (now bytes) i 0 < 256) ⌝ }
+    ensures { λ _. ⌜ (
+        let before = now (bytes .entry) in
+        now (bytes .exit) ≡ written before 0 (recordBytes (filledIn before (unitOf u (now (table .entry)))))) ⌝ }
 {
     put_opening(bytes, u.initialized());
     put_geometry(bytes, u.geometry());
     wire::put16(bytes, 14, u.cylinder());
     put_order_and_holder(bytes, u);
     wire::put16(bytes, 18, u.pairs());
-    put_tracks(bytes, table, u.pairs());
+    put_tracks(bytes, table, known_tracks(table, u.pairs()));
 }
 
-// Stores a record where it is another than the one that stands there.
+// Stores a record where it is another than the one that stands there. Tracks that were not read are those that stand there.
 pub(crate) fn leave_record(bytes: &mut [u8], u: Record, table: &[u32; 64])
     requires { ⌜ 276 ≤ length (now bytes) ⌝ }
-    ensures { λ _. ⌜ now (bytes .exit) ≡ recordLeft (now (bytes .entry)) (unitOf u (now (table .entry))) ⌝ }
+    ensures { λ _. ⌜ (
+        let before = now (bytes .entry) in
+        now (bytes .exit) ≡ recordLeft before (filledIn before (unitOf u (now (table .entry))))) ⌝ }
 {
     if !stands_in(bytes, u, table) {
         put_record(bytes, u, table);

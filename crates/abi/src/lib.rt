@@ -2,6 +2,7 @@
 // Records and outcomes cross as bytes, by the layouts of specs/Layouts; what is done with them is board's, by its promise.
 // A buffer that is too short for its layout is refused, and nothing is changed. That pointers are good and apart only the caller knows.
 use board::Units;
+use layouts::UNREAD;
 use unit::Controller;
 use unit::UnitNumber;
 ghost use mathlib.Core.Path.{_≡_};
@@ -83,12 +84,10 @@ fn run(
         (now (record1 .exit)) (now (outcome .exit)) in
         calledOf r after ≡ made c first allowance before) ⌝ }
 {
-    let zero = layouts::record(record0);
-    let one = layouts::record(record1);
-    let mut map0 = [0u32; 64];
-    let mut map1 = [0u32; 64];
-    layouts::read_tracks(record0, zero.pairs(), &mut map0);
-    layouts::read_tracks(record1, one.pairs(), &mut map1);
+    let mut map0 = [UNREAD; 64];
+    let mut map1 = [UNREAD; 64];
+    let zero = layouts::unit_in(record0, &mut map0);
+    let one = layouts::unit_in(record1, &mut map1);
     let done = board::run(
         host,
         image0,
@@ -288,12 +287,10 @@ pub extern "C" fn vsmd_inspect(
     if record1.len() < RECORD_LEN {
         return RECORD1_SHORT;
     }
-    let zero = layouts::record(record0);
-    let one = layouts::record(record1);
-    let mut map0 = [0u32; 64];
-    let mut map1 = [0u32; 64];
-    layouts::read_tracks(record0, zero.pairs(), &mut map0);
-    layouts::read_tracks(record1, one.pairs(), &mut map1);
+    let mut map0 = [UNREAD; 64];
+    let mut map1 = [UNREAD; 64];
+    let zero = layouts::unit_in(record0, &mut map0);
+    let one = layouts::unit_in(record1, &mut map1);
     let part = board::part_of(Units { zero, one }, &map0, &map1, long0, long1, unit, place);
     let which = part.unit;
     *image = image_number(which);

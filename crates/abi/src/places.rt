@@ -6,6 +6,7 @@ use crate::RECORD_LEN;
 use crate::RECORD0_SHORT;
 use crate::SECTOR_OUTSIDE;
 use crate::layouts;
+use crate::layouts::UNREAD;
 use geometry::Address;
 use geometry::Geometry;
 use geometry::Sector;
@@ -13,15 +14,14 @@ use geometry::VolumeNumber;
 use unit::Landing;
 use unit::Record;
 ghost use mathlib.Core.Path.{_≡_};
-ghost use Prim.Native.Nat.{_≤_, _<_};
-ghost use lib.ListN.{length};
+ghost use Prim.Native.Nat.{_<_};
 ghost use Rattle.geometry.specs.Drive.{driveSectors};
 ghost use Rattle.unit.specs.declared.Landing.{Landing};
 ghost use Rattle.unit.specs.declared.Spot.{Spot};
-ghost use Rattle.unit.specs.Standing.{noTracks, unitOf};
-ghost use Rattle.abi.specs.Layouts.{recordIn};
+ghost use Rattle.unit.specs.Standing.{unitOf};
 ghost use Rattle.abi.specs.Places.{addressedBy, locatedOf, locating, neededOf, needing, numberedIn, standing};
 ghost use Rattle.abi.specs.Readings.{landsAs, reading, unitRead};
+ghost use Rattle.abi.specs.Unread.{nothingRead, readIn};
 
 // What the bytes of a record come to: a unit that counts as initialized, or the code for why there is none.
 pub(crate) enum Reading {
@@ -35,29 +35,18 @@ pub(crate) enum Wanted {
     Addressed(Address),
 }
 
-// The record that stands in some bytes, its tracks in a table that was empty.
-fn unit_in(record: &[u8], table: &mut [u32; 64]) -> Record
-    requires { ⌜ (276 ≤ length (now «record»)) × (now table ≡ noTracks) ⌝ }
-    ensures { λ r. ⌜ unitOf r (now (table .exit)) ≡ recordIn (now («record» .entry)) ⌝ }
-{
-    let u = layouts::record(record);
-    let pairs = u.pairs();
-    layouts::read_tracks(record, pairs, table);
-    u
-}
-
-// Reads a record, and its tracks into an empty table.
+// Reads a record, and its tracks that count into a table of which nothing was read.
 fn read(record: &[u8], table: &mut [u32; 64]) -> Reading
-    requires { ⌜ now table ≡ noTracks ⌝ }
+    requires { ⌜ now table ≡ nothingRead ⌝ }
     ensures result { λ r. ⌜ r ≡ reading (now («record» .entry)) ⌝ }
     ensures tracks { λ r. ⌜ (
-        let u = recordIn (now («record» .entry)) in
+        let u = readIn (now («record» .entry)) in
         unitRead r (now (table .exit)) u ≡ u) ⌝ }
 {
     if record.len() < RECORD_LEN {
         return Reading::Refused(RECORD0_SHORT);
     }
-    let u = unit_in(record, table);
+    let u = layouts::unit_in(record, table);
     if u.counts_as_initialized(table) {
         Reading::Counts(u)
     } else {
@@ -116,7 +105,7 @@ fn locate(record: &[u8], wanted: Wanted, place: &mut u64, first: &mut u64, mark:
         locating (landsAs wanted) (now («record» .entry))
         (locatedOf 0 (now (place .entry)) (now (first .entry)) (now (mark .entry))) ⌝ }
 {
-    let mut table = [0u32; 64];
+    let mut table = [UNREAD; 64];
     match read(record, &mut table) {
         Reading::Counts(u) => stand(u.geometry(), lands(u, &table, wanted), place, first, mark),
         Reading::Refused(code) => code,
@@ -177,7 +166,7 @@ pub extern "C" fn vsmd_sector_at(
 pub extern "C" fn vsmd_image_need(record: &[u8], bytes: &mut u64) -> u32
     ensures { λ r. ⌜ neededOf r (now (bytes .exit)) ≡ needing (now («record» .entry)) (now (bytes .entry)) ⌝ }
 {
-    let mut table = [0u32; 64];
+    let mut table = [UNREAD; 64];
     match read(record, &mut table) {
         Reading::Counts(u) => {
             let need = u.geometry().need();

@@ -2,6 +2,7 @@
 // What the block does is board's, by its promise; here are its bytes: the records, and what the caller goes by next.
 // It follows no link, and nothing is changed where it is refused.
 use crate::layouts;
+use crate::layouts::UNREAD;
 use answers::BlockAnswer;
 use board::Single;
 use board::Stepped;
@@ -14,6 +15,7 @@ ghost use lib.ListN.{length};
 ghost use Rattle.answers.specs.RunNumbers.{blockNumber};
 ghost use Rattle.abi.specs.Calls.{calledOf, lentOf, recordLeft};
 ghost use Rattle.abi.specs.Stepping.{blockBad, goesOn, steppedBytes, steppedOnce};
+ghost use Rattle.abi.specs.Unread.{filledIn};
 ghost use Rattle.unit.specs.Standing.{unitOf};
 ghost use Rattle.wire.proofs.Decided.{inMemory?};
 ghost use Rattle.wire.specs.Storing.{written};
@@ -41,8 +43,12 @@ fn leave(
     map1: &[u32; 64],
 )
     requires { ⌜ (276 ≤ length (now record0)) × ((276 ≤ length (now record1)) × (16 ≤ length (now stepped))) ⌝ }
-    ensures zero { λ _. ⌜ now (record0 .exit) ≡ recordLeft (now (record0 .entry)) (unitOf (s .units .zero) (now (map0 .entry))) ⌝ }
-    ensures one { λ _. ⌜ now (record1 .exit) ≡ recordLeft (now (record1 .entry)) (unitOf (s .units .one) (now (map1 .entry))) ⌝ }
+    ensures zero { λ _. ⌜ (
+        let before = now (record0 .entry) in
+        now (record0 .exit) ≡ recordLeft before (filledIn before (unitOf (s .units .zero) (now (map0 .entry))))) ⌝ }
+    ensures one { λ _. ⌜ (
+        let before = now (record1 .entry) in
+        now (record1 .exit) ≡ recordLeft before (filledIn before (unitOf (s .units .one) (now (map1 .entry))))) ⌝ }
     ensures told { λ _. ⌜
         now (stepped .exit) ≡ written (now (stepped .entry)) 0
         (steppedBytes (blockNumber (s .answer)) (goesOn (s .answer) (s .linked)) (s .sectors) (s .link)) ⌝ }
@@ -78,12 +84,10 @@ pub(crate) fn step(
         (now (record1 .exit)) (now (stepped .exit)) in
         calledOf r after ≡ ite (inMemory? (now (host .entry)) at 28) (steppedOnce c at i before) (calledOf blockBad before)) ⌝ }
 {
-    let zero = layouts::record(record0);
-    let one = layouts::record(record1);
-    let mut map0 = [0u32; 64];
-    let mut map1 = [0u32; 64];
-    layouts::read_tracks(record0, zero.pairs(), &mut map0);
-    layouts::read_tracks(record1, one.pairs(), &mut map1);
+    let mut map0 = [UNREAD; 64];
+    let mut map1 = [UNREAD; 64];
+    let zero = layouts::unit_in(record0, &mut map0);
+    let one = layouts::unit_in(record1, &mut map1);
     let done = board::run_one(
         host,
         image0,

@@ -3,17 +3,19 @@
 use Prim.Native.Nat.{ℕ, _+_}
 use native.Mathlib.Omega.{arith}
 use mathlib.Core.Bool.{Bool, true, false}
+use mathlib.Core.Path.{_≡_, refl}
+use lib.ListN.{length}
 use Rattle.judge.specs.declared.Leaving.{Leaving}
 use Rattle.judge.specs.declared.Leaving.the-variants.{AsItWas, HeadsAt, HeadsAtLastTried, Fresh, Mapped}
 use Rattle.judge.specs.Fits.{LeavingFits}
 use Rattle.transfer.specs.Progress.{lastTried}
 use Rattle.unit.specs.Landing.{spotOf}
 use Rattle.unit.specs.Standing.{CountsAsInitialized, UnitRecord, pairs, table}
-use Rattle.unit.proofs.Kept.{fresh-blank, fresh-counts, mapped-blank, mapped-counts, moved-counts}
+use Rattle.unit.proofs.Kept.{fresh-counts, mapped-counts, moved-counts}
 use Rattle.unit.proofs.Laws.{spot-inside}
 use Rattle.wire.specs.Promise.{Says}
 use Rattle.block.specs.Block.{leftBy}
-use Rattle.spares.specs.Lands.{BlankPast}
+use Rattle.spares.proofs.Adding.{long-still}
 
 module _ (u : UnitRecord) (moved : ℕ) where
   pub still-counts : (l : Leaving) → CountsAsInitialized u → LeavingFits u l → CountsAsInitialized (leftBy u moved l)
@@ -34,10 +36,10 @@ module _ (u : UnitRecord) (moved : ℕ) where
   stays-told l true needs counts fits = still-counts l counts fits
   stays-told l false needs not-it fits = absurd (not-it (needs fits))
 
-  -- So does a table that is blank past the pairs that count.
-  pub still-blank : (l : Leaving) → BlankPast (pairs u) (table u) → LeavingFits u l → BlankPast (pairs (leftBy u moved l)) (table (leftBy u moved l))
-  still-blank AsItWas past fits = past
-  still-blank (HeadsAt c) past fits = past
-  still-blank (HeadsAtLastTried s) past fits = past
-  still-blank (Fresh g) past fits = fresh-blank g
-  still-blank (Mapped bad spare) past fits = mapped-blank u bad spare (fits .1 .room) past
+  -- A table keeps its length.
+  pub still-long : (l : Leaving) → length (table u) ≡ 64 → LeavingFits u l → length (table (leftBy u moved l)) ≡ 64
+  still-long AsItWas long fits = long
+  still-long (HeadsAt c) long fits = long
+  still-long (HeadsAtLastTried s) long fits = long
+  still-long (Fresh g) long fits = refl
+  still-long (Mapped bad spare) long fits = long-still (pairs u) (table u) bad spare (fits .1 .room) long

@@ -6,6 +6,7 @@ pub mod Held
 pub mod Kept
 pub mod Outcomes
 pub mod PastMarks
+pub mod PastPairs
 pub mod Told
 pub mod Transfers
 pub mod Travel

@@ -7,8 +7,10 @@ pub mod Holders
 pub mod Keeps
 pub mod Lists
 pub mod PastMarks
+pub mod PastPairs
 pub mod Places
 pub mod Read
+pub mod Records
 pub mod Reports
 pub mod RunAnswers
 pub mod RunMarks

@@ -6,6 +6,7 @@ use mathlib.Core.Logic.{_⊎_, by-cases, inl, inr, ⊎-elim}
 use mathlib.Core.Path.{_≡_, refl, sym, ap, subst, _∙_}
 use native.Mathlib.Nat.{zero-mul}
 use lib.IntN.{pos}
+use lib.ListN.{length}
 use Rattle.answers.specs.declared.BlockAnswer.{BlockAnswer}
 use Rattle.answers.specs.declared.BlockAnswer.the-variants.{Ended, Failed}
 use Rattle.answers.specs.declared.Refusal.{Refusal}
@@ -44,7 +45,7 @@ use Rattle.block.specs.Block.{Drive, Effect, begun, finish, leftBy, reported, t
 use Rattle.block.specs.Steps.{actedOn}
 use Rattle.block.proofs.Effects.{finishedBy}
 use Rattle.block.proofs.Held.{held-counts}
-use Rattle.block.proofs.Kept.{still-blank, still-counts}
+use Rattle.block.proofs.Kept.{still-counts, still-long}
 use Rattle.board.specs.Chain.{ran}
 use Rattle.demands.specs.Footprint.{Renews, Some, askedOf, leavingOf, namedDrive, names, verdictOf}
 use Rattle.demands.specs.Tables.{AddsItsPair, Maps, ReachedByCommands}
@@ -54,7 +55,6 @@ use Rattle.demands.proofs.Fits.{leaving-fits}
 use Rattle.demands.proofs.Keeps.{block-keeps-drive, left-keeps, leftThen, named-record, run-hands, run-keeps, same-unit?, some-none, unit-left}
 use Rattle.demands.proofs.Written.{effect-is}
 use Rattle.board.specs.World.{World, driveOf}
-use Rattle.spares.specs.Lands.{BlankPast}
 
 -- ---- an 85
 
@@ -92,7 +92,7 @@ module _
     (P : UnitRecord → Type 0) (kept : (u : UnitRecord) (moved : ℕ) (l : Leaving) → P u → LeavingFits u l → P (leftBy u moved l))
     (with-holder : (u : UnitRecord) (h : Holder) → P u → P (heldBy u h))
   where
-    block-hands : (n : UnitNumber) (v : Visit) → P (driveOf (v .world) n .unit) → P (driveOf (worldLeft v) n .unit)
+    pub block-hands : (n : UnitNumber) (v : Visit) → P (driveOf (v .world) n .unit) → P (driveOf (worldLeft v) n .unit)
     block-hands n v now =
         by-cases (same-unit? (names v) n)
         (λ named.
@@ -117,12 +117,15 @@ pub run-keeps-counting :
     CountsAsInitialized (driveOf (ran first allowance w .world) n .unit)
 run-keeps-counting = run-hands-records CountsAsInitialized still-counts held-counts
 
--- A table that is blank past the pairs that count stays so.
-pub run-keeps-blank :
-    (first allowance : ℕ) (w : World) (n : UnitNumber) → BlankPast (pairs (driveOf w n .unit)) (table (driveOf w n .unit)) →
-    let u = driveOf (ran first allowance w .world) n .unit in
-    BlankPast (pairs u) (table u)
-run-keeps-blank = run-hands-records (λ u. BlankPast (pairs u) (table u)) still-blank (λ u h now. now)
+-- A table keeps its length.
+pub block-keeps-long :
+    (v : Visit) (n : UnitNumber) → length (table (driveOf (v .world) n .unit)) ≡ 64 → length (table (driveOf (worldLeft v) n .unit)) ≡ 64
+block-keeps-long v n = block-hands (λ u. length (table u) ≡ 64) still-long (λ u h now. now) n v
+
+pub run-keeps-long :
+    (first allowance : ℕ) (w : World) (n : UnitNumber) → length (table (driveOf w n .unit)) ≡ 64 →
+    length (table (driveOf (ran first allowance w .world) n .unit)) ≡ 64
+run-keeps-long = run-hands-records (λ u. length (table u) ≡ 64) still-long (λ u h now. now)
 
 -- A table is changed by a successful 85 or 87 for its unit and by nothing else: heads move over it, and refused blocks leave it.
 abbrev pairsAndTracks : UnitRecord → ℕ × List ℕ

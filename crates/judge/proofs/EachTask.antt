@@ -3,12 +3,12 @@
 use Prim.Native.Nat.{ℕ, _<_}
 use mathlib.Core.List.{List, [], _∷_}
 use mathlib.Core.Logic.{Dec·and}
-use mathlib.Core.Path.{_≡_, refl, ap, _∙_}
+use mathlib.Core.Path.{_≡_, refl, sym, ap, _∙_}
 use native.Mathlib.Omega.{arith}
 use lib.Dec.{T}
 use lib.ListN.{getD, length}
 use Rattle.answers.specs.declared.Refusal.the-variants.{DriveHeld}
-use Rattle.geometry.specs.Drive.{B}
+use Rattle.geometry.specs.Drive.{B, S}
 use Rattle.geometry.specs.Answers.{onDrive?}
 use Rattle.geometry.specs.Sectors.{address}
 use Rattle.geometry.proofs.Decided.{covers?, within?}
@@ -18,27 +18,34 @@ use Rattle.request.specs.declared.Buffer.the-variants.{Piece, List as Elements}
 use Rattle.request.specs.declared.Shape.the-variants.{Misplaced, Given as Uib}
 use Rattle.request.specs.declared.Task.{Task}
 use Rattle.request.specs.declared.Task.the-variants.{Unknown, Move as Moves, Handshake, Initialize, Restore, Seek, Format, Map}
+use Rattle.spares.specs.Lands.{counted}
+use Rattle.spares.proofs.Alike.{free-alike}
 use Rattle.spares.proofs.Decided.{free?}
 use Rattle.unit.specs.Holding.{heldByOther}
 use Rattle.unit.specs.Landing.{spotOf}
 use Rattle.unit.specs.declared.Controller.{Controller}
-use Rattle.unit.specs.Standing.{UnitRecord, geometry, holder, pairs, table}
+use Rattle.unit.specs.declared.Spot.{Spot}
+use Rattle.unit.specs.Standing.{UnitRecord, byValue, geometry, holder, pairs, table, unitOf}
+use Rattle.unit.proofs.Alike.{counts-alike, spot-alike, track-alike}
 use Rattle.unit.proofs.Decided.{counts?}
 use Rattle.unit.proofs.Laws.{track-inside, track-whole}
 use Rattle.wire.proofs.Decided.{inMemory?}
 use Rattle.judge.specs.declared.Leaving.{Leaving}
+use Rattle.judge.specs.declared.Moving.{Moving}
+use Rattle.judge.specs.declared.Plan.{Plan}
+use Rattle.judge.specs.declared.Report.{Report}
 use Rattle.judge.specs.declared.Verdict.{Verdict}
 use Rattle.judge.specs.Steps.{asksHolder, beforeBuffer, byItsOwn, bytesOf, ownChecks, beginsAt}
-use Rattle.judge.specs.Plans.{numberThere, jobOf, planOf}
-use Rattle.judge.specs.Asks.{checksOf, driveHeld, imageShort, notInitialized, ofBuffer, trackOutside}
-use Rattle.judge.specs.Checks.{first}
+use Rattle.judge.specs.Plans.{numberThere, jobOf, only, plan, planOf}
+use Rattle.judge.specs.Asks.{checksOf, driveHeld, imageShort, notInitialized, ofBuffer, trackOutside, tracksOutside, tracksTaken}
+use Rattle.judge.specs.Checks.{Check, first}
 use Rattle.judge.specs.Fits.{SpanGood}
-use Rattle.judge.specs.Given.{Asked, badNumber, on, spareNumber}
+use Rattle.judge.specs.Given.{Asked, badNumber, on, spareNumber, startNumber}
 use Rattle.judge.specs.Reads.{InList}
 use Rattle.judge.specs.Table.{oneOf}
 use Rattle.judge.specs.Verdict.{verdict}
 use Rattle.judge.proofs.Known.{Accepted, covered, good-buffer, has-number, heads-only, seek-inside, so}
-use Rattle.judge.proofs.Buffers.{after-the-same, before-list, same-buffer, same-range}
+use Rattle.judge.proofs.Buffers.{after-the-same, alike-then, before-list, same-buffer, same-range}
 use Rattle.judge.proofs.First.{numbersOf, skip, stop}
 use Rattle.judge.specs.Passed.{None}
 
@@ -104,6 +111,74 @@ module _ (c : Controller) (u : UnitRecord) (image : ℕ) (h k : List ℕ) (long 
       after-the-same (driveHeld a ∷ notInitialized a ∷ trackOutside a x ∷ imageShort a ∷ []) _ _ (planOf u (Format x))
       (λ passed. same-range c u image h k long (Format x) (x .buffer) (B (geometry u)) (planOf u (Format x)))
   verdict-local (Map x) alike = refl
+
+-- ---- the same with another table
+
+-- A table with the same pairs that count.
+module _
+    (c : Controller) (u : UnitRecord) (image : ℕ) (host : List ℕ) (ts : List ℕ) (same : counted (pairs u) (table u) ≡ counted (pairs u) ts)
+    (long : length (table u) ≡ 64) (ts-long : length ts ≡ 64)
+  where
+    abbrev changed : UnitRecord
+    changed = unitOf (byValue u) ts
+
+    abbrev this : Task → Asked
+    this t = on c u image t host
+
+    abbrev other : Task → Asked
+    other t = on c changed image t host
+
+    -- A plan asks the table only where its command lands, and in both that is the same.
+    plan-alike : (t : Task) → planOf u t ≡ planOf changed t
+    plan-alike Unknown = refl
+    plan-alike (Moves m) = refl
+    plan-alike Handshake = refl
+    plan-alike (Initialize Misplaced) = refl
+    plan-alike (Initialize (Uib g)) = refl
+    plan-alike Restore = refl
+    plan-alike (Seek t) =
+        ap (λ (s : Spot). only (Leaving.HeadsAt (s .cylinder)))
+        (spot-alike (byValue u) (table u) ts same (t .volume) (numberThere (startNumber (geometry u) (t .volume) (t .start))))
+    plan-alike (Format k) =
+        ap (λ (s : Spot). plan (Moving.Track s (k .buffer)) (Report.Formatted (S (geometry u))) (Leaving.HeadsAt (s .cylinder)))
+        (track-alike (byValue u) (table u) ts same (k .cylinder) (k .head))
+    plan-alike (Map k) = refl
+
+    -- Both units count as initialized, or neither does.
+    held-and-initialized :
+        (t : Task) (ks ls : List Check) (p : Plan) → first ks p ≡ first ls p →
+        first (driveHeld (this t) ∷ notInitialized (this t) ∷ ks) p ≡ first (driveHeld (other t) ∷ notInitialized (other t) ∷ ls) p
+    held-and-initialized t ks ls p rest =
+        after-the-same (driveHeld (this t) ∷ []) (notInitialized (this t) ∷ ks) (notInitialized (other t) ∷ ls) p
+        (λ passed.
+        alike-then (notInitialized (this t)) (notInitialized (other t)) ks ls p refl (
+          λ out counts. out (counts-alike (byValue u) ts (table u) (sym same) long counts),
+          λ out counts. out (counts-alike (byValue u) (table u) ts same ts-long counts),
+        )
+        (λ out. rest))
+
+    checks-alike : (t : Task) (p : Plan) → first (checksOf (this t) t) p ≡ first (checksOf (other t) t) p
+    checks-alike Unknown p = refl
+    checks-alike (Moves m) p = held-and-initialized (Moves m) _ _ p refl
+    checks-alike Handshake p = refl
+    checks-alike (Initialize Misplaced) p = refl
+    checks-alike (Initialize (Uib g)) p = refl
+    checks-alike Restore p = held-and-initialized Restore [] [] p refl
+    checks-alike (Seek t) p = held-and-initialized (Seek t) _ _ p refl
+    checks-alike (Format k) p = held-and-initialized (Format k) _ _ p refl
+    checks-alike (Map k) p =
+        held-and-initialized (Map k) _ _ p
+        (after-the-same (tracksOutside (this (Map k)) k ∷ []) _ _ p
+        (λ passed.
+        alike-then (tracksTaken (this (Map k)) k) (tracksTaken (other (Map k)) k) _ _ p refl (
+          λ out free. out (free-alike (pairs u) ts (table u) (sym same) (badNumber k) (spareNumber k) free),
+          λ out free. out (free-alike (pairs u) (table u) ts same (badNumber k) (spareNumber k) free),
+        )
+        (λ out. refl)))
+
+    pub verdict-alike : (t : Task) → verdict (on c u image t host) ≡ verdict (on c (unitOf (byValue u) ts) image t host)
+    unfolding verdict
+    verdict-alike t = ap (first (checksOf (this t) t)) (plan-alike t) ∙ checks-alike t (planOf changed t)
 
 -- ---- what its plan is known to be
 

@@ -1,4 +1,5 @@
 pub mod Adding
+pub mod Alike
 pub mod Decided
 pub mod Laws
 pub mod Outcomes

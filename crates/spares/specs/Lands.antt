@@ -1,10 +1,10 @@
--- What is proved of a table: which pair serves a track, where a track lands, the tracks of the pairs that count, and a table that is blank past them.
-use Prim.Native.Nat.{ℕ, _*_, _≤_, min}
+-- What is proved of a table: which pair serves a track, where a track lands, and the tracks of the pairs that count.
+use Prim.Native.Nat.{ℕ, _*_, min}
 use mathlib.Core.List.{List}
 use mathlib.Core.Logic.{Dec·and}
 use mathlib.Core.Path.{_≡_}
 use native.Mathlib.Decide.{map-dec, ℕ-discrete}
-use lib.ListN.{getD, length, take}
+use lib.ListN.{take}
 use Rattle.geometry.specs.declared.Geometry.{Geometry}
 use Rattle.spares.specs.declared.Served.{Served}
 use Rattle.spares.specs.declared.Served.the-variants.{Itself, By}
@@ -39,8 +39,3 @@ landsOn g n ts t = numberServing t (served g n ts t)
 -- The tracks of the pairs that count; past them a table may hold anything.
 abbrev pub counted : ℕ → List ℕ → List ℕ
 counted n ts = take (2 * min n 32) ts
-
--- Past the pairs that count there is nothing but zeros: so is a table that was cleared and got its pairs one after the other.
-pub record BlankPast (n : ℕ) (ts : List ℕ) : Type 0 where
-  pub long : length ts ≡ 64
-  pub blank : (i : ℕ) → 2 * min n 32 ≤ i → getD ts i 0 ≡ 0

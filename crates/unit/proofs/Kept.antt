@@ -1,20 +1,18 @@
 -- A unit that counts as initialized still does once its heads stand elsewhere on the drive or its table has a pair more; and a new one does.
 -- Each asks one part of the question anew, and the others are as they were.
 use Prim.Native.Nat.{ℕ, _<_}
-use mathlib.Core.Logic.{by-cases, if-pos}
-use mathlib.Core.Path.{_≡_, refl, subst, sym}
+use mathlib.Core.Logic.{if-pos}
+use mathlib.Core.Path.{refl, subst, sym}
 use native.Mathlib.Decide.{decLt}
 use native.Mathlib.Omega.{arith}
-use lib.ListN.{getD, getD-replicate, List·getD-eq-default}
 use Rattle.geometry.specs.declared.Geometry.{Geometry}
 use Rattle.geometry.specs.Drive.{C}
 use Rattle.geometry.specs.Limits.{Within}
 use Rattle.spares.specs.Table.{Free, Good, withPair}
 use Rattle.spares.specs.Tracks.{TrackOn}
-use Rattle.spares.proofs.Adding.{blank-past-the-pair, stays-good}
+use Rattle.spares.proofs.Adding.{stays-good}
 use Rattle.spares.proofs.Laws.{empty-is-good}
 use Rattle.unit.specs.Standing.{CountsAsInitialized, UnitRecord, fresh, geometry, mapped, movedTo, noTracks, pairs, table}
-use Rattle.spares.specs.Lands.{BlankPast}
 
 pub fresh-counts : (g : Geometry) → Within g → CountsAsInitialized (fresh g)
 fresh-counts g within =
@@ -36,16 +34,3 @@ module _ (u : UnitRecord) (counts : CountsAsInitialized u) where
             subst (λ (n : ℕ). Good (geometry u) n (withPair (pairs u) (table u) bad spare)) (sym (if-pos (decLt (pairs u) 32) room _ _))
             (stays-good (pairs u) (table u) bad spare room (counts .good .long) (geometry u) (counts .good) bad-on spare-on free);
       }
-
--- Past the pairs that count a new record's table is blank, and a pair more leaves it so.
-pub fresh-blank : (g : Geometry) → BlankPast (pairs (fresh g)) (table (fresh g))
-fresh-blank g = record { long = refl; blank = λ i from. zeros i }
-  where
-    zeros : (i : ℕ) → getD noTracks i 0 ≡ 0
-    zeros i =
-        by-cases (decLt i 64) (λ less. getD-replicate 64 i 0 0 less)
-        (λ past. List·getD-eq-default noTracks 0 {n = i} (omega arith))
-
-pub mapped-blank :
-    (u : UnitRecord) (bad spare : ℕ) → pairs u < 32 → BlankPast (pairs u) (table u) → BlankPast (pairs (mapped u bad spare)) (table (mapped u bad spare))
-mapped-blank u bad spare room past = blank-past-the-pair (pairs u) (table u) bad spare room (past .long) past

@@ -1,3 +1,4 @@
+pub mod Alike
 pub mod Answers
 pub mod Apart
 pub mod Decided

@@ -40,13 +40,13 @@ pub const HOLDER_AT: usize = 17;
 pub const PAIRS_AT: usize = 18;
 pub const TABLE_AT: usize = 20;
 
-/// Where the bytes of a record end that are stored anew with so many pairs.
-pub fn stored_end(pairs: u16) -> usize {
+/// Where so many pairs that count end in a record.
+pub fn counting_end(pairs: u16) -> usize {
     TABLE_AT + 8 * (pairs as usize).min(32)
 }
 
-/// The record that stands in some bytes. The layout is read here a second time, apart from the
-/// wrapper that is tested along with the library.
+/// The record that stands in some bytes, with all that its table has room for. The layout is read here a
+/// second time, apart from the wrapper that is tested along with the library.
 pub fn record_in(bytes: &RecordBytes) -> Record {
     let word = |at: usize| bytes[at] as u16 * 256 + bytes[at + 1] as u16;
     let volume = |at: usize| Volume {
@@ -70,7 +70,7 @@ pub fn record_in(bytes: &RecordBytes) -> Record {
             order: Order::said(bytes[ORDER_AT]),
         },
         cylinder: word(14),
-        table: Table::saying(word(PAIRS_AT), |k| Pair {
+        table: Table::standing(word(PAIRS_AT), |k| Pair {
             bad: track(TABLE_AT + 8 * k),
             spare: track(TABLE_AT + 8 * k + 4),
         }),
@@ -78,15 +78,10 @@ pub fn record_in(bytes: &RecordBytes) -> Record {
     }
 }
 
-/// The bytes of a record; those after the pairs that count are 0.
+/// The bytes of a record, all 276 of them.
 pub fn record_bytes(record: &Record) -> RecordBytes {
-    stored(&[0; RECORD_LEN], record)
-}
-
-/// The bytes with a record stored in them: all up to the last pair that counts.
-fn stored(before: &RecordBytes, record: &Record) -> RecordBytes {
     let g = &record.geometry;
-    let mut bytes = *before;
+    let mut bytes = [0; RECORD_LEN];
     bytes[..4].copy_from_slice(&OPENING);
     bytes[1] = record.initialized as u8;
     bytes[4..6].copy_from_slice(&g.cylinders.to_be_bytes());
@@ -100,7 +95,7 @@ fn stored(before: &RecordBytes, record: &Record) -> RecordBytes {
     bytes[ORDER_AT] = g.order.number();
     bytes[HOLDER_AT] = record.holder.number();
     bytes[PAIRS_AT..TABLE_AT].copy_from_slice(&record.table.count().to_be_bytes());
-    for (k, pair) in record.table.pairs().iter().enumerate() {
+    for (k, pair) in record.table.room().iter().enumerate() {
         put_track(&mut bytes, TABLE_AT + 8 * k, &pair.bad);
         put_track(&mut bytes, TABLE_AT + 8 * k + 4, &pair.spare);
     }
@@ -113,12 +108,13 @@ fn put_track(bytes: &mut RecordBytes, at: usize, track: &Track) {
     bytes[at + 3] = track.last;
 }
 
-/// The bytes of a record after a run: as they came where the record is the same, and otherwise stored
-/// anew, with those after the last pair that counts as they came.
+/// The bytes of a record after a run: as they came where the record is the same, and otherwise all
+/// stored anew. What stands past the pairs that count is part of a record: an 87 clears it, an 85 has its
+/// pair in the first place of it, and otherwise it comes back as it came.
 pub fn record_left(before: &RecordBytes, after: &Record) -> RecordBytes {
     if record_in(before) == *after {
         *before
     } else {
-        stored(before, after)
+        record_bytes(after)
     }
 }

@@ -1,6 +1,6 @@
 //! What a set of worlds has walked into, counted from the model's traces.
 
-use crate::case::{record_in, Case, RecordBytes, HOLDER_AT, ORDER_AT};
+use crate::case::{counting_end, record_in, Case, RecordBytes, HOLDER_AT, ORDER_AT};
 use crate::sides::Left;
 use crate::standing::KINDS;
 use crate::steps;
@@ -241,6 +241,8 @@ pub struct Coverage {
     found_by_cylinder: u64,
     /// Records that came with bytes after the pairs that count, and were stored anew.
     tails: u64,
+    /// Worlds in which an 87 cleared such bytes.
+    cleared: u64,
     /// The chains that were made of steps too.
     pub steps: steps::Tally,
 }
@@ -269,6 +271,7 @@ impl Coverage {
             found_no_table: 0,
             found_by_cylinder: 0,
             tails: 0,
+            cleared: 0,
             steps: steps::Tally::default(),
         }
     }
@@ -301,6 +304,8 @@ impl Coverage {
             let stored = bytes != &left.records[unit];
             self.tails += (stored && bytes[260..].iter().any(|byte| *byte != 0)) as u64;
         }
+        let cleared = |unit| clears(trace, unit, &case.records[unit], &left.records[unit]);
+        self.cleared += (cleared(0) || cleared(1)) as u64;
         let records = left.records.map(|bytes| record_in(&bytes));
         for (asked, found) in case.inspections.iter().zip(found) {
             let Some(record) = records.get(asked.unit as usize) else {
@@ -384,6 +389,7 @@ impl Coverage {
         self.found_no_table += other.found_no_table;
         self.found_by_cylinder += other.found_by_cylinder;
         self.tails += other.tails;
+        self.cleared += other.cleared;
         self.steps.join(&other.steps);
     }
 
@@ -449,6 +455,7 @@ impl Coverage {
         let tails = "stored anew, with other bytes after the pairs";
         for (name, count) in [
             (tails, self.tails),
+            ("bytes after the pairs cleared by 87", self.cleared),
             ("inspection of a bad track's place", self.found_bad),
             ("inspection of a spare's place", self.found_spare),
             ("inspection of nothing, for the table", self.found_no_table),
@@ -542,6 +549,16 @@ fn lands_on_own_pair(trace: &Trace) -> bool {
             .by_pair
             .is_some_and(|by| since.any(|v| added(v) && v.landing.pairs as usize == by))
     })
+}
+
+/// Whether an 87 of a unit succeeded whose record came with other bytes than 00 after the pairs that
+/// count, and left 00 there.
+fn clears(trace: &Trace, unit: usize, came: &RecordBytes, left: &RecordBytes) -> bool {
+    let mut blocks = trace.blocks.iter();
+    let initialized = blocks.any(|v| v.command == 0x87 && v.answer == 0 && v.unit as usize == unit);
+    let from = counting_end(record_in(came).table.count());
+    let mut bytes = came[from..].iter().zip(&left[from..]);
+    initialized && bytes.any(|(came, left)| *came != 0 && *left == 0)
 }
 
 /// Whether a place is one of a track's.

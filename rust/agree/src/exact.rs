@@ -6,7 +6,7 @@ mod holders;
 mod orders;
 mod spares;
 
-use crate::case::{record_bytes, Case, Inspection, RecordBytes, RECORD_LEN, TABLE_AT};
+use crate::case::{record_bytes, Case, Inspection, RecordBytes, PAIRS_AT, RECORD_LEN, TABLE_AT};
 use crate::sides::{model_side, Left, Opponent};
 use model::{Block, Controller, Geometry, Holder, Order, Outcome, Part, Record, Table, Volume};
 
@@ -42,7 +42,8 @@ const SMALL_RECORD: RecordBytes = opening([
     0x00, 0x00, 0x00, 0x00,
 ]);
 
-/// A record that opens with these bytes; what has room for pairs is 5A, which nobody reads.
+/// A record that opens with these bytes; what has room for pairs is 5A, so that it is seen where an 87
+/// clears it and where it comes back as it came.
 const fn opening(open: [u8; 20]) -> RecordBytes {
     let mut bytes = [0x5a; RECORD_LEN];
     let mut k = 0;
@@ -147,9 +148,15 @@ impl Left {
         put(&mut self.events, 8 * (k - 1) + 4, &travel.to_be_bytes());
     }
 
-    /// What an 87 with the small drive's UIB stores; the room for pairs is as it came.
+    /// What an 87 with the small drive's UIB stores.
     fn initialized(&mut self, unit: usize) {
         put(&mut self.records[unit], 0, &SMALL_RECORD[..TABLE_AT]);
+        self.cleared(unit);
+    }
+
+    /// What any 87 that succeeds makes of the table: no pair counts, and all of its room is 00.
+    fn cleared(&mut self, unit: usize) {
+        self.records[unit][PAIRS_AT..].fill(0x00);
     }
 
     /// Bytes of an image that stand in host memory afterwards.
@@ -485,7 +492,7 @@ fn initialize(sheet: &mut Sheet) {
             table: Table::NONE,
             holder: Holder::Nobody,
         });
-        put(&mut want.records[1], 0, &record[..TABLE_AT]);
+        want.records[1] = record;
         want.ended(1, 0, 0x80, 0x00, 0);
         sheet.expect(name, &case, &want);
     }

@@ -1,7 +1,7 @@
-//! The chain of a world made of steps, held to what the run of the same world left. The model has no
-//! part in it: the library's run is compared with it, and here the library with itself.
+//! The chain of a world made of steps, held to what the run of the same world left, in every byte. The
+//! model has no part in it: the library's run is compared with it, and here the library with itself.
 
-use crate::case::{stored_end, Case, RecordBytes, PAIRS_AT};
+use crate::case::Case;
 use crate::compare::bytes;
 use crate::sides::{Left, Opponent};
 
@@ -12,23 +12,20 @@ const SIDES: [&str; 2] = ["steps", "run"];
 pub struct Tally {
     chains: u64,
     steps: u64,
-    /// Worlds in which the two left other bytes of a record after the pairs that count.
-    tails: u64,
 }
 
 impl Tally {
     pub fn join(&mut self, other: &Tally) {
         self.chains += other.chains;
         self.steps += other.steps;
-        self.tails += other.tails;
     }
 
     /// None where no chain was made of steps, as without the library.
     pub fn line(&self) -> Option<String> {
         (self.chains > 0).then(|| {
             format!(
-                "{} chains made of {} steps leave what the runs left; {} with other bytes after the pairs that count",
-                self.chains, self.steps, self.tails
+                "{} chains made of {} steps leave what the runs left",
+                self.chains, self.steps
             )
         })
     }
@@ -54,15 +51,9 @@ pub fn differences(opponent: Opponent, case: &Case, run: &Left, tally: &mut Tall
             steps.outcome, run.outcome
         ));
     }
-    let mut tail = false;
-    for (unit, name) in ["record 0", "record 1"].into_iter().enumerate() {
-        let [(one, one_after), (other, other_after)] =
-            [&steps, run].map(|left| counting(&left.records[unit]));
-        bytes(name, SIDES, one, other, &mut lines);
-        tail |= one_after != other_after;
-    }
-    tally.tails += tail as u64;
-    let buffers: [(&str, &[u8], &[u8]); 4] = [
+    let buffers: [(&str, &[u8], &[u8]); 6] = [
+        ("record 0", &steps.records[0], &run.records[0]),
+        ("record 1", &steps.records[1], &run.records[1]),
         ("host memory", &steps.host, &run.host),
         ("image 0", &steps.images[0], &run.images[0]),
         ("image 1", &steps.images[1], &run.images[1]),
@@ -75,13 +66,4 @@ pub fn differences(opponent: Opponent, case: &Case, run: &Left, tally: &mut Tall
         lines.push(format!("a step changed bytes next to {}", buffer));
     }
     lines
-}
-
-/// A record up to the last pair that counts, and what stands after it. A run stores a record once and a
-/// chain of steps after each block, so that one which maps tracks and then initializes has stored pairs
-/// that do not count any more. A run of the same chain leaves there what was there before. Nobody reads
-/// these bytes, and the two may differ in them.
-fn counting(record: &RecordBytes) -> (&[u8], &[u8]) {
-    let pairs = u16::from_be_bytes([record[PAIRS_AT], record[PAIRS_AT + 1]]);
-    record.split_at(stored_end(pairs))
 }

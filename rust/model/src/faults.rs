@@ -57,6 +57,7 @@ pub enum Fault {
     SpareRefused,
     SpareJudgedBy16,
     TableKept,
+    PastPairsLeft,
     TableAsAtStart,
     TableOfUnit0,
     FirstPairAlone,
@@ -144,7 +145,7 @@ pub enum Fault {
 
 impl Fault {
     /// In the rules: a run or an inspection comes out wrong.
-    pub const IN_RULES: [Fault; 73] = [
+    pub const IN_RULES: [Fault; 74] = [
         Fault::EventsOneByteLess,
         Fault::AllowanceOneMore,
         Fault::FiveBeforeSix,
@@ -195,6 +196,7 @@ impl Fault {
         Fault::SpareRefused,
         Fault::SpareJudgedBy16,
         Fault::TableKept,
+        Fault::PastPairsLeft,
         Fault::TableAsAtStart,
         Fault::TableOfUnit0,
         Fault::FirstPairAlone,
@@ -359,6 +361,7 @@ impl Fault {
             Fault::SpareRefused => "16 where a spare is named",
             Fault::SpareJudgedBy16 => "16 judged by the spare's address",
             Fault::TableKept => "table kept after 87",
+            Fault::PastPairsLeft => "87 leaves the bytes past the pairs",
             Fault::TableAsAtStart => "table as it stood at the start of the run",
             Fault::TableOfUnit0 => "table of unit 0 for both units",
             Fault::FirstPairAlone => "first pair of the table searched alone",

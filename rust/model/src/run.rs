@@ -318,8 +318,8 @@ impl Chain<'_> {
         }
     }
 
-    /// "87 replaces the unit record; the heads are at cylinder 0", and it "clears the table". Its travel
-    /// is zero.
+    /// "87 replaces the unit record; the heads are at cylinder 0", and it "clears the table", all of its
+    /// room. Its travel is zero.
     fn initialize(&mut self, block: &Block, accepted: &Accepted) -> Done {
         let record = &mut self.world.records[block.unit() as usize];
         let old_cylinder = record.cylinder;
@@ -337,6 +337,9 @@ impl Chain<'_> {
                     table: if seeded(Fault::TableKept) {
                         // the drive has its bad tracks still
                         record.table
+                    } else if seeded(Fault::PastPairsLeft) {
+                        // an empty table laid over the old bytes
+                        record.table.uncounted()
                     } else {
                         Table::NONE
                     },

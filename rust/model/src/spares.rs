@@ -28,8 +28,8 @@ pub struct Pair {
 pub struct Table {
     /// How many pairs there are by what a record says, which may be more than have room.
     count: u16,
-    /// All that come after those that count are `NO_PAIR`, so that two tables are the same where
-    /// what counts is.
+    /// All that have room, those past the pairs that count too. Nothing goes by these, but a record is
+    /// its bytes: two tables are the same where all of it is.
     pairs: [Pair; MOST_PAIRS],
 }
 
@@ -68,13 +68,13 @@ impl Track {
 }
 
 impl Table {
-    /// The table of a unit that no 85 has reached.
+    /// The table of a unit that no 85 has reached since its initialize.
     pub const NONE: Table = Table {
         count: 0,
         pairs: [NO_PAIR; MOST_PAIRS],
     };
 
-    /// A table that says so many pairs, and has them as far as there is room.
+    /// A table that says so many pairs, and has them as far as there is room; past them it is blank.
     pub fn saying(count: u16, pair: impl Fn(usize) -> Pair) -> Table {
         let mut table = Table::NONE;
         table.count = count;
@@ -82,6 +82,19 @@ impl Table {
             table.pairs[k] = pair(k);
         }
         table
+    }
+
+    /// A table that says so many pairs, with what stands in all of its room, whether it counts or not.
+    pub fn standing(count: u16, pair: impl Fn(usize) -> Pair) -> Table {
+        Table {
+            count,
+            pairs: std::array::from_fn(pair),
+        }
+    }
+
+    /// The same room without a pair that counts.
+    pub(crate) fn uncounted(self) -> Table {
+        Table { count: 0, ..self }
     }
 
     /// How many pairs it says.
@@ -96,6 +109,11 @@ impl Table {
     /// The pairs that count: no more than have room.
     pub fn pairs(&self) -> &[Pair] {
         &self.pairs[..self.counting()]
+    }
+
+    /// All that has room: the pairs that count, and what stands past them.
+    pub fn room(&self) -> &[Pair; MOST_PAIRS] {
+        &self.pairs
     }
 
     /// The pairs in which a bad track is looked for.

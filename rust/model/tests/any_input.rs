@@ -95,7 +95,7 @@ fn record(draw: &mut Draw) -> Record {
     record
 }
 
-/// Tracks anywhere, or mostly near the small drive.
+/// Tracks anywhere, or mostly near the small drive, in all of the table's room.
 fn any_table(draw: &mut Draw, near: u64) -> Table {
     let bytes = draw.bytes(256);
     let count = draw.below(40) as u16;
@@ -104,7 +104,7 @@ fn any_table(draw: &mut Draw, near: u64) -> Table {
         head: bytes[k + 1] % if near == 1 { 4 } else { 255 },
         last: (bytes[k + 2] == 0) as u8,
     };
-    Table::saying(count, |k| Pair {
+    Table::standing(count, |k| Pair {
         bad: track(8 * k),
         spare: track(8 * k + 4),
     })

@@ -282,6 +282,52 @@ fn initialize_clears_the_table() {
     refused(&mut w, &b, 13);
 }
 
+/// A table with one pair that counts, and something else in the rest of its room.
+fn with_more_past_the_pair() -> Table {
+    Table::standing(1, |k| match k {
+        0 => table(&[((1, 0), (9, 2))]).pairs()[0],
+        _ => Pair {
+            bad: Track::new(0x5a5a, k as u8),
+            spare: Track::new(1, 0),
+        },
+    })
+}
+
+#[test]
+fn initialize_clears_the_room_past_the_pairs() {
+    let mut w = world(100);
+    w.records[0].table = with_more_past_the_pair();
+    let b = initialize(&mut w);
+    assert_eq!(one(&mut w, &b), 0);
+    assert_eq!(w.records[0], ready());
+    // no pair counts, and one byte of the room is another
+    w.records[0].table = Table::standing(0, |k| Pair {
+        bad: track((0, 0)),
+        spare: track((0, (k == 31) as u8)),
+    });
+    assert_ne!(w.records[0], ready());
+    assert_eq!(one(&mut w, &b), 0);
+    assert_eq!(w.records[0], ready());
+}
+
+/// What stands past the pairs that count is judged by nobody, and every other block leaves it.
+#[test]
+fn the_room_past_the_pairs_stays_without_an_initialize() {
+    let mut w = world(100);
+    w.records[0].table = with_more_past_the_pair();
+    assert!(w.records[0].counts_as_initialized());
+    let before = *w.records[0].table.room();
+    assert_eq!(one(&mut w, &block(0x89, 0)), 0);
+    assert_eq!(*w.records[0].table.room(), before);
+    assert_eq!(one(&mut w, &remap(0, (2, 0), (8, 2))), 0);
+    let after = w.records[0].table;
+    assert_eq!(
+        after.pairs(),
+        table(&[((1, 0), (9, 2)), ((2, 0), (8, 2))]).pairs()
+    );
+    assert_eq!(after.room()[2..], before[2..]);
+}
+
 #[test]
 fn tables_that_no_record_can_have() {
     let one_pair = table(&[((1, 0), (9, 2))]);

@@ -232,7 +232,7 @@ pub mod record {
     pub const AT_HOLDER: usize = 17;
     /// How many pairs count, two bytes.
     pub const AT_PAIRS: usize = 18;
-    /// The room for the pairs.
+    /// The room for 32 pairs, those that count first. An initialize that succeeds makes all of it 00.
     pub const AT_TABLE: usize = 20;
 }
 

@@ -126,7 +126,9 @@ pub fn layouts_match() -> bool {
             foreign::vsmd_outcome_len(),
         )
     };
-    version == LAYOUT_VERSION && record == RECORD_LEN as u64 && outcome == OUTCOME_LEN as u64
+    // what a step leaves is as long as an outcome, and has no function of its own
+    let lengths = [RECORD_LEN, OUTCOME_LEN, STEPPED_LEN].map(|len| len as u64);
+    version == LAYOUT_VERSION && [record, outcome, outcome] == lengths
 }
 
 /// The layouts of the archive have to be those that this crate lays its bytes out by.
@@ -144,6 +146,7 @@ pub(crate) fn assert_layouts() {
 /// leaves its entry in the 8 bytes of `events` from 8(k − 1) on. What the blocks wrote stands
 /// in host memory and the images afterwards; a record is another where a block changed it (an
 /// initialize, heads that stand elsewhere, a pair more in its table, another holder of the drive).
+/// An initialize that succeeds clears all 32 pairs of its table, those past the ones that count too.
 /// With the answers 1, 2 and 3 nothing is changed.
 ///
 /// # Panics
@@ -268,6 +271,8 @@ fn told(outcome: &[u8; OUTCOME_LEN], answer: u32) -> Outcome {
 /// block that fails is no error of the call.
 ///
 /// A step has no allowance, and a chain may link in a circle: the loop stops by an allowance of its own.
+/// Where nobody else changes anything in between, the steps of a chain leave what a run of it leaves, in
+/// every byte.
 ///
 /// ```
 /// use vsmd3200::bytes::{block, command, option};

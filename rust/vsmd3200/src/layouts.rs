@@ -128,7 +128,9 @@ pub struct Pair {
 ///
 /// A run hands a record back byte for byte unless a block changed it. So a record that a board
 /// keeps in flash may have any bytes at all: zeros, erased cells and the record of another
-/// version count as not initialized. [`Record::upgrade`] takes a record of version 1.
+/// version count as not initialized. [`Record::upgrade`] takes a record of version 1. What stands in
+/// the table past the pairs that count is never judged and comes back as it came, until an initialize
+/// succeeds: that makes every byte of the table 00. Two records are equal where all of their bytes are.
 #[derive(Clone, Copy, Debug, PartialEq, Eq, Hash)]
 #[repr(transparent)]
 pub struct Record([u8; RECORD_LEN]);
@@ -156,9 +158,9 @@ impl Record {
         Record(with_word(bytes, record::AT_CYLINDER, cylinder))
     }
 
-    /// The same record with these pairs and no other. None where they are over 32, which no table has
-    /// room for. Whether a drive can have them is judged when the record is used: a track outside
-    /// the drive, or one track twice, makes it count as not initialized.
+    /// The same record with these pairs and no other; the bytes past them stay as they are. None where
+    /// they are over 32, which no table has room for. Whether a drive can have them is judged when the
+    /// record is used: a track outside the drive, or one track twice, makes it count as not initialized.
     pub fn with_pairs(&self, pairs: &[Pair]) -> Option<Record> {
         if pairs.len() > PAIRS_MOST {
             return None;

@@ -51,7 +51,12 @@ fn compiled(name: &str, program: &str, flag: &str) -> PathBuf {
 
 /// What a C program prints that includes the header and has this body, a line each.
 fn printed(name: &str, program: &str) -> Vec<String> {
-    let program = format!("#include \"vsmd3200.h\"\n#include <stdio.h>\n{program}");
+    printed_with(name, "#include \"vsmd3200.h\"\n", program)
+}
+
+/// The same with this in the place of the header.
+fn printed_with(name: &str, header: &str, program: &str) -> Vec<String> {
+    let program = format!("{header}#include <stdio.h>\n{program}");
     // What is not called is left out, so that no library has to be linked.
     let binary = compiled(name, &program, "-O1");
     let output = Command::new(&binary).output().unwrap();
@@ -399,6 +404,14 @@ int main(void)
     let words = ["01 80 FF 02", "180FF02", "4 20", "3"];
     let lines = words.into_iter().chain(["1", "0", "0", "0", "1"]);
     assert_eq!(printed("words", program), lines.collect::<Vec<_>>());
+    // The library tells no length of a step: it is that of an outcome, and a header with another
+    // matches no library.
+    let header = text_of("include/vsmd3200.h");
+    let longer = header.replace("VSMD_STEPPED_LEN 16u", "VSMD_STEPPED_LEN 20u");
+    assert_ne!(longer, header);
+    let lines = words.into_iter().chain(["0", "0", "0", "0", "1"]);
+    let printed = printed_with("longer_step", &longer, program);
+    assert_eq!(printed, lines.collect::<Vec<_>>());
     assert!(vsmd3200::layouts_match());
 }
 

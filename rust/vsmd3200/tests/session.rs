@@ -270,8 +270,10 @@ fn pairs_are_their_bytes() {
     assert_eq!(record.pairs().collect::<Vec<_>>(), two);
     assert_eq!(record.pair(1), Some(two[1]));
     assert_eq!(record.pair(2), None);
-    // What stands after the pairs that count is nobody's.
-    assert_eq!(record.with_pairs(&two[..1]).unwrap().pairs().len(), 1);
+    // The bytes of the second pair stay, past the one that counts.
+    let one = record.with_pairs(&two[..1]).unwrap();
+    assert_eq!((one.pairs().len(), one.pair(1)), (1, None));
+    assert_eq!(one.as_bytes()[20..], expected[20..]);
     let most = [pair((0, 0), (1, 1)); PAIRS_MOST + 1];
     let full = none.with_pairs(&most[1..]).unwrap();
     assert_eq!(

@@ -1,9 +1,9 @@
 //! Chains made of steps: they leave what a run leaves, and a step that is refused leaves every byte.
 
-use vsmd3200::bytes::{block, command, option, status};
+use vsmd3200::bytes::{block, command, option, record, status};
 use vsmd3200::{
-    run_as, step_as, BlockAnswer, Controller, Geometry, Order, Outcome, Record, RunAnswer,
-    StepRefused, Stepped, Volume, EVENTS_LEN_LEAST, EVENT_LEN,
+    run_as, step_as, BlockAnswer, Controller, Geometry, Order, Outcome, Pair, Record, RunAnswer,
+    StepRefused, Stepped, Track, Volume, EVENTS_LEN_LEAST, EVENT_LEN,
 };
 
 const UIB: [u8; 18] = [
@@ -142,15 +142,20 @@ impl Lent {
 
 /// Whether a chain from 0 leaves the same by steps as by a run, and how it ends.
 fn both_ways(lent: &Lent, allowance: u32) -> Outcome {
-    let ends = Controller::ALL.map(|controller| {
+    left_both_ways(lent, allowance).0
+}
+
+/// The same, with what both of them leave.
+fn left_both_ways(lent: &Lent, allowance: u32) -> (Outcome, Lent) {
+    let [first, second] = Controller::ALL.map(|controller| {
         let (mut by_run, mut by_steps) = (lent.clone(), lent.clone());
         let outcome = by_run.run(0, allowance, controller);
         assert_eq!(by_steps.steps(0, allowance, controller), outcome);
         assert_eq!(by_steps, by_run);
-        outcome
+        (outcome, by_run)
     });
-    assert_eq!(ends[0], ends[1]);
-    ends[0]
+    assert_eq!(first, second);
+    first
 }
 
 #[test]
@@ -228,6 +233,71 @@ fn the_link_is_the_one_that_was_fetched() {
         (true, 200, 1)
     );
     assert_ne!(lent.host[block::AT_LINK + 3], 200);
+}
+
+/// An 85 of the track on a cylinder, head 0, whose spare is on cylinder 9, head 2.
+fn lay_remap(lent: &mut Lent, at: usize, options: u8, cylinder: u8, link: u32) -> Pair {
+    lent.lay(at, command::MAP_TRACK, options, 0, link);
+    lent.host[at + block::AT_CYLINDER + 1] = cylinder;
+    lent.host[at + block::AT_SPARE_CYLINDER + 1] = 9;
+    lent.host[at + block::AT_SPARE_HEAD] = 2;
+    let track = |cylinder, head| Track { cylinder, head };
+    Pair {
+        bad: track(cylinder.into(), 0),
+        spare: track(9, 2),
+    }
+}
+
+/// The small drive with its heads on cylinder 0 and no pairs, and 5A in all of their room.
+fn with_other_bytes() -> Record {
+    let mut bytes = *Record::from_parts(true, SMALL, 0).as_bytes();
+    bytes[record::AT_TABLE..].fill(0x5a);
+    Record::from_bytes(bytes)
+}
+
+/// An 85 at 0, an initialize at 28, and another 85 at 74. A run stores the record once and a loop of
+/// steps three times, the first pair too; the initialize leaves nothing of it.
+#[test]
+fn an_initialize_clears_the_table_both_ways() {
+    let mut lent = Lent::example();
+    lent.records[0] = with_other_bytes();
+    let first = lay_remap(&mut lent, 0, option::LK, 1, 28);
+    lent.lay(28, command::INITIALIZE, option::LK, 56, 74);
+    let last = lay_remap(&mut lent, 74, 0, 2, 0);
+    let fresh = Record::from_parts(true, SMALL, 0);
+    let left = |blocks| {
+        let (outcome, left) = left_both_ways(&lent, blocks);
+        assert_eq!((outcome.blocks, outcome.failed), (blocks, None));
+        assert_eq!(left.records[1], Record::UNINITIALIZED);
+        left.records[0]
+    };
+    // the pair is stored, and what stands past it is as it came
+    assert_eq!(Some(left(1)), with_other_bytes().with_pairs(&[first]));
+    assert_eq!(left(2), fresh);
+    assert_eq!(left(2).as_bytes()[record::AT_TABLE..], [0; 256]);
+    assert_eq!(Some(left(3)), fresh.with_pairs(&[last]));
+}
+
+/// The drive is initialized as it was: the bytes of the table are all that is another afterwards. An
+/// initialize that is refused leaves them, and so does every other block.
+#[test]
+fn the_room_of_a_table_is_cleared_by_an_initialize_alone() {
+    let mut lent = Lent::example();
+    lent.records[0] = with_other_bytes();
+    lent.lay(0, command::INITIALIZE, 0, 56, 0);
+    let (outcome, left) = left_both_ways(&lent, 1);
+    assert_eq!(outcome.answer, RunAnswer::Done);
+    assert_eq!(left.records[0], Record::from_parts(true, SMALL, 0));
+
+    lent.host[56 + 12] = 0xff;
+    let (outcome, left) = left_both_ways(&lent, 1);
+    assert_eq!(outcome.failed, Some(BlockAnswer::UibOutsideLimits));
+    assert_eq!(left.records, lent.records);
+
+    lent.lay(0, command::RESTORE, 0, 0, 0);
+    let (outcome, left) = left_both_ways(&lent, 1);
+    assert_eq!(outcome.answer, RunAnswer::Done);
+    assert_eq!(left.records, lent.records);
 }
 
 #[test]

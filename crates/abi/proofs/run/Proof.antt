@@ -1,23 +1,22 @@
 -- The records that stand in the bytes go in, and board's run comes out as bytes again.
 -- What each function stored is the part of the definition that bears its name.
-use Rattle.abi.proofs.Called.{made-is, tracks-read}
+use mathlib.Core.Path.{refl}
+use Rattle.abi.proofs.Called.{made-is}
 use Rattle.abi.specs.Calls.{lentOf}
 use denote.Ref.{now}
 use borrow.Author.Needs.{needs}
 use Rattle.abi.proofs.run.Statement.{statement}
 use Rattle.abi.proofs.run.Tie as tie
-use Rattle.unit.specs.Made.{bare}
 
--- The places: the call's beginning, from where unit 0's tracks are read; that, from where unit 1's are to be; where these are,
--- from the run; the run, from where record 0 is to be left; where it was, from where record 1 is to be; and where this was, from
--- where the outcome's number is known.
-abbrev start : tie.After-read-tracks → tie.Start
-start c = c .before .before .before .before .before .before .before .before .before .before .before .before .before .before .before
+-- The places: the call's beginning, from where unit 0 is read; that, from where unit 1 is to be; where it was, from the run; the run, from where
+-- record 0 is to be left; where it was, from where record 1 is to be; and where this was, from where the outcome's number is known.
+abbrev start : tie.After-unit-in → tie.Start
+start c = c .before .before .before .before .before .before .before .before .before .before
 
-abbrev first : tie.After-map1 → tie.After-read-tracks
-first c = c .before .before .before
+abbrev first : tie.After-map1 → tie.After-unit-in
+first c = c .before .before
 
-abbrev second : tie.After-run → tie.After-read-tracks2
+abbrev second : tie.After-run → tie.After-unit-in2
 second c = c .before .before .before .before .before .before .before
 
 abbrev ran : tie.After-map03 → tie.After-run
@@ -29,23 +28,11 @@ left-zero c = c .before .before .before .before
 abbrev left-one : tie.After-number → tie.After-leave-record2
 left-one c = c .before .before .before
 
-record-requires : tie.Need-record-requires
-record-requires c κs = search needs
+unit-in-requires : tie.Need-unit-in-requires
+unit-in-requires c κs = (search needs, refl)
 
-record-requires-2 : tie.Need-record-requires-2
-record-requires-2 c κs = search needs
-
-pairs-requires : tie.Need-pairs-requires
-pairs-requires c κs = search needs
-
-read-tracks-requires : tie.Need-read-tracks-requires
-read-tracks-requires c κs = search needs
-
-pairs-requires-2 : tie.Need-pairs-requires-2
-pairs-requires-2 c κs = search needs
-
-read-tracks-requires-2 : tie.Need-read-tracks-requires-2
-read-tracks-requires-2 c κs = start (first c) .pre .1 .0
+unit-in-requires-2 : tie.Need-unit-in-requires-2
+unit-in-requires-2 c κs = (start (first c) .pre .1 .0, refl)
 
 run-requires : tie.Need-run-requires
 run-requires c κs = search needs
@@ -92,28 +79,20 @@ returns c =
     let said = stored .before .before in
     let left = left-zero (left-one said .before) in
     let run = ran (left .before) in
-    let tracks1 = second run in
-    let tracks0 = first (tracks1 .before) in
-    let record1 = tracks0 .before .before .before .before in
-    let record0 = record1 .before .before in
-    let a = start tracks0 .args in
+    let one = second run in
+    let zero = first (one .before) in
+    let a = start zero .args in
     made-is (a .c) (a .first) (a .allowance)
     (lentOf (now (a .host)) (now (a .image0)) (now (a .image1)) (now (a .events)) (now (a .record0)) (now (a .record1)) (now (a .outcome)))
-    _
-    (tracks-read (now (a .record0)) (bare (record0 .«record» .result)) (record0 .«record» .ensures) (tracks0 .before .before .pairs .ensures) (tracks0 .read-tracks .ensures))
-    (tracks-read (now (a .record1)) (bare (record1 .record2 .result)) (record1 .record2 .ensures) (tracks1 .before .before .pairs2 .ensures) (tracks1 .read-tracks2 .ensures))
-    (run .run .ensures) (left .leave-record .ensures) (left-one said .leave-record2 .ensures) (said .number .ensures) (stored .put-outcome .ensures)
+    _ (zero .unit-in .ensures) (one .unit-in2 .ensures) (run .run .ensures) (left .leave-record .ensures) (left-one said .leave-record2 .ensures)
+    (said .number .ensures) (stored .put-outcome .ensures)
 
 pub run-spec : {M : Type 1} → statement M
 run-spec =
     tie.close
     (tie.spec
-    record-requires
-    record-requires-2
-    pairs-requires
-    read-tracks-requires
-    pairs-requires-2
-    read-tracks-requires-2
+    unit-in-requires
+    unit-in-requires-2
     run-requires
     leave-record-requires
     leave-record-requires-2

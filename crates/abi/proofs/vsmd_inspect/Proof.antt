@@ -1,13 +1,13 @@
 -- A record that is too short is met before anything is stored.
 -- Past both tests the part is board's, of the records that stand in the bytes.
-use Rattle.abi.proofs.Called.{inspection-made, inspection-refused-0, inspection-refused-1, tracks-read}
+use Rattle.abi.proofs.Called.{inspection-made, inspection-refused-0, inspection-refused-1}
+use Rattle.abi.proofs.AsRead.{part-as-read}
 use denote.Ref.{now}
 use native.Mathlib.Omega.{arith}
-use mathlib.Core.Path.{sym}
+use mathlib.Core.Path.{refl, sym}
 use borrow.Author.Needs.{needs}
 use Rattle.abi.proofs.vsmd_inspect.Statement.{statement}
 use Rattle.abi.proofs.vsmd_inspect.Tie as tie
-use Rattle.unit.specs.Made.{bare}
 
 -- The call's beginning, from the first test.
 abbrev start : tie.After-shared-slice-known2 → tie.Start
@@ -23,23 +23,11 @@ returns-2 c =
     let a = start (c .before .before) .args in
     sym (inspection-refused-1 (now (a .record0)) (now (a .record1)) (a .long0) (a .long1) (a .unit) (a .place) _ _ _ (omega arith) (omega arith))
 
-record-requires : tie.Need-record-requires
-record-requires c κs = search needs
+unit-in-requires : tie.Need-unit-in-requires
+unit-in-requires c κs = (search needs, refl)
 
-record-requires-2 : tie.Need-record-requires-2
-record-requires-2 c κs = search needs
-
-pairs-requires : tie.Need-pairs-requires
-pairs-requires c κs = search needs
-
-read-tracks-requires : tie.Need-read-tracks-requires
-read-tracks-requires c κs = search needs
-
-pairs-requires-2 : tie.Need-pairs-requires-2
-pairs-requires-2 c κs = search needs
-
-read-tracks-requires-2 : tie.Need-read-tracks-requires-2
-read-tracks-requires-2 c κs = search needs
+unit-in-requires-2 : tie.Need-unit-in-requires-2
+unit-in-requires-2 c κs = (search needs, refl)
 
 part-of-requires : tie.Need-part-of-requires
 part-of-requires c κs = search needs
@@ -49,21 +37,18 @@ image-number-requires c κs = search needs
 
 returns-3 : tie.Need-returns-3
 returns-3 c =
-    let second = c .before .before .before .before in
-    let first = second .before .before .before in
-    let pairs = first .before .before in
-    let record1 = pairs .before in
-    let record0 = record1 .before in
-    let past = record0 .before in
-    let a = start (past .before .before) .args in
-    let zero = tracks-read (now (a .record0)) (bare (record0 .«record» .result)) (record0 .«record» .ensures) (pairs .pairs .ensures) (first .read-tracks .ensures) in
-    let one = tracks-read (now (a .record1)) (bare (record1 .record2 .result)) (record1 .record2 .ensures) (second .before .before .pairs2 .ensures) (second .read-tracks2 .ensures) in
+    let asked = c .before in
+    let one = asked .before .before .before in
+    let zero = one .before .before in
+    let a = start (zero .before .before .before .before) .args in
+    let part = part-as-read (now (a .record0)) (now (a .record1)) (a .long0) (a .long1) (a .unit) (a .place) in
     rw (
       inspection-made (now (a .record0)) (now (a .record1)) (a .long0) (a .long1) (a .unit) (a .place) (now (a .image)) (now (a .at)) (now (a .bytes)) (omega arith) (omega arith),
       c .image-number .ensures,
-      c .before .part-of .ensures,
-      zero,
-      one,
+      asked .part-of .ensures,
+      zero .unit-in .ensures,
+      one .unit-in2 .ensures,
+      part,
     )
 
 pub vsmd-inspect-spec : {M : Type 1} → statement M
@@ -72,12 +57,8 @@ vsmd-inspect-spec =
     (tie.spec
     returns
     returns-2
-    record-requires
-    record-requires-2
-    pairs-requires
-    read-tracks-requires
-    pairs-requires-2
-    read-tracks-requires-2
+    unit-in-requires
+    unit-in-requires-2
     part-of-requires
     image-number-requires
     returns-3)

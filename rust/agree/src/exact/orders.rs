@@ -362,6 +362,7 @@ fn initializes(sheet: &mut Sheet) {
     let mut want = unchanged(&case, 0, 0, 2, 2);
     want.moved(0, 192, 100, 64);
     want.moved(0, 768, 164, 64);
+    want.initialized(0);
     want.records[0][ORDER] = BY_CYLINDER;
     want.records[0][15] = 1;
     want.ended(1, 0, 0x80, 0x00, 0);

@@ -93,6 +93,7 @@ pub fn all(sheet: &mut Sheet) {
     volumes(sheet);
     chains(sheet);
     cleared(sheet);
+    cleared_along_a_chain(sheet);
     tables_that_are_bad(sheet);
 }
 
@@ -356,13 +357,17 @@ fn volumes(sheet: &mut Sheet) {
     );
 }
 
-/// 85 linked to a seek, to a write and to a read: the pair holds for the block after it.
-fn chains(sheet: &mut Sheet) {
-    let link = |b: Block, to: u32| Block {
+/// A block with a link.
+fn link(b: Block, to: u32) -> Block {
+    Block {
         options: b.options | LK,
         linked_block_address: to,
         ..b
-    };
+    }
+}
+
+/// 85 linked to a seek, to a write and to a read: the pair holds for the block after it.
+fn chains(sheet: &mut Sheet) {
     let mut case = with_block(400, &link(logical(0x8a, 0, 8, 0, 0), 32));
     let blocks = [
         (32, link(remap(0, BAD, SPARE), 64)),
@@ -397,8 +402,8 @@ fn cleared(sheet: &mut Sheet) {
     put(&mut case.host, 40, &SMALL_UIB);
     put(&mut case.host, 64, &logical(0x8a, 0, 8, 0, 0).bytes());
     let mut want = unchanged(&case, 0, 0, 2, 0);
-    // The number alone: the bytes of the pair are still there.
-    put(&mut want.records[0], 18, &[0x00, 0x00]);
+    // The number, the bytes of the pair, and the 5A after it.
+    want.cleared(0);
     want.records[0][15] = 1;
     want.ended(1, 0, 0x80, 0x00, 0);
     want.ended(2, 64, 0x80, 0x00, 1);
@@ -407,6 +412,73 @@ fn cleared(sheet: &mut Sheet) {
     let mut want = unchanged(&case, 4, 13, 1, 0);
     want.ended(1, 0, 0x82, 0x51, 0);
     sheet.expect("87 that is refused does not", &case, &want);
+
+    // The drive that it was, heads on cylinder 0 and no pairs: what stands in the room is all that is
+    // another, in one byte of it too.
+    let again = Block {
+        buffer_address: 40,
+        ..block(0x87, 0)
+    };
+    let mut case = with_block(100, &again);
+    put(&mut case.host, 40, &SMALL_UIB);
+    let mut want = unchanged(&case, 0, 0, 1, 0);
+    want.cleared(0);
+    want.ended(1, 0, 0x80, 0x00, 0);
+    sheet.expect("87 of the same drive clears the room", &case, &want);
+    for at in [20, 147, 275] {
+        case.records[0][20..].fill(0x00);
+        case.records[0][at] = 0x01;
+        sheet.expect("and a byte of it", &case, &want);
+    }
+
+    // A record that says more pairs than have room.
+    let mut case = long(32, &again);
+    put(&mut case.host, 40, &SMALL_UIB);
+    put(&mut case.records[0], 18, &[0xff, 0xff]);
+    let mut want = unchanged(&case, 0, 0, 1, 0);
+    want.initialized(0);
+    want.ended(1, 0, 0x80, 0x00, 0);
+    sheet.expect("87 clears a table of 32 pairs that says more", &case, &want);
+}
+
+/// 85s before an 87 of the same chain and after it: those before are gone, in the bytes too.
+fn cleared_along_a_chain(sheet: &mut Sheet) {
+    let initialize = Block {
+        buffer_address: 40,
+        ..block(0x87, 0)
+    };
+    let blocks = [
+        (64, link(remap(0, (2, 0), (8, 2)), 96)),
+        (96, link(initialize, 128)),
+        (128, remap(0, (3, 1), (7, 0))),
+    ];
+    let mut case = with_block(200, &link(remap(0, BAD, SPARE), 64));
+    put(&mut case.host, 40, &SMALL_UIB);
+    for (at, b) in &blocks {
+        put(&mut case.host, *at, &b.bytes());
+    }
+    for allowance in 1..=4 {
+        case.allowance = allowance as u32;
+        let answer = if allowance == 4 { 0 } else { 6 };
+        let mut want = unchanged(&case, answer, 0, allowance as u32, 0);
+        for (k, at) in [0, 64, 96, 128].into_iter().take(allowance).enumerate() {
+            want.ended(k + 1, at, 0x80, 0x00, 0);
+        }
+        let record = &mut want.records[0];
+        match allowance {
+            1 => put_pair(record, 0, BAD, SPARE),
+            2 => {
+                put_pair(record, 0, BAD, SPARE);
+                put_pair(record, 1, (2, 0), (8, 2));
+            }
+            3 => want.cleared(0),
+            _ => {
+                want.cleared(0);
+                put_pair(&mut want.records[0], 0, (3, 1), (7, 0));
+            }
+        }
+        sheet.expect("85, 85, 87 and 85 in one chain", &case, &want);
+    }
 }
 
 /// "A record handed in with over 32 pairs, a track outside the drive, or one track twice in the table,
@@ -441,7 +513,8 @@ fn tables_that_are_bad(sheet: &mut Sheet) {
         want.parts = vec![NOTHING];
         sheet.expect(name, &case, &want);
     }
-    // The same byte after the pairs that count is nobody's.
+    // The same track past the pairs that count is not judged. It stays as it came: nothing but an 87
+    // clears it.
     let mut case = two(18, &[0x00, 0x01]);
     put(&mut case.records[0], 28, &track_bytes(BAD));
     case.records[0][15] = 3;

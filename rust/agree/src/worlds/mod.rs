@@ -10,7 +10,7 @@ mod orders;
 mod pair;
 mod tables;
 
-use crate::case::{record_in, stored_end, Case, Inspection, RecordBytes};
+use crate::case::{counting_end, record_in, Case, Inspection, RecordBytes};
 use crate::draw::Draw;
 use chain::{Maker, Plant, Unit, BLOCK, LK};
 pub use drives::Way;
@@ -89,7 +89,7 @@ fn tails(seed: u64, index: u64, records: &mut [RecordBytes; 2]) {
     let mut draw = Draw::of(seed ^ 0x7a11, index);
     for bytes in records {
         if draw.percent(60) {
-            let from = stored_end(record_in(bytes).table.count());
+            let from = counting_end(record_in(bytes).table.count());
             draw.fill(&mut bytes[from..]);
         }
     }

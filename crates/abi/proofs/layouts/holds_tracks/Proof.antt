@@ -1,6 +1,6 @@
 -- Every track before the k-th stands in the bytes; the loop is left at the first that does not, or at the end.
--- The words are the tracks of the pairs that count where each of them is.
-use Prim.Native.Nat.{ℕ, _+_, _*_, _-_, _≤_, _<_, min}
+-- The words are the first tracks of the table where each of them is.
+use Prim.Native.Nat.{ℕ, _+_, _*_, _-_, _≤_, _<_}
 use mathlib.Core.Path.{_≡_, sym, _∙_}
 use native.Mathlib.Numerals.{add-one}
 use native.Mathlib.Omega.{arith}
@@ -13,23 +13,17 @@ use Rattle.abi.proofs.layouts.holds_tracks.Statement.{statement}
 use Rattle.abi.proofs.layouts.holds_tracks.Tie as tie
 
 abbrev Inv-loop : tie.InvT-loop
-Inv-loop bytes pairs table tracks m k₀ k = (k ≤ m) × ((i : ℕ) → i < k → be32 bytes (20 + 4 * i) ≡ getD table i 0)
+Inv-loop bytes m table tracks k₀ k = (k ≤ m) × ((i : ℕ) → i < k → be32 bytes (20 + 4 * i) ≡ getD table i 0)
 
 abbrev μ-loop : tie.MeasureT-loop
-μ-loop bytes pairs table tracks m k₀ k = m - k
+μ-loop bytes m table tracks k₀ k = m - k
 
 -- The places: the call's beginning, from the loop's head; and that, from where a track was read.
 abbrev start : tie.At-loop Inv-loop μ-loop → tie.Start Inv-loop μ-loop
-start c = c .before .before .before .before
+start c = c .before .before .before
 
 abbrev at-loop : tie.After-be32 Inv-loop μ-loop → tie.At-loop Inv-loop μ-loop
 at-loop c = c .before .before
-
-in-room-requires : tie.Need-in-room-requires Inv-loop μ-loop
-in-room-requires c κs = search needs
-
-mul-m : tie.Need-mul-m Inv-loop μ-loop
-mul-m c = omega arith
 
 loop-holds : tie.Need-loop-holds Inv-loop μ-loop
 loop-holds c = (omega arith, λ i h. absurd (omega arith))
@@ -55,7 +49,7 @@ returns c =
     let a = start (at-loop read) .args in
     λ there.
     c .if1 .taken
-    (read .be32 .ensures ∙ there-is-each (a .bytes .now) (a .table .now) (2 * min (a .pairs) 32) there (at-loop read .loop .k) (omega arith))
+    (read .be32 .ensures ∙ there-is-each (a .bytes .now) (a .table .now) (a .m) there (at-loop read .loop .k) (omega arith))
 
 add-k : tie.Need-add-k Inv-loop μ-loop
 add-k c = omega arith
@@ -75,7 +69,7 @@ loop-again c =
 returns-2 : tie.Need-returns-2 Inv-loop μ-loop
 returns-2 c =
     let a = start (c .before) .args in
-    each-is-there (a .bytes .now) (a .table .now) (2 * min (a .pairs) 32) (omega arith) (λ k less. c .before .loop .inv .1 k (omega arith))
+    each-is-there (a .bytes .now) (a .table .now) (a .m) (omega arith) (λ k less. c .before .loop .inv .1 k (omega arith))
 
 pub holds-tracks-spec : {M : Type 1} → statement M
 holds-tracks-spec =
@@ -83,8 +77,6 @@ holds-tracks-spec =
     (tie.spec
     Inv-loop
     μ-loop
-    in-room-requires
-    mul-m
     loop-holds
     mul-be32
     add-be32

@@ -1,15 +1,32 @@
 -- Six stores, one after the other, are the bytes of a record in a row.
--- What is stored is what the record answered, and the tracks of the pairs that count.
+-- What is stored is what the record answered, and the tracks that are known.
+use mathlib.Core.Path.{_∙_}
+use native.Mathlib.Omega.{arith}
+use Rattle.abi.proofs.Left.{known-stored}
 use Rattle.abi.proofs.Stored.{record-stored}
-use Rattle.abi.specs.Layouts.{orderByte}
-use Rattle.geometry.specs.Drive.{byHead}
-use Rattle.unit.specs.Standing.{cylinder, geometry, holder, initialized, pairs}
+use Rattle.unit.specs.Standing.{unitOf}
 use borrow.Author.Needs.{needs}
 use Rattle.abi.proofs.layouts.put_record.Statement.{statement}
 use Rattle.abi.proofs.layouts.put_record.Tie as tie
-use Rattle.spares.specs.Lands.{counted}
-use Rattle.unit.specs.Made.{bare}
-use Rattle.unit.specs.HolderNumbers.{holderNumber}
+
+-- The places: where each store but the last was made, from where the last is to be; and the call's beginning.
+abbrev fifth : tie.After-known-tracks → tie.After-put162
+fifth c = c .before .before .before .before .before
+
+abbrev fourth : tie.After-known-tracks → tie.After-put-order-and-holder
+fourth c = fifth c .before .before .before .before .before
+
+abbrev third : tie.After-known-tracks → tie.After-put16
+third c = fourth c .before .before .before .before
+
+abbrev second : tie.After-known-tracks → tie.After-put-geometry
+second c = third c .before .before .before .before .before
+
+abbrev first : tie.After-known-tracks → tie.After-put-opening
+first c = second c .before .before .before .before .before
+
+abbrev start : tie.After-known-tracks → tie.Start
+start c = first c .before .before .before .before
 
 initialized-requires : tie.Need-initialized-requires
 initialized-requires c κs = search needs
@@ -41,8 +58,11 @@ put16-requires-2 c κs = search needs
 pairs-requires-2 : tie.Need-pairs-requires-2
 pairs-requires-2 c κs = search needs
 
+known-tracks-requires : tie.Need-known-tracks-requires
+known-tracks-requires c κs = search needs
+
 put-tracks-requires : tie.Need-put-tracks-requires
-put-tracks-requires c κs = search needs
+put-tracks-requires c κs = (omega (arith, start c .pre .0), c .known-tracks .ensures .1 .0)
 
 same-length : tie.Need-same-length
 same-length c = search needs
@@ -50,26 +70,15 @@ same-length c = search needs
 returns : tie.Need-returns
 returns c =
     let sixth = c .before .before in
-    let fifth = sixth .before .before .before .before .before in
-    let fourth = fifth .before .before .before .before .before in
-    let third = fourth .before .before .before .before in
-    let second = third .before .before .before .before .before in
-    let first = second .before .before .before .before .before in
-    let a = first .before .before .before .before .args in
-    let u = bare (a .u) in
-    rw (
-      sixth .put-tracks .ensures,
-      fifth .put162 .ensures,
-      fourth .put-order-and-holder .ensures,
-      third .put16 .ensures,
-      second .put-geometry .ensures,
-      first .put-opening .ensures,
-      sixth .before .pairs2 .ensures,
-      fifth .before .pairs .ensures,
-      third .before .cylinder .ensures,
-      second .before .geometry .ensures,
-      first .before .initialized .ensures,
-    ) (record-stored (a .bytes .now) (initialized u) (geometry u) (cylinder u) (orderByte (byHead (geometry u))) (holderNumber (holder u)) (pairs u) (counted (pairs u) (a .table .now)))
+    let known = sixth .before in
+    let a = start known .args in
+    let u = unitOf (a .u) (a .table .now) in
+    sixth .put-tracks .ensures ∙
+    record-stored (a .bytes .now) u (first known .before .initialized .ensures) (second known .before .geometry .ensures)
+    (third known .before .cylinder .ensures) (fifth known .before .pairs .ensures) (known .before .pairs2 .ensures) (known .known-tracks .ensures .0)
+    (first known .put-opening .ensures) (second known .put-geometry .ensures) (third known .put16 .ensures)
+    (fourth known .put-order-and-holder .ensures) (fifth known .put162 .ensures) ∙
+    known-stored (a .bytes .now) (start known .pre .1) u (known .known-tracks .ensures .1 .1)
 
 pub put-record-spec : {M : Type 1} → statement M
 put-record-spec =
@@ -85,6 +94,7 @@ put-record-spec =
     pairs-requires
     put16-requires-2
     pairs-requires-2
+    known-tracks-requires
     put-tracks-requires
     same-length
     returns)

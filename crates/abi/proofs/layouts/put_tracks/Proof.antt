@@ -1,6 +1,6 @@
 -- After i turns the first i tracks are stored, and nothing else has changed.
--- A turn stores the four bytes of one track more; after the last the tracks of all pairs that count are stored.
-use Prim.Native.Nat.{_*_, _-_, _≤_, min}
+-- A turn stores the four bytes of one track more; after the last all of them are stored.
+use Prim.Native.Nat.{_-_, _≤_}
 use mathlib.Core.Path.{_≡_, refl, _∙_}
 use native.Mathlib.Numerals.{add-one}
 use native.Mathlib.Omega.{arith}
@@ -13,23 +13,17 @@ use Rattle.abi.proofs.layouts.put_tracks.Tie as tie
 use Rattle.wire.specs.Storing.{written}
 
 abbrev Inv-loop : tie.InvT-loop
-Inv-loop bytes₀ table pairs tracks m i₀ bytes i = (i ≤ m) × ((bytes ≡ written bytes₀ 20 (trackBytes (take i table))) × (length bytes ≡ length bytes₀))
+Inv-loop bytes₀ table m tracks i₀ bytes i = (i ≤ m) × ((bytes ≡ written bytes₀ 20 (trackBytes (take i table))) × (length bytes ≡ length bytes₀))
 
 abbrev μ-loop : tie.MeasureT-loop
-μ-loop bytes₀ table pairs tracks m i₀ bytes i = m - i
+μ-loop bytes₀ table m tracks i₀ bytes i = m - i
 
 -- The places: the call's beginning, from the loop's head; and that, from a turn's store.
 abbrev start : tie.At-loop Inv-loop μ-loop → tie.Start Inv-loop μ-loop
-start c = c .before .before .before .before
+start c = c .before .before .before
 
 abbrev at-loop : tie.After-put32 Inv-loop μ-loop → tie.At-loop Inv-loop μ-loop
 at-loop c = c .before .before .before .before
-
-in-room-requires : tie.Need-in-room-requires Inv-loop μ-loop
-in-room-requires c κs = search needs
-
-mul-m : tie.Need-mul-m Inv-loop μ-loop
-mul-m c = omega arith
 
 loop-holds : tie.Need-loop-holds Inv-loop μ-loop
 unfolding written trackBytes
@@ -75,7 +69,7 @@ same-length c = omega arith
 returns : tie.Need-returns Inv-loop μ-loop
 returns c =
     let a = start (c .before) .args in
-    let done : c .before .loop .i ≡ 2 * min (a .pairs) 32 = omega arith in
+    let done : c .before .loop .i ≡ a .m = omega arith in
     rw done at (c .before .loop .inv .1 .0)
 
 pub put-tracks-spec : {M : Type 1} → statement M
@@ -84,8 +78,6 @@ put-tracks-spec =
     (tie.spec
     Inv-loop
     μ-loop
-    in-room-requires
-    mul-m
     loop-holds
     mul-put32
     add-put32

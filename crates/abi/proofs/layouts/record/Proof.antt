@@ -29,14 +29,17 @@ returns : tie.Need-returns
 returns c =
     let made = c .before .before in
     let cylinder = made .before .before in
-    rw (
-      c .held-by .ensures,
-      c .before .holder .ensures,
-      made .new .ensures,
-      cylinder .before .before .says-initialized .ensures,
-      cylinder .before .geometry .ensures,
-      cylinder .be16 .ensures,
-      made .before .be162 .ensures,
+    let holder = c .before .holder in (
+      rw (
+        c .held-by .ensures,
+        holder .ensures .0,
+        made .new .ensures,
+        cylinder .before .before .says-initialized .ensures,
+        cylinder .before .geometry .ensures,
+        cylinder .be16 .ensures,
+        made .before .be162 .ensures,
+      ),
+      holder .ensures .1,
     )
 
 pub record-spec : {M : Type 1} → statement M

@@ -1,9 +1,10 @@
 -- What was read decides: a code is handed on, and of a unit that counts the sector is looked for.
--- The unit and its tracks are those that stand in the bytes, on whose drive every landing is.
+-- The unit lands it as the one that stands in the bytes does, on whose drive every landing is.
 use denote.Ref.{now}
 use mathlib.Core.Path.{sym, _∙_}
 use Rattle.abi.specs.Places.{locatedOf}
 use Rattle.abi.specs.Readings.{landsAs}
+use Rattle.abi.proofs.AsRead.{lands-as-read}
 use Rattle.abi.proofs.Readings.{lands-on-drive, located-read}
 use borrow.Author.Needs.{needs}
 use Rattle.abi.proofs.places.locate.Statement.{statement}
@@ -44,7 +45,7 @@ returns c =
     let a = start read .args in
     let held = locatedOf 0 (now (a .place)) (now (a .first)) (now (a .mark)) in
     let u = unit .u .given in
-    c .stand .ensures ∙ rw (shape .geometry .ensures, landed .lands .ensures, rw (u .1) at (read .read .ensures .1))
+    c .stand .ensures ∙ rw (shape .geometry .ensures, landed .lands .ensures, rw (u .1) at (read .read .ensures .1), lands-as-read (now (a .«record»)) (a .wanted))
     (located-read (now (a .«record»)) (landsAs (a .wanted)) held (sym (u .1) ∙ read .read .ensures .0))
 
 returns-2 : tie.Need-returns-2

@@ -6,6 +6,7 @@ use borrow.Author.Needs.{needs}
 use Rattle.wire.proofs.Promises.{says-no, says-yes}
 use Rattle.unit.specs.Standing.{UnitRecord, byValue}
 use Rattle.abi.specs.declared.places.Reading.the-variants.{Counts}
+use Rattle.abi.proofs.AsRead.{counts-as-read, counts-in-bytes}
 use Rattle.abi.proofs.Readings.{read-counts, read-not, read-short}
 use Rattle.abi.proofs.places.read.Statement.{statement}
 use Rattle.abi.proofs.places.read.Tie as tie
@@ -24,14 +25,14 @@ returns-2 c =
     let asked = c .before in
     let is = asked .before .before .unit-in .ensures in
     let so = says-yes (asked .counts-as-initialized .result) _ (c .if2 .taken) (asked .counts-as-initialized .ensures) in
-    (ap (λ (u : UnitRecord). Counts (byValue u)) is ∙ read-counts _ (omega arith) (rw is at so), is)
+    (ap (λ (u : UnitRecord). Counts (byValue u)) is ∙ read-counts _ (omega arith) (counts-as-read _ (rw is at so)), is)
 
 returns-3 : tie.Need-returns-3
 returns-3 c =
     let asked = c .before in
     let is = asked .before .before .unit-in .ensures in
     let not-so = says-no (asked .counts-as-initialized .result) _ (c .if2 .left) (asked .counts-as-initialized .ensures) in
-    (read-not _ (omega arith) (rw is at not-so), refl)
+    (read-not _ (omega arith) (λ so. (rw is at not-so) (counts-in-bytes _ so)), refl)
 
 pub read-spec : {M : Type 1} → statement M
 read-spec =

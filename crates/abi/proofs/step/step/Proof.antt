@@ -1,24 +1,23 @@
 -- The records that stand in the bytes go in, and board's step comes out as bytes again.
 -- Where the block cannot be fetched nothing was touched, since there is room for its entry.
 use denote.Ref.{now}
+use mathlib.Core.Path.{refl}
 use borrow.Author.Needs.{needs}
 use Rattle.abi.specs.Calls.{CallLent, lentOf}
-use Rattle.abi.proofs.Called.{tracks-read}
 use Rattle.abi.proofs.Stepping.{none-is, once-is}
 use Rattle.abi.proofs.step.step.Statement.{statement}
 use Rattle.abi.proofs.step.step.Tie as tie
 use Rattle.board.specs.declared.Units.{Units}
-use Rattle.unit.specs.Made.{bare}
 
--- The places: the call's beginning, from where unit 0's tracks are read; that, from where unit 1's are to be; where these are, from the step; the step, from
--- where what is lent has come back; and that, from where all is known that is to be left.
-abbrev start : tie.After-read-tracks → tie.Start
-start c = c .before .before .before .before .before .before .before .before .before .before .before .before .before .before .before
+-- The places: the call's beginning, from where unit 0 is read; that, from where unit 1 is to be; where it was, from the step; the step, from where what is
+-- lent has come back; and that, from where all is known that is to be left.
+abbrev start : tie.After-unit-in → tie.Start
+start c = c .before .before .before .before .before .before .before .before .before .before
 
-abbrev first : tie.After-map1 → tie.After-read-tracks
-first c = c .before .before .before
+abbrev first : tie.After-map1 → tie.After-unit-in
+first c = c .before .before
 
-abbrev second : tie.After-run-one → tie.After-read-tracks2
+abbrev second : tie.After-run-one → tie.After-unit-in2
 second c = c .before .before .before .before .before .before .before
 
 abbrev ran : tie.After-slice-known11 → tie.After-run-one
@@ -27,23 +26,11 @@ ran c = c .before .before .before .before .before .before .before .before
 abbrev back : tie.After-map13 → tie.After-slice-known11
 back c = c .before .before .before .before .before .before .before .before
 
-record-requires : tie.Need-record-requires
-record-requires c κs = search needs
+unit-in-requires : tie.Need-unit-in-requires
+unit-in-requires c κs = (search needs, refl)
 
-record-requires-2 : tie.Need-record-requires-2
-record-requires-2 c κs = search needs
-
-pairs-requires : tie.Need-pairs-requires
-pairs-requires c κs = search needs
-
-read-tracks-requires : tie.Need-read-tracks-requires
-read-tracks-requires c κs = search needs
-
-pairs-requires-2 : tie.Need-pairs-requires-2
-pairs-requires-2 c κs = search needs
-
-read-tracks-requires-2 : tie.Need-read-tracks-requires-2
-read-tracks-requires-2 c κs = start (first c) .pre .1 .0
+unit-in-requires-2 : tie.Need-unit-in-requires-2
+unit-in-requires-2 c κs = (start (first c) .pre .1 .0, refl)
 
 run-one-requires : tie.Need-run-one-requires
 run-one-requires c κs = search needs
@@ -85,16 +72,12 @@ returns c =
     let left = c .before .before .before .before .before .before in
     let told = left .before .before .before .before .before .before .before in
     let step = ran (back (left .before)) in
-    let tracks1 = second step in
-    let tracks0 = first (tracks1 .before) in
-    let record1 = tracks0 .before .before .before .before in
-    let record0 = record1 .before .before in
-    let a = start tracks0 .args in
+    let one = second step in
+    let zero = first (one .before) in
+    let a = start zero .args in
     once-is (a .c) (a .at) (a .i)
     (lentOf (now (a .host)) (now (a .image0)) (now (a .image1)) (now (a .events)) (now (a .record0)) (now (a .record1)) (now (a .stepped)))
-    _ _ _ _ _ _ _
-    (tracks-read (now (a .record0)) (bare (record0 .«record» .result)) (record0 .«record» .ensures) (tracks0 .before .before .pairs .ensures) (tracks0 .read-tracks .ensures))
-    (tracks-read (now (a .record1)) (bare (record1 .record2 .result)) (record1 .record2 .ensures) (tracks1 .before .before .pairs2 .ensures) (tracks1 .read-tracks2 .ensures))
+    _ _ _ _ _ _ _ (zero .unit-in .ensures) (one .unit-in2 .ensures)
     (told .done .given .1) (step .run-one .ensures) (left .leave .ensures .0) (left .leave .ensures .1 .0) (left .leave .ensures .1 .1)
 
 same-length-8 : tie.Need-same-length-8
@@ -118,22 +101,18 @@ same-length-13 c = search needs
 returns-2 : tie.Need-returns-2
 returns-2 c =
     let step = ran (c .before .before) in
-    let tracks0 = first (second step .before) in
-    let a = start tracks0 .args in
+    let zero = first (second step .before) in
+    let a = start zero .args in
     none-is (a .c) (a .at) (a .i)
     (lentOf (now (a .host)) (now (a .image0)) (now (a .image1)) (now (a .events)) (now (a .record0)) (now (a .record1)) (now (a .stepped)))
-    _ _ _ _ _ _ (start tracks0 .pre .1 .1 .1) (c .enum-told .given .1) (step .run-one .ensures)
+    _ _ _ _ _ _ (start zero .pre .1 .1 .1) (c .enum-told .given .1) (step .run-one .ensures)
 
 pub step-spec : {M : Type 1} → statement M
 step-spec =
     tie.close
     (tie.spec
-    record-requires
-    record-requires-2
-    pairs-requires
-    read-tracks-requires
-    pairs-requires-2
-    read-tracks-requires-2
+    unit-in-requires
+    unit-in-requires-2
     run-one-requires
     enum-known-done
     leave-requires
