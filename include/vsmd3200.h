@@ -4,8 +4,8 @@
  * controllers that share their drives, and vsmd_step_as runs one block of a chain by itself, for a board that makes the chain in a loop
  * of its own. vsmd_inspect says which part of an image the sector at a place is. Three more tell by a unit's record alone how long its
  * image has to be and where a sector stands in it. All that crosses is bytes and numbers. The library is proved in Rattle; it
- * allocates nothing, keeps nothing between calls, takes no lock, and calls nothing but memcpy and memset. Link
- * libvsmd.a; docs/TARGETS.md says for which processors there is one.
+ * allocates nothing, keeps nothing between calls, takes no lock, raises no interrupt, and calls nothing but memcpy and memset, on armv7 also
+ * its compiler's division, __aeabi_uldivmod. Link libvsmd.a; docs/TARGETS.md says for which processors there is one.
  *
  * What the library takes care of, and what you have to
  * ----------------------------------------------------
@@ -36,8 +36,8 @@ extern "C" {
  * layouts of record, outcome and what a step leaves have a number of their own, VSMD_LAYOUT_VERSION, which the library tells too. */
 #define VSMD_VERSION_MAJOR 0u
 #define VSMD_VERSION_MINOR 4u
-#define VSMD_VERSION_PATCH 0u
-#define VSMD_VERSION "0.4.0"
+#define VSMD_VERSION_PATCH 1u
+#define VSMD_VERSION "0.4.1"
 
 /* ---- the block -------------------------------------------------------------------------------------------------------------------
  *
@@ -113,7 +113,7 @@ extern "C" {
 #define VSMD_OPTION_XL 0x10u /* a logical sector; clear for cylinder, head and sector. For 81, 82, 8A, A1 and A2 */
 #define VSMD_OPTION_RV 0x08u /* reserves the drive; clear gives it up */
 #define VSMD_OPTION_DE 0x04u /* 81 and A1 move unreadable sectors too, and go on */
-#define VSMD_OPTION_IE 0x02u /* asks for an interrupt: level and vector stand in the event entry */
+#define VSMD_OPTION_IE 0x02u /* asks for an interrupt: level and vector stand in the event entry, and the board raises it */
 #define VSMD_OPTION_EC 0x01u /* correction; not judged */
 
 /* What stands in the status byte. An event entry has a final one, 80 or 82. */
@@ -240,8 +240,12 @@ extern "C" {
  * 85 that ends with status 80 stores its pair there, after the others, and an initialize that does makes every byte of the table 00, those that
  * counted and those that did not. After it only what a later 85 adds stands there.
  *
+ * Bytes 14 and 15 change with nearly every block that moves the heads. Only the travel of the next block goes by them, and they have to be below C: a
+ * board that keeps records in flash may put 0 there.
+ *
  * An image has C x H x S sectors of B bytes, one after the other, and then a mark byte for each sector: 00 for a good one, anything else
- * for one that cannot be read. An image may be longer; what comes after the marks is never touched. */
+ * for one that cannot be read. No block changes a mark, a write and a format neither: they are yours to set and to clear. An image may be
+ * longer; what comes after the marks is never touched. */
 #define VSMD_LAYOUT_VERSION 2u
 #define VSMD_RECORD_LEN 276u
 
@@ -327,8 +331,10 @@ extern "C" {
 
 /* ---- the event buffer ------------------------------------------------------------------------------------------------------------
  *
- * At least 512 bytes, room for 64 entries; a step asks for no more than the room of its own entry. The k-th block run, k from 1, leaves its
- * entry in the 8 bytes from 8(k - 1) on; other bytes of the buffer stay as they are.
+ * At least 512 bytes, room for 64 entries; a step asks for 8 x index + 8 bytes. The k-th block run, k from 1, leaves its
+ * entry in the 8 bytes from 8(k - 1) on; other bytes of the buffer stay as they are. The library raises no interrupt: the board does, by level and
+ * vector of the entries, once it has brought back what the call wrote; of a run that is after the whole chain, of a step after its block. A block with
+ * IE may ask for level 00 and vector 00; whether IE was set the block tells.
  *
  *    0      final status, 80 or 82 hex
  *    1      error byte, 00 at status 80
@@ -369,7 +375,8 @@ extern "C" {
 #define VSMD_UNREADABLE 20u          /* a sector is marked unreadable; the sectors before it were moved */
 #define VSMD_TRACKS_TAKEN 22u        /* the bad track and the spare are one, or one of them is in the table already */
 #define VSMD_TABLE_FULL 23u          /* the table has 32 pairs */
-#define VSMD_DRIVE_HELD 24u          /* the other controller holds the drive; tested after 10 and before all others */
+#define VSMD_DRIVE_HELD 24u          /* the other controller holds the drive */
+/* Where several of 10 to 19 and 22 to 24 apply, the block is refused with the first: in the order of their numbers, but 24 directly after 10. */
 
 /* What a call returns that was refused: a buffer is too short for its layout or for the entry of a step, or there is no such controller,
  * and nothing at all was changed. No answer above has the low byte of one of these. */
@@ -392,8 +399,8 @@ extern "C" {
 #define VSMD_ALLOWANCE_MOST 64u
 
 /* The bytes of stack that a run and a step take at most, measured: on every processor that docs/TARGETS.md names, for every command, with a scatter of
- * 64 elements last and full tables. The host cannot have a call take more: a chain of 64 blocks is the longest. What memcpy and memset take
- * is not counted, nor what an interrupt puts on the same stack. */
+ * 64 elements last and full tables. The host cannot have a call take more: a chain of 64 blocks is the longest. The other calls take less than a
+ * step. What memcpy, memset and the division take is not counted, nor what an interrupt puts on the same stack. */
 #define VSMD_STACK_MOST 8192u
 #define VSMD_STEP_STACK_MOST 4096u
 
@@ -414,10 +421,9 @@ uint64_t vsmd_outcome_len(void);
  *   image0, image1   the images of units 0 and 1. Out: the data that writes, gathers and formats moved. Their lengths may be 0;
  *                    vsmd_no_image is an address for such a one.
  *   events           the event buffer. Out: an entry for each block run.
- *   record0, record1 the records of units 0 and 1. Out: all 276 bytes stored anew where a block changed the record (an initialize, heads
- *                    that stand elsewhere, a pair more, another holder), and otherwise byte for byte as they came in. Those of the
- *                    table past the pairs that count are stored as they came, or as 00 after an initialize. Bytes after the first
- *                    276 are not touched.
+ *   record0, record1 the records of units 0 and 1. Out: stored anew where a block changed the record (an initialize, heads that stand
+ *                    elsewhere, a pair more, another holder), and otherwise byte for byte as they came in. What stands in the table past
+ *                    the pairs that count is stored, as 00, only where an initialize succeeded. Bytes after the first 276 are not touched.
  *   outcome          In: anything. Out: the outcome in its first 16 bytes; those after them are not touched.
  *   first            the address of the first block.
  *   allowance        how many blocks may be fetched, 1 to 64; a chain that links in a circle ends by it.
@@ -442,8 +448,8 @@ uint32_t vsmd_run_as(uint8_t *host, uint64_t host_len, uint8_t *image0, uint64_t
                      uint32_t controller);
 
 /* Runs one block by itself, for a controller of two. The block does what it does in a run, and its link is not followed. So a board can make
- * the chain in a loop of its own: each call takes as long as one block, and between two the board can look at something else. The stack of a
- * step does not grow with the chain; that of a run does, with each further block.
+ * the chain in a loop of its own: each call takes as long as one block, which moves 65,535 sectors of 4,096 bytes at most, and between two the board can look
+ * at something else. The stack of a step is that of one block; a run takes more for each of the first 8 blocks of a chain, and no more after them.
  *
  *   host             as in vsmd_run. Out: what the one block stores there.
  *   image0, image1   as in vsmd_run.
@@ -462,22 +468,33 @@ uint32_t vsmd_run_as(uint8_t *host, uint64_t host_len, uint8_t *image0, uint64_t
  * is 01. Nothing is kept between two steps but what the buffers hold, so each of them is lent again as the step before left it. What the
  * host or the other controller changes between two steps the next one finds; in a run there is no such moment.
  *
- *     uint32_t at = first, index = 0, code;
+ *     uint32_t at = first, index = 0, sectors = 0, code, answer;
  *     do {
  *         code = vsmd_step_as(host, .., stepped, sizeof stepped, at, index, controller);
  *         if (code != 0)
  *             break;
  *         at = vsmd_stepped_link(stepped);
+ *         sectors += vsmd_stepped_sectors(stepped);
  *         index++;
  *     } while (vsmd_stepped_follow(stepped) && index < allowance);
  *
  * A step has no allowance, and a chain may link in a circle: the loop has to have an allowance of its own and to stop when it is spent. How
- * large it is, is yours to say, and it may be over 64 where the event buffer has the room. How a run of the chain with the same allowance would have
- * ended, the loop can tell: VSMD_BLOCK_FAILED where stepped has an answer, VSMD_LINK_BAD where a step after the first returns VSMD_FIRST_BAD,
- * VSMD_ALLOWANCE_SPENT where the loop stopped and the last block's link was to be followed, and otherwise VSMD_DONE.
+ * large it is, is yours to say, and it may be over 64 where the event buffer has the room. How the chain ended, in a run's answers, the loop can tell;
+ * index is the number of blocks run, and with VSMD_BLOCK_FAILED vsmd_stepped_answer is the failed block's:
  *
- * A record is stored after each step that changed it, and by a run once. Where nobody changes anything between two steps, they leave in every byte of
- * host memory, images, event buffer and records what a run of the chain with the same allowance leaves. */
+ *     if (code == VSMD_FIRST_BAD && index > 0)
+ *         answer = VSMD_LINK_BAD;
+ *     else if (code != 0)
+ *         answer = code; .. and stepped is as it was before this step
+ *     else if (vsmd_stepped_answer(stepped) != 0)
+ *         answer = VSMD_BLOCK_FAILED;
+ *     else
+ *         answer = vsmd_stepped_follow(stepped) ? VSMD_ALLOWANCE_SPENT : VSMD_DONE;
+ *
+ * A record is stored after each step that changed it, and by a run once. Where nobody changes anything between two steps, the allowance is 1 to 64 and the
+ * event buffer has 512 bytes, the loop leaves in every byte of host memory, images, event buffer and records what a run with the same allowance leaves, and
+ * ends with its answer and its counts; that is proved. With another allowance or a shorter event buffer a run does nothing and answers 2 or 1, while this
+ * loop runs what it can. */
 uint32_t vsmd_step_as(uint8_t *host, uint64_t host_len, uint8_t *image0, uint64_t image0_len, uint8_t *image1, uint64_t image1_len,
                       uint8_t *events, uint64_t events_len, uint8_t *record0, uint64_t record0_len, uint8_t *record1,
                       uint64_t record1_len, uint8_t *stepped, uint64_t stepped_len, uint32_t at, uint32_t index, uint32_t controller);
@@ -508,7 +525,8 @@ uint32_t vsmd_inspect(const uint8_t *record0, uint64_t record0_len, const uint8_
  *   record   the unit's record.
  *   bytes    Out: how many bytes its image needs, C x H x S sectors of B bytes and a mark byte for each.
  *
- * Returns 0, or VSMD_RECORD0_SHORT, VSMD_RECORD_NOT_INITIALIZED (tested in this order): then the number is as it was. */
+ * Returns 0, or VSMD_RECORD0_SHORT, whichever unit's the record is, VSMD_RECORD_NOT_INITIALIZED (tested in this order): then the number is
+ * as it was. */
 uint32_t vsmd_image_need(const uint8_t *record, uint64_t record_len, uint64_t *bytes);
 
 /* Says where the sector with a number in a volume stands in the unit's image, by the unit's record alone: where a block reads and writes
@@ -521,8 +539,8 @@ uint32_t vsmd_image_need(const uint8_t *record, uint64_t record_len, uint64_t *b
  *   first    Out: its first byte in the image; it has B bytes.
  *   mark     Out: the byte of the image that is its mark.
  *
- * Returns 0, or VSMD_RECORD0_SHORT, VSMD_RECORD_NOT_INITIALIZED, or VSMD_SECTOR_NOT_THERE where the volume has no such sector, is absent,
- * or is neither 0 nor 1 (tested in this order): then the three numbers are as they were. */
+ * Returns 0, or VSMD_RECORD0_SHORT, whichever unit's the record is, VSMD_RECORD_NOT_INITIALIZED, or VSMD_SECTOR_NOT_THERE where the volume
+ * has no such sector, is absent, or is neither 0 nor 1 (tested in this order): then the three numbers are as they were. */
 uint32_t vsmd_sector_of(const uint8_t *record, uint64_t record_len, uint32_t volume, uint64_t number, uint64_t *place,
                         uint64_t *first, uint64_t *mark);
 
@@ -556,7 +574,8 @@ static inline void vsmd_put32(uint8_t *bytes, uint32_t number)
 }
 
 /* Whether the library that is linked has the layouts of this header. Ask once, at start: where it says 0, an archive and a header of two
- * versions have come together, and no record or outcome means what it says here. */
+ * versions have come together, and no record or outcome means what it says here. It does not compare VSMD_VERSION, which the archive does not
+ * tell: that of 0.4.0 has these layouts too, and takes more stack than VSMD_STACK_MOST. */
 static inline int vsmd_layouts_match(void)
 {
     return vsmd_layout_version() == VSMD_LAYOUT_VERSION && vsmd_record_len() == VSMD_RECORD_LEN && vsmd_outcome_len() == VSMD_OUTCOME_LEN &&
@@ -598,7 +617,8 @@ static inline void vsmd_record_make(uint8_t *record, uint16_t cylinders, uint16_
     vsmd_put16(record + VSMD_RECORD_AT_CYLINDER, cylinder);
 }
 
-/* Whether a record opens as that of an initialized unit does, with an order and a holder that are one. */
+/* Whether a record opens as that of an initialized unit does, with an order and a holder that are one. Geometry, cylinder and table are not judged
+ * here: vsmd_image_need returns 0 just where the library takes the unit for initialized. */
 static inline int vsmd_record_says_initialized(const uint8_t *record)
 {
     return vsmd_get32(record) == 0x02010114u && record[VSMD_RECORD_AT_ORDER] <= VSMD_ORDER_BY_CYLINDER &&
@@ -780,8 +800,8 @@ static inline int32_t vsmd_event_travel(const uint8_t *entry)
 
 /* An answer in words, for a log or a console: of a run, of a block that failed, or of a call that was refused. The numbers of the three are
  * apart, so that one call serves for what vsmd_run returned and for vsmd_outcome_failed, and for what a step returned and vsmd_stepped_answer
- * where they are not 0. The text is never NULL; a number that is no answer has one as well. It is for people: a program goes by the
- * number. */
+ * where they are not 0; for a step after the first that returned VSMD_FIRST_BAD hand over VSMD_LINK_BAD. The text is never NULL; a number that is no
+ * answer has one as well. It is for people: a program goes by the number. */
 static inline const char *vsmd_answer_text(uint32_t code)
 {
     switch (code) {

@@ -18,7 +18,7 @@ static uint8_t host[256] = {
 };
 
 /* The drive: 120 sectors and their marks. There is no drive 1. */
-static uint8_t image0[7800], image1[1];
+static uint8_t image0[7800];
 static uint8_t record0[VSMD_RECORD_LEN], record1[VSMD_RECORD_LEN];
 static uint8_t events[VSMD_EVENTS_LEN_LEAST], outcome[VSMD_OUTCOME_LEN];
 
@@ -51,17 +51,17 @@ static void put_travel(int32_t travel)
 
 static void tell_block(uint32_t block)
 {
-    const uint8_t *event = events + VSMD_EVENT_LEN * block;
+    const uint8_t *event = vsmd_event_entry(events, block);
     board_put("block ");
     put_number(block + 1);
     board_put(" status ");
-    put_byte(event[VSMD_EVENT_AT_STATUS]);
+    put_byte(vsmd_event_status(event));
     board_put(" error ");
-    put_byte(event[VSMD_EVENT_AT_ERROR]);
+    put_byte(vsmd_event_error(event));
     board_put(" level ");
-    put_byte(event[VSMD_EVENT_AT_LEVEL]);
+    put_byte(vsmd_event_level(event));
     board_put(" vector ");
-    put_byte(event[VSMD_EVENT_AT_VECTOR]);
+    put_byte(vsmd_event_vector(event));
     board_put(" travel ");
     put_travel(vsmd_event_travel(event));
     board_put("\n");
@@ -81,13 +81,13 @@ static int sectors_came(void)
 int main(void)
 {
     uint32_t answer, k;
-    if (vsmd_layout_version() != VSMD_LAYOUT_VERSION || vsmd_record_len() != VSMD_RECORD_LEN || vsmd_outcome_len() != VSMD_OUTCOME_LEN) {
+    if (!vsmd_layouts_match()) {
         board_put("the archive does not go with the header\n");
         return 1;
     }
     for (k = 0; k < 7680; k++)
         image0[k] = (uint8_t)(k % 251);
-    answer = vsmd_run(host, sizeof host, image0, sizeof image0, image1, 0, events, sizeof events, record0, sizeof record0, record1,
+    answer = vsmd_run(host, sizeof host, image0, sizeof image0, vsmd_no_image(), 0, events, sizeof events, record0, sizeof record0, record1,
                       sizeof record1, outcome, sizeof outcome, 0, 2);
     board_put("run answer ");
     put_number(answer);

@@ -1,5 +1,6 @@
 /* The stack that the calls take, and that it is no more than the header says. Chains of 1, 8, 16 and 64 blocks of every command are run, each with a
- * scatter of 64 elements for its last block, for either controller, without pairs and with both tables full; and each command is run as a step.
+ * scatter of 64 elements for its last block, for either controller, without pairs and with both tables full; each command is run as a step; and the calls
+ * that go by records alone are made with both tables full.
  * Each call has a stack of its own that was painted before and has nothing on it but the call: how far down the paint is gone is the room that a
  * caller has to have. */
 #define _XOPEN_SOURCE 700
@@ -38,6 +39,31 @@ static void step(void)
 {
     returned = vsmd_step_as(host, sizeof host, image0, sizeof image0, image1, sizeof image1, events, sizeof events, record0, sizeof record0, record1,
                             sizeof record1, stepped, sizeof stepped, 0, 0, controller);
+}
+
+/* The calls that go by records alone. */
+static void inspect(void)
+{
+    static uint32_t image;
+    static uint64_t at, bytes;
+    returned = vsmd_inspect(record0, sizeof record0, record1, sizeof record1, sizeof image0, sizeof image1, 1, 100, &image, &at, &bytes);
+}
+
+static uint64_t place, first, mark;
+
+static void image_need(void)
+{
+    returned = vsmd_image_need(record1, sizeof record1, &place);
+}
+
+static void sector_of(void)
+{
+    returned = vsmd_sector_of(record1, sizeof record1, 0, 100, &place, &first, &mark);
+}
+
+static void sector_at(void)
+{
+    returned = vsmd_sector_at(record1, sizeof record1, 10, 2, 3, &place, &first, &mark);
 }
 
 /* An 85 for the pair with an index: a track from the second on, and one from the last down. */
@@ -164,6 +190,23 @@ static size_t most_of_steps(void)
     return most;
 }
 
+/* The most that a call by records alone takes; 0 where one was refused. */
+static size_t most_of_others(void)
+{
+    static void (*const others[])(void) = {inspect, image_need, sector_of, sector_at};
+    size_t n, taken, most = 0;
+    for (n = 0; n < sizeof others / sizeof others[0]; n++) {
+        taken = taken_by(others[n], VSMD_PAIRS_MOST);
+        if (returned != 0) {
+            printf("stack: a call by records alone was refused\n");
+            return 0;
+        }
+        if (taken > most)
+            most = taken;
+    }
+    return most;
+}
+
 static int within(const char *what, size_t taken, size_t most)
 {
     if (taken <= most)
@@ -175,15 +218,17 @@ static int within(const char *what, size_t taken, size_t most)
 int main(void)
 {
     static const unsigned chains[] = {1, 8, 16, 64};
-    size_t n, most[4], steps;
+    size_t n, most[4], steps, others;
     for (n = 0; n < 4; n++) {
         most[n] = most_of_chains(chains[n]);
         if (most[n] == 0)
             return 1;
     }
     steps = most_of_steps();
-    if (steps == 0)
+    others = most_of_others();
+    if (steps == 0 || others == 0)
         return 1;
-    printf("stack: a run takes %zu bytes for 1 block, %zu for 8, %zu for 16 and %zu for 64; a step %zu\n", most[0], most[1], most[2], most[3], steps);
-    return within("a run", most[3], VSMD_STACK_MOST) && within("a step", steps, VSMD_STEP_STACK_MOST) ? 0 : 1;
+    printf("stack: a run takes %zu bytes for 1 block, %zu for 8, %zu for 16 and %zu for 64; a step %zu, and the other calls at most %zu\n", most[0], most[1],
+           most[2], most[3], steps, others);
+    return within("a run", most[3], VSMD_STACK_MOST) && within("a step", steps, VSMD_STEP_STACK_MOST) && within("another call", others, steps) ? 0 : 1;
 }

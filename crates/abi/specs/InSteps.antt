@@ -121,7 +121,7 @@ pub record RunOfSteps
     {J : Type m₀} {B : J → Type m₁} {S : J → Type m₂} {F : J → Type m₃}
     (RunPost : (κ : J) → B κ → S κ → F κ → Type 0) (run-given : (κ : J) → B κ → Asking) (run-seen : (κ : J) → S κ → F κ → Called) :
     Type (ℓ₀ ⊔ ℓ₁ ⊔ ℓ₂ ⊔ ℓ₃ ⊔ m₀ ⊔ m₁ ⊔ m₂ ⊔ m₃) where
-  -- Whatever is asked for and lent, a step has a result that is allowed, so that a loop always goes on.
+  -- Whatever is asked for and lent, a step has a result that is allowed.
   pub some-result : (controller at i : ℕ) (l : CallLent) → Bytes l → (s : Called) × StepBy StepPost step-given step-seen controller at i l s
   -- A run and a loop of steps that begins with the first entry, each as its promise allows, by one controller, with one first block, one allowance and the same bytes
   -- lent, come to the same: in the number returned, in every byte that is lent to both, and in the outcome.

@@ -271,8 +271,9 @@ fn told(outcome: &[u8; OUTCOME_LEN], answer: u32) -> Outcome {
 /// block that fails is no error of the call.
 ///
 /// A step has no allowance, and a chain may link in a circle: the loop stops by an allowance of its own.
-/// Where nobody else changes anything in between, the steps of a chain leave what a run of it leaves, in
-/// every byte.
+/// Where nobody else changes anything in between, the allowance is 1 to 64 and `events` has 512 bytes,
+/// the steps of a chain leave what a run of it leaves, in every byte. With another allowance or a
+/// shorter buffer a run would do nothing.
 ///
 /// ```
 /// use vsmd3200::bytes::{block, command, option};
