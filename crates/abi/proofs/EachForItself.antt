@@ -1,10 +1,9 @@
 -- Each controller answers for itself, read off the contract of the call as the source states it.
 -- A call is lent nothing of the other's, and its contract is an equation with a definition of what it is lent.
 use mathlib.Core.Path.{_≡_, refl, sym, ap, _∙_}
-use denote.Ref.{now}
 use Rattle.unit.specs.declared.Controller.{Controller}
 use Rattle.unit.specs.declared.Controller.the-variants.{First, Second}
-use Rattle.abi.specs.Calls.{CallLent, calledAs, calledOf, lentOf}
+use Rattle.abi.specs.Calls.{CallLent, calledAs, calledOf, lentIn}
 use Rattle.abi.specs.Machines.{Asking, EachForItself, Machines, afterCall, asking, controllerNumber, ownOf}
 use Rattle.abi.proofs.vsmd_run_as.Reads as run-as
 
@@ -19,12 +18,8 @@ vsmd-run-as-for-itself :
     EachForItself run-as.Post
     (λ κ a.
     asking (a .1 .1 .1 .1 .1 .1 .1 .1 .1 .0) (a .1 .1 .1 .1 .1 .1 .1 .0) (a .1 .1 .1 .1 .1 .1 .1 .1 .0)
-    (lentOf (now (a .0)) (now (a .1 .0)) (now (a .1 .1 .0)) (now (a .1 .1 .1 .0)) (now (a .1 .1 .1 .1 .0))
-    (now (a .1 .1 .1 .1 .1 .0)) (now (a .1 .1 .1 .1 .1 .1 .0))))
-    (λ κ x e.
-    calledOf x
-    (lentOf (now (e .0)) (now (e .1 .0)) (now (e .1 .1 .0)) (now (e .1 .1 .1 .0)) (now (e .1 .1 .1 .1 .0))
-    (now (e .1 .1 .1 .1 .1 .0)) (now (e .1 .1 .1 .1 .1 .1 .0))))
+    (lentIn a))
+    (λ κ x e. calledOf x (lentIn e))
 vsmd-run-as-for-itself κ κ′ a b x y e f c first allowance m n here there agree p q =
     record {
       same =

@@ -7,7 +7,7 @@ use mathlib.Core.Logic.{_⊎_, by-cases, if-neg, if-pos, inl, inr, ite, ⊎-elim
 use mathlib.Core.Path.{_≡_, refl, sym, ap, subst, _∙_}
 use native.Mathlib.Decide.{decLe}
 use native.Mathlib.Omega.{arith}
-use denote.Ref.{RefT, now}
+use denote.Ref.{RefT}
 use lib.ListN.{drop, getD, length}
 use lib.Seq.{length-sets}
 use Rattle.answers.specs.declared.BlockAnswer.{BlockAnswer}
@@ -39,8 +39,8 @@ use Rattle.wire.proofs.Laws.{word-below}
 use Rattle.wire.specs.Memory.{InMemory}
 use Rattle.wire.specs.Storing.{written}
 use Rattle.wire.specs.Words.{be32, word}
-use Rattle.abi.specs.Calls.{CallLent, Called, answered, calledAs, calledOf, controllerOf, controllerUnknown, lentOf, record0Short, record1Short, recordLeft, worldIn}
-use Rattle.abi.specs.InSteps.{Bytes, Loop, RunOfSteps, RunsAlike, StepAsking, StepBy, answerToBad, answerToLast, ended, followTold, linkTold, sectorsTold, stepAsking, withOutcome}
+use Rattle.abi.specs.Calls.{CallLent, Called, answered, calledAs, calledOf, controllerOf, controllerUnknown, lentIn, lentOf, record0Short, record1Short, recordLeft, worldIn}
+use Rattle.abi.specs.InSteps.{Bytes, Loop, RunOfSteps, RunsAlike, StepAsking, answerToBad, answerToLast, ended, followTold, linkTold, sectorsTold, stepAsking, withOutcome}
 use Rattle.abi.specs.InSteps.Loop.{bad, last, on, refused, spent}
 use Rattle.abi.specs.Layouts.{endingBytes, outcomeBytes, recordBytes, recordIn}
 use Rattle.abi.specs.Machines.{Asking, asking}
@@ -56,27 +56,28 @@ use Rattle.abi.proofs.vsmd_step_as.Reads as step-as
 
 -- ---- what a step has told
 
+abbrev flag : Bool → ℕ
+flag follow = cond follow 0x01 0x00
+
 -- The 16 bytes read back, each part as it was stored.
-module _ (o : List ℕ) (answer : ℕ) (follow : Bool) (sectors link : ℕ) (long : 16 ≤ length o) (few : sectors < 65536) (low : link < 2 ^ 32) where
-  abbrev told : List ℕ
-  told = written o 0 (steppedBytes answer follow sectors link)
+record Tells (told : List ℕ) (answer : ℕ) (follow : Bool) (sectors link : ℕ) : Type 0 where
+  answer-is : getD told 4 0 ≡ answer
+  follow-is : getD told 5 0 ≡ flag follow
+  sectors-is : be32 told 8 ≡ sectors
+  link-is : be32 told 12 ≡ link
 
-  stood : told ≡ steppedBytes answer follow sectors link ++ drop 16 o
-  stood = at-the-head o (steppedBytes answer follow sectors link) long
-
-  told-answer : getD told 4 0 ≡ answer
-  told-answer = ap (λ (l : List ℕ). getD l 4 0) stood
-
-  told-follow : getD told 5 0 ≡ cond follow 0x01 0x00
-  told-follow = ap (λ (l : List ℕ). getD l 5 0) stood
-
-  told-sectors : be32 told 8 ≡ sectors
-  unfolding word
-  told-sectors = ap (λ (l : List ℕ). be32 l 8) stood ∙ omega arith
-
-  told-link : be32 told 12 ≡ link
-  unfolding word
-  told-link = ap (λ (l : List ℕ). be32 l 12) stood ∙ omega arith
+tells :
+    (o : List ℕ) (answer : ℕ) (follow : Bool) (sectors link : ℕ) → 16 ≤ length o → sectors < 65536 → link < 2 ^ 32 →
+    Tells (written o 0 (steppedBytes answer follow sectors link)) answer follow sectors link
+unfolding word
+tells o answer follow sectors link long few low =
+    let stood = at-the-head o (steppedBytes answer follow sectors link) long in
+    record {
+      answer-is = ap (λ (l : List ℕ). getD l 4 0) stood;
+      follow-is = ap (λ (l : List ℕ). getD l 5 0) stood;
+      sectors-is = ap (λ (l : List ℕ). be32 l 8) stood ∙ omega arith;
+      link-is = ap (λ (l : List ℕ). be32 l 12) stood ∙ omega arith;
+    }
 
 -- How the loop ends by what it is told, and the chain by what that stands for.
 bad-later : (n : ℕ) → (n ≡ 0 → ⊥) → answerToBad n ≡ RunAnswer.LinkBad
@@ -86,9 +87,6 @@ bad-later (suc n) some = refl
 failed-last : (n : ℕ) → 1 ≤ n → answerToLast n ≡ RunAnswer.BlockFailed
 failed-last zero some = absurd (omega arith)
 failed-last (suc n) some = refl
-
-abbrev flag : Bool → ℕ
-flag follow = cond follow 0x01 0x00
 
 ends-there :
     (a : BlockAnswer) (linked : Bool) (t : Count) (w : World) (next : Ending) → flag (goesOn a linked) ≡ 0 →
@@ -128,6 +126,39 @@ length-left bytes u =
 read-in : (c : Controller) (l : CallLent) (n : UnitNumber) → driveOf (worldIn c l) n .unit ≡ recordIn (recordsOf l n)
 read-in c l Zero = refl
 read-in c l One = refl
+
+-- A loop came to what a chain comes to, and left what the chain leaves: of each unit the record as it is left in the bytes that came, which is the one that stood
+-- there, or an initialized one, and then what came was bytes.
+record Leaves (outcome : List ℕ) (l : CallLent) (e : Ending) (r : Called) : Type 0 where
+  lent : CallLent
+  came : r ≡ ended outcome (e .answer) (e .failed) (e .tally) lent
+  host : lent .host ≡ e .world .host
+  image0 : lent .image0 ≡ e .world .drive0 .image
+  image1 : lent .image1 ≡ e .world .drive1 .image
+  events : lent .events ≡ e .world .events
+  records : (n : UnitNumber) → recordsOf lent n ≡ recordLeft (recordsOf l n) (driveOf (e .world) n .unit)
+  kept :
+      (n : UnitNumber) →
+      (recordIn (recordsOf l n) ≡ driveOf (e .world) n .unit) ⊎
+      ((initialized (driveOf (e .world) n .unit) ≡ true) × ((i : ℕ) → getD (recordsOf l n) i 0 < 256))
+  long : (n : UnitNumber) → length (table (driveOf (e .world) n .unit)) ≡ 64
+
+-- Nothing is left but what was lent.
+leaves-all :
+    (outcome : List ℕ) (c : Controller) (l : CallLent) (answer : RunAnswer) (t : Count) →
+    Leaves outcome l (ends answer 0 t (worldIn c l)) (ended outcome answer 0 t l)
+leaves-all outcome c l answer t =
+    record {
+      lent = l;
+      came = refl;
+      host = refl;
+      image0 = refl;
+      image1 = refl;
+      events = refl;
+      records = λ n. sym (left-as-it-came (recordsOf l n) (driveOf (worldIn c l) n .unit) (sym (read-in c l n)));
+      kept = λ n. inl (sym (read-in c l n));
+      long = λ n. ap (λ (u : UnitRecord). length (table u)) (read-in c l n) ∙ length-words (recordsOf l n) 20 64;
+    }
 
 module _ (c : Controller) (at i : ℕ) (l : CallLent) (room : Room l) (low : Bytes l) where
   abbrev before : World
@@ -185,125 +216,78 @@ module _ (c : Controller) (at i : ℕ) (l : CallLent) (room : Room l) (low : Byt
       each Zero = omega (arith, length-left (l .record0) (then .drive0 .unit), room .records Zero)
       each One = omega (arith, length-left (l .record1) (then .drive1 .unit), room .records One)
 
--- What it tells is what its block did.
-module _ (c : Controller) (at i : ℕ) (l : CallLent) (room : Room l) (low : Bytes l) where
-  abbrev e : Effect
-  e = effectAt at i (worldIn c l)
+  -- What it tells is what its block did.
+  abbrev done : Effect
+  done = effectAt at i before
 
-  abbrev b : Block
-  b = blockAt (l .host) at
+  abbrev block : Block
+  block = blockAt (l .host) at
 
-  few : e .sectors < 65536
-  few = sectors-few (visit c at i l room low) (low .host)
+  told-then : Tells (left .outcome) (blockNumber (done .answer)) (goesOn (done .answer) (block .options .link)) (done .sectors) (block .link)
+  told-then =
+      tells (l .outcome) (blockNumber (done .answer)) (goesOn (done .answer) (block .options .link)) (done .sectors) (block .link) (room .stepped)
+      (sectors-few visit (low .host)) (word-below 4 (l .host) (at + 20) (low .host))
 
-  low-link : b .link < 2 ^ 32
-  low-link = word-below 4 (l .host) (at + 20) (low .host)
+  -- One step more before it. What the next one tells in is its own.
+  module _ (outcome : List ℕ) where
+    init-then :
+        (n : UnitNumber) →
+        (recordIn (recordsOf l n) ≡ driveOf then n .unit) ⊎
+        ((initialized (driveOf then n .unit) ≡ true) × ((i : ℕ) → getD (recordsOf l n) i 0 < 256))
+    init-then n = ⊎-elim inl (λ counts. inr (counts .said, low-records l low n)) (kept-then n)
 
-  step-answer : getD (left c at i l room low .outcome) 4 0 ≡ blockNumber (e .answer)
-  step-answer = told-answer (l .outcome) (blockNumber (e .answer)) (goesOn (e .answer) (b .options .link)) (e .sectors) (b .link) (room .stepped) few low-link
+    leaves-once :
+        (answer : RunAnswer) (failed : ℕ) (t : Count) →
+        Leaves outcome l (ends answer failed t then) (ended outcome answer failed t left)
+    leaves-once answer failed t =
+        record {
+          lent = left;
+          came = refl;
+          host = refl;
+          image0 = refl;
+          image1 = refl;
+          events = refl;
+          records = left-is;
+          kept = init-then;
+          long = long-then;
+        }
 
-  step-follow : getD (left c at i l room low .outcome) 5 0 ≡ flag (goesOn (e .answer) (b .options .link))
-  step-follow = told-follow (l .outcome) (blockNumber (e .answer)) (goesOn (e .answer) (b .options .link)) (e .sectors) (b .link) (room .stepped) few low-link
+    leaves-on :
+        (stepped : List ℕ) (e : Ending) (r : Called) → Leaves outcome (withOutcome left stepped) e r → Leaves outcome l e r
+    leaves-on stepped e r after =
+        record {
+          lent = after .lent;
+          came = after .came;
+          host = after .host;
+          image0 = after .image0;
+          image1 = after .image1;
+          events = after .events;
+          records = λ n.
+              after .records n ∙ ap (λ (b : List ℕ). recordLeft b (driveOf (e .world) n .unit)) (stands n) ∙
+              left-again (recordsOf l n) (driveOf then n .unit) (driveOf (e .world) n .unit) (room .records n)
+              (long-then n) (after .long n) (narrow-then n) (low-records l low n)
+              (⊎-elim (λ same. inl (stays n same))
+              (λ init. inr (init .0, subst (λ (b : List ℕ). (j : ℕ) → getD b j 0 < 256) (stands n) (init .1))) (after .kept n));
+          kept = λ n.
+              ⊎-elim
+              (λ same.
+              ⊎-elim (λ first. inl (first ∙ stays n same))
+              (λ init. inr (ap (λ (u : UnitRecord). initialized u) (sym (stays n same)) ∙ init .0, init .1)) (init-then n))
+              (λ init. inr (init .0, low-records l low n)) (after .kept n);
+          long = after .long;
+        }
+      where
+        stands : (n : UnitNumber) → recordsOf (withOutcome left stepped) n ≡ recordLeft (recordsOf l n) (driveOf then n .unit)
+        stands Zero = refl
+        stands One = refl
 
-  step-sectors : be32 (left c at i l room low .outcome) 8 ≡ e .sectors
-  step-sectors = told-sectors (l .outcome) (blockNumber (e .answer)) (goesOn (e .answer) (b .options .link)) (e .sectors) (b .link) (room .stepped) few low-link
-
-  step-link : be32 (left c at i l room low .outcome) 12 ≡ b .link
-  step-link = told-link (l .outcome) (blockNumber (e .answer)) (goesOn (e .answer) (b .options .link)) (e .sectors) (b .link) (room .stepped) few low-link
+        stays :
+            (n : UnitNumber) → recordIn (recordsOf (withOutcome left stepped) n) ≡ driveOf (e .world) n .unit →
+            driveOf then n .unit ≡ driveOf (e .world) n .unit
+        stays n same =
+            sym (reads-then n) ∙ ap (λ (b : List ℕ). recordIn b) (left-is n ∙ sym (stands n)) ∙ same
 
 -- ---- along the loop
-
--- A loop came to what a chain comes to, and left what the chain leaves: of each unit the record as it is left in the bytes that came, which is the one that stood
--- there, or an initialized one, and then what came was bytes.
-record Leaves (outcome : List ℕ) (l : CallLent) (e : Ending) (r : Called) : Type 0 where
-  lent : CallLent
-  came : r ≡ ended outcome (e .answer) (e .failed) (e .tally) lent
-  host : lent .host ≡ e .world .host
-  image0 : lent .image0 ≡ e .world .drive0 .image
-  image1 : lent .image1 ≡ e .world .drive1 .image
-  events : lent .events ≡ e .world .events
-  records : (n : UnitNumber) → recordsOf lent n ≡ recordLeft (recordsOf l n) (driveOf (e .world) n .unit)
-  kept :
-      (n : UnitNumber) →
-      (recordIn (recordsOf l n) ≡ driveOf (e .world) n .unit) ⊎
-      ((initialized (driveOf (e .world) n .unit) ≡ true) × ((i : ℕ) → getD (recordsOf l n) i 0 < 256))
-  long : (n : UnitNumber) → length (table (driveOf (e .world) n .unit)) ≡ 64
-
--- Nothing is left but what was lent.
-leaves-all :
-    (outcome : List ℕ) (c : Controller) (l : CallLent) (answer : RunAnswer) (t : Count) →
-    Leaves outcome l (ends answer 0 t (worldIn c l)) (ended outcome answer 0 t l)
-leaves-all outcome c l answer t =
-    record {
-      lent = l;
-      came = refl;
-      host = refl;
-      image0 = refl;
-      image1 = refl;
-      events = refl;
-      records = λ n. sym (left-as-it-came (recordsOf l n) (driveOf (worldIn c l) n .unit) (sym (read-in c l n)));
-      kept = λ n. inl (sym (read-in c l n));
-      long = λ n. ap (λ (u : UnitRecord). length (table u)) (read-in c l n) ∙ length-words (recordsOf l n) 20 64;
-    }
-
--- One step more before it. What the next one tells in is its own.
-module _ (outcome : List ℕ) (c : Controller) (at i : ℕ) (l : CallLent) (room : Room l) (low : Bytes l) where
-  init-then :
-      (n : UnitNumber) →
-      (recordIn (recordsOf l n) ≡ driveOf (then c at i l room low) n .unit) ⊎
-      ((initialized (driveOf (then c at i l room low) n .unit) ≡ true) × ((i : ℕ) → getD (recordsOf l n) i 0 < 256))
-  init-then n = ⊎-elim inl (λ counts. inr (counts .said, low-records l low n)) (kept-then c at i l room low n)
-
-  leaves-once :
-      (answer : RunAnswer) (failed : ℕ) (t : Count) →
-      Leaves outcome l (ends answer failed t (then c at i l room low)) (ended outcome answer failed t (left c at i l room low))
-  leaves-once answer failed t =
-      record {
-        lent = left c at i l room low;
-        came = refl;
-        host = refl;
-        image0 = refl;
-        image1 = refl;
-        events = refl;
-        records = left-is c at i l room low;
-        kept = init-then;
-        long = long-then c at i l room low;
-      }
-
-  leaves-on :
-      (stepped : List ℕ) (e : Ending) (r : Called) → Leaves outcome (withOutcome (left c at i l room low) stepped) e r → Leaves outcome l e r
-  leaves-on stepped e r after =
-      record {
-        lent = after .lent;
-        came = after .came;
-        host = after .host;
-        image0 = after .image0;
-        image1 = after .image1;
-        events = after .events;
-        records = λ n.
-            after .records n ∙ ap (λ (b : List ℕ). recordLeft b (driveOf (e .world) n .unit)) (stands n) ∙
-            left-again (recordsOf l n) (driveOf (then c at i l room low) n .unit) (driveOf (e .world) n .unit) (room .records n)
-            (long-then c at i l room low n) (after .long n) (narrow-then c at i l room low n) (low-records l low n)
-            (⊎-elim (λ same. inl (stays n same))
-            (λ init. inr (init .0, subst (λ (b : List ℕ). (j : ℕ) → getD b j 0 < 256) (stands n) (init .1))) (after .kept n));
-        kept = λ n.
-            ⊎-elim
-            (λ same.
-            ⊎-elim (λ first. inl (first ∙ stays n same))
-            (λ init. inr (ap (λ (u : UnitRecord). initialized u) (sym (stays n same)) ∙ init .0, init .1)) (init-then n))
-            (λ init. inr (init .0, low-records l low n)) (after .kept n);
-        long = after .long;
-      }
-    where
-      stands : (n : UnitNumber) → recordsOf (withOutcome (left c at i l room low) stepped) n ≡ recordLeft (recordsOf l n) (driveOf (then c at i l room low) n .unit)
-      stands Zero = refl
-      stands One = refl
-
-      stays :
-          (n : UnitNumber) → recordIn (recordsOf (withOutcome (left c at i l room low) stepped) n) ≡ driveOf (e .world) n .unit →
-          driveOf (then c at i l room low) n .unit ≡ driveOf (e .world) n .unit
-      stays n same =
-          sym (reads-then c at i l room low n) ∙ ap (λ (b : List ℕ). recordIn b) (left-is c at i l room low n ∙ sym (stands n)) ∙ same
 
 -- A block that is fetched leads where its answer and its link say.
 fetched-once :
@@ -379,12 +363,12 @@ module _
           let on-world :
           fetched n (counted t (sectorsTold x)) (linkTold x) (worldIn c (x .lent)) ≡
           fetched n (counted t (e .sectors)) (blockAt (l .host) at .link) (worldAfter at i (worldIn c l)) =
-          λ j. fetched n (counted t (step-sectors c at i l room low j)) (step-link c at i l room low j) (world-then c at i l room low j) in
+          λ j. fetched n (counted t (told-then c at i l room low .sectors-is j)) (told-then c at i l room low .link-is j) (world-then c at i l room low j) in
           subst (λ (e : Ending). Leaves outcome l e r)
           (sym
           (fetched-once n t at (worldIn c l) place ∙
           goes-there (effectAt at i (worldIn c l) .answer) (blockAt (l .host) at .options .link) _ _ _ follow))
-          (leaves-on outcome c at i l room low stepped _ r
+          (leaves-on c at i l room low outcome stepped _ r
           (subst (λ (e : Ending). Leaves outcome (withOutcome (left c at i l room low) stepped) e r) on-world after))
 
       -- From a first block that can be fetched on.
@@ -411,11 +395,11 @@ module _
           let low = is at i l s step .0 in
           rw (
             ap (λ (x : Called). x .lent) once,
-            step-answer c at i l room low,
-            step-sectors c at i l room low,
+            told-then c at i l room low .answer-is,
+            told-then c at i l room low .sectors-is,
             fetched-once n t at (worldIn c l) place,
-            ends-there (effectAt at i (worldIn c l) .answer) (blockAt (l .host) at .options .link) _ _ _ (sym (ap followTold once ∙ step-follow c at i l room low) ∙ stops),
-          ) (leaves-once outcome c at i l room low _ _ _)
+            ends-there (effectAt at i (worldIn c l) .answer) (blockAt (l .host) at .options .link) _ _ _ (sym (ap followTold once ∙ told-then c at i l room low .follow-is) ∙ stops),
+          ) (leaves-once c at i l room low outcome _ _ _)
       go _ _ _ _ _ (on n t at l s stepped r step made follow long rest) room entries first =
           let i = t .blocks in
           let entry : 8 * i + 8 ≤ length (l .events) = omega arith in
@@ -426,7 +410,7 @@ module _
           let as-long : length (s .lent .events) ≡ length (l .events) =
           ap (λ (x : Called). length (x .lent .events)) once ∙ block-keeps-lengths (visit c at i l room low) .1 .0 in
           let after = go n (counted t (sectorsTold s)) (linkTold s) (withOutcome (s .lent) stepped) r rest room-next (omega arith) (λ none. absurd (omega arith)) in
-          on-then n t at l room low stepped r place (λ stops. follow (ap followTold once ∙ step-follow c at i l room low ∙ stops))
+          on-then n t at l room low stepped r place (λ stops. follow (ap followTold once ∙ told-then c at i l room low .follow-is ∙ stops))
           (subst (λ (x : Called). Leaves outcome (withOutcome (x .lent) stepped) (fetched n (counted t (sectorsTold x)) (linkTold x) (worldIn c (x .lent))) r) once after)
 
       -- A loop whose first block cannot be fetched ends there.
@@ -506,21 +490,13 @@ vsmd-run-of-steps :
     RunOfSteps step-as.Post
     (λ κ a.
     stepAsking (a .1 .1 .1 .1 .1 .1 .1 .1 .1 .0) (a .1 .1 .1 .1 .1 .1 .1 .0) (a .1 .1 .1 .1 .1 .1 .1 .1 .0)
-    (lentOf (now (a .0)) (now (a .1 .0)) (now (a .1 .1 .0)) (now (a .1 .1 .1 .0)) (now (a .1 .1 .1 .1 .0))
-    (now (a .1 .1 .1 .1 .1 .0)) (now (a .1 .1 .1 .1 .1 .1 .0))))
-    (λ κ x e.
-    calledOf x
-    (lentOf (now (e .0)) (now (e .1 .0)) (now (e .1 .1 .0)) (now (e .1 .1 .1 .0)) (now (e .1 .1 .1 .1 .0))
-    (now (e .1 .1 .1 .1 .1 .0)) (now (e .1 .1 .1 .1 .1 .1 .0))))
+    (lentIn a))
+    (λ κ x e. calledOf x (lentIn e))
     run-as.Post
     (λ κ a.
     asking (a .1 .1 .1 .1 .1 .1 .1 .1 .1 .0) (a .1 .1 .1 .1 .1 .1 .1 .0) (a .1 .1 .1 .1 .1 .1 .1 .1 .0)
-    (lentOf (now (a .0)) (now (a .1 .0)) (now (a .1 .1 .0)) (now (a .1 .1 .1 .0)) (now (a .1 .1 .1 .1 .0))
-    (now (a .1 .1 .1 .1 .1 .0)) (now (a .1 .1 .1 .1 .1 .1 .0))))
-    (λ κ x e.
-    calledOf x
-    (lentOf (now (e .0)) (now (e .1 .0)) (now (e .1 .1 .0)) (now (e .1 .1 .1 .0)) (now (e .1 .1 .1 .1 .0))
-    (now (e .1 .1 .1 .1 .1 .0)) (now (e .1 .1 .1 .1 .1 .1 .0))))
+    (lentIn a))
+    (λ κ x e. calledOf x (lentIn e))
 vsmd-run-of-steps =
     record {
       some-result = λ controller at i l low.

@@ -1,6 +1,6 @@
 -- A record's bytes after a run, by whether it is the record that stands in them; and what is stored of it where some of its tracks were not read.
 -- Both are cases of the definition; and to store tracks as they stand in the bytes stores nothing.
-use Prim.Native.Nat.{ℕ, _+_, _-_, _*_, _≤_, _<_}
+use Prim.Native.Nat.{ℕ, _+_, _-_, _*_, _<_}
 use mathlib.Core.List.{List, _++_, append-assoc}
 use mathlib.Core.Logic.{if-neg, if-pos}
 use mathlib.Core.Path.{_≡_, sym, ap, _∙_}

@@ -3,7 +3,7 @@
 use mathlib.Core.Path.{_∙_, sym}
 use denote.Ref.{now}
 use Rattle.wire.specs.Promise.{OneOutcome, OneResult}
-use Rattle.abi.specs.Calls.{calledOf, inspectedOf, lentOf}
+use Rattle.abi.specs.Calls.{calledOf, inspectedOf, lentIn}
 use Rattle.abi.specs.Places.{locatedOf, neededOf}
 use Rattle.abi.proofs.places.vsmd_image_need.Reads as image-need
 use Rattle.abi.proofs.places.vsmd_sector_at.Reads as sector-at
@@ -27,26 +27,17 @@ vsmd-outcome-len-once κ a x y e f p q = p ∙ sym q
 
 vsmd-run-once :
     OneOutcome run.Post
-    (λ κ x e.
-    calledOf x
-    (lentOf (now (e .0)) (now (e .1 .0)) (now (e .1 .1 .0)) (now (e .1 .1 .1 .0)) (now (e .1 .1 .1 .1 .0))
-    (now (e .1 .1 .1 .1 .1 .0)) (now (e .1 .1 .1 .1 .1 .1 .0))))
+    (λ κ x e. calledOf x (lentIn e))
 vsmd-run-once κ a x y e f p q = p ∙ sym q
 
 vsmd-run-as-once :
     OneOutcome run-as.Post
-    (λ κ x e.
-    calledOf x
-    (lentOf (now (e .0)) (now (e .1 .0)) (now (e .1 .1 .0)) (now (e .1 .1 .1 .0)) (now (e .1 .1 .1 .1 .0))
-    (now (e .1 .1 .1 .1 .1 .0)) (now (e .1 .1 .1 .1 .1 .1 .0))))
+    (λ κ x e. calledOf x (lentIn e))
 vsmd-run-as-once κ a x y e f p q = p ∙ sym q
 
 vsmd-step-as-once :
     OneOutcome step-as.Post
-    (λ κ x e.
-    calledOf x
-    (lentOf (now (e .0)) (now (e .1 .0)) (now (e .1 .1 .0)) (now (e .1 .1 .1 .0)) (now (e .1 .1 .1 .1 .0))
-    (now (e .1 .1 .1 .1 .1 .0)) (now (e .1 .1 .1 .1 .1 .1 .0))))
+    (λ κ x e. calledOf x (lentIn e))
 vsmd-step-as-once κ a x y e f p q = p ∙ sym q
 
 vsmd-inspect-once :

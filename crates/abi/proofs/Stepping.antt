@@ -17,7 +17,6 @@ use Rattle.board.specs.World.{World}
 use Rattle.unit.specs.declared.Controller.{Controller}
 use Rattle.unit.specs.Standing.{unitOf}
 use Rattle.wire.proofs.Decided.{inMemory?}
-use Rattle.wire.specs.Memory.{InMemory}
 use Rattle.wire.specs.Storing.{written}
 use Rattle.abi.specs.Calls.{CallLent, Called, calledOf, controllerOf, lentOf, recordLeft, unlessRefused}
 use Rattle.abi.specs.Unread.{filledIn, readIn}

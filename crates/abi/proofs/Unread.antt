@@ -1,19 +1,19 @@
 -- A table of which only the tracks that count were read is the whole one, once the others are taken from the bytes; and so is what a block makes of it.
 -- Place by place a track is one that is known or one of the others, and an 85 writes the two that follow those that are known.
 use Prim.Native.Nat.{ℕ, _+_, _-_, _*_, _%_, _≤_, _<_, min}
-use mathlib.Core.List.{List, _++_}
+use mathlib.Core.List.{List}
 use mathlib.Core.Logic.{_⊎_, by-cases, if-neg, if-pos, inl, inr, ⊎-elim}
 use mathlib.Core.Path.{_≡_, refl, sym, ap, _∙_}
 use native.Mathlib.Decide.{decLt, ℕ-discrete}
 use native.Mathlib.Nat.{min-eq-left}
 use native.Mathlib.Omega.{arith}
-use lib.ListN.{drop, drop-of-length-le, getD, getD-replicate, length, length-append, length-drop, length-set, List·getD-append, set, take, take-append-drop}
-use lib.Seq.{ext-getD, getD-append-add, getD-drop, getD-set-other, getD-set-same, getD-take, length-sets, length-take-le, take-append-le, take-all}
+use lib.ListN.{drop, drop-of-length-le, getD, getD-replicate, length, length-append, length-drop, List·getD-append, take}
+use lib.Seq.{ext-getD, getD-append-add, getD-drop, getD-take, length-sets, length-take-le, take-append-le}
 use Rattle.spares.specs.Lands.{counted}
 use Rattle.spares.specs.Table.{withPair}
-use Rattle.spares.proofs.Adding.{its-bad, its-spare, long-still}
+use Rattle.spares.proofs.Adding.{beside-the-pair, its-bad, its-spare, long-still}
 use Rattle.unit.specs.declared.Controller.{Controller}
-use Rattle.unit.specs.Standing.{UnitRecord, byValue, noTracks, pairs, table, unitOf}
+use Rattle.unit.specs.Standing.{UnitRecord, byValue, noTracks, pairs, unitOf}
 use Rattle.block.specs.Block.{Effect}
 use Rattle.block.proofs.PastPairs.{PastPairs, pastEffect}
 use Rattle.board.specs.Chain.{ends, ran}
@@ -136,13 +136,6 @@ module _ (bytes : List ℕ) where
 
 -- ---- what blocks make of it
 
--- Beside an added pair a table is as it was.
-beside-the-pair :
-    (n : ℕ) (ts : List ℕ) (b s : ℕ) → n < 32 → (i : ℕ) → (i ≡ 2 * n → ⊥) → (i ≡ 2 * n + 1 → ⊥) → getD (withPair n ts b s) i 0 ≡ getD ts i 0
-beside-the-pair n ts b s room i not-first not-second =
-    ap (λ (l : List ℕ). getD l i 0) (if-pos (decLt n 32) room _ _) ∙
-    getD-set-other (set ts (2 * n) b) (2 * n + 1) i s 0 not-second ∙ getD-set-other ts (2 * n) i b 0 not-first
-
 module _ (others : List ℕ) (others-long : length others ≡ 64) where
   -- An 87 clears it, and then all of it is known.
   pub filled-cleared : filled others 0 noTracks ≡ noTracks
@@ -167,7 +160,7 @@ module _ (others : List ℕ) (others-long : length others ≡ 64) where
         let spare : getD paired 63 0 ≡ s = ap (λ (i : ℕ). getD paired i 0) (omega arith) ∙ its-spare n ts b s room long in
         inr (known-all (n + 1) paired (λ is. omega arith), inr full))
         (λ some.
-        let same : getD paired 63 0 ≡ getD ts 63 0 = beside-the-pair n ts b s room 63 (λ is. omega arith) (λ is. omega arith) in
+        let same : getD paired 63 0 ≡ getD ts 63 0 = beside-the-pair n ts b s room long 63 (λ is. omega arith) (λ is. omega arith) in
         by-cases (ℕ-discrete (getD ts 63 0) unread)
         (λ is. inl (omega (arith, known-unread n ts is, all-count .0), omega (arith, known-unread (n + 1) paired (same ∙ is), all-count .1)))
         (λ no. inr (known-all (n + 1) paired (λ is. no (sym same ∙ is)), inl (known-all n ts no))))
@@ -198,7 +191,7 @@ module _ (others : List ℕ) (others-long : length others ≡ 64) where
             ap (λ (j : ℕ). getD paired j 0) second ∙ its-spare n ts b s room long ∙
             sym (ap (λ (j : ℕ). getD (withPair n (filled others n ts) b s) j 0) second ∙ its-spare n (filled others n ts) b s room whole))
             (λ not-second.
-            beside i less not-first not-second ∙ sym (beside-the-pair n (filled others n ts) b s room i not-first not-second)))
+            beside i less not-first not-second ∙ sym (beside-the-pair n (filled others n ts) b s room whole i not-first not-second)))
           where
             by-known :
                 (i : ℕ) → (i ≡ 2 * n → ⊥) → (i ≡ 2 * n + 1 → ⊥) → (i < known (n + 1) paired → i < known n ts) → (known (n + 1) paired ≤ i → known n ts ≤ i) →
@@ -207,7 +200,7 @@ module _ (others : List ℕ) (others-long : length others ≡ 64) where
                 let long′ = long-still n ts b s room long in
                 by-cases (decLt i (known (n + 1) paired))
                 (λ below.
-                known-there others (n + 1) paired long′ i below ∙ beside-the-pair n ts b s room i not-first not-second
+                known-there others (n + 1) paired long′ i below ∙ beside-the-pair n ts b s room long i not-first not-second
                 ∙ sym (known-there others n ts long i (in-both below)))
                 (λ past.
                 others-there others (n + 1) paired long′ i (omega arith) ∙ sym (others-there others n ts long i (in-none (omega arith))))

@@ -1,6 +1,7 @@
 -- What the exported calls do, in bytes: a run and an inspection as board defines them, on records that cross as bytes. A buffer that is
 -- too short for its layout, and a controller that there is not, are refused with a code each, and nothing is changed.
 use Prim.Native.Nat.{ℕ, zero, suc}
+use denote.Ref.{RefT, now}
 use mathlib.Core.List.{List}
 use mathlib.Core.Logic.{ite}
 use native.Mathlib.Decide.{decLt}
@@ -40,6 +41,14 @@ lentOf host image0 image1 events record0 record1 outcome =
       record1 = record1;
       outcome = outcome;
     }
+
+-- What is lent by seven slices, which the arguments of a run and of a step begin with, and what is left in them at exit.
+abbrev pub lentIn :
+    {X : Type 0} →
+    RefT (List ℕ) × (RefT (List ℕ) × (RefT (List ℕ) × (RefT (List ℕ) × (RefT (List ℕ) × (RefT (List ℕ) × (RefT (List ℕ) × X)))))) → CallLent
+lentIn a =
+    lentOf (now (a .0)) (now (a .1 .0)) (now (a .1 .1 .0)) (now (a .1 .1 .1 .0)) (now (a .1 .1 .1 .1 .0)) (now (a .1 .1 .1 .1 .1 .0))
+    (now (a .1 .1 .1 .1 .1 .1 .0))
 
 -- What a call comes to: the number that it returns, and every lent byte.
 pub record Called : Type 0 where

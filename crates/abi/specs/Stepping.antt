@@ -23,7 +23,7 @@ use Rattle.answers.specs.declared.BlockAnswer.the-variants.{Ended, Failed}
 use Rattle.answers.specs.declared.RunAnswer.{RunAnswer}
 use Rattle.answers.specs.Numbers.{runNumber}
 use Rattle.answers.specs.RunNumbers.{blockNumber}
-use Rattle.board.specs.World.{World, effectAt, worldAfter}
+use Rattle.board.specs.World.{effectAt, worldAfter}
 use Rattle.iopb.specs.Layout.{blockAt}
 use Rattle.unit.specs.declared.Controller.{Controller}
 use Rattle.wire.proofs.Decided.{inMemory?}

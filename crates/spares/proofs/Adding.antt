@@ -54,10 +54,13 @@ module _ (n : ℕ) (ts : List ℕ) (b s : ℕ) (room : n < 32) (long : length ts
   pub long-still : length (withPair n ts b s) ≡ 64
   long-still = ap length stored ∙ simp length-set long
 
+  -- Beside it the table is as it was.
+  pub beside-the-pair : (i : ℕ) → (i ≡ 2 * n → ⊥) → (i ≡ 2 * n + 1 → ⊥) → getD (withPair n ts b s) i 0 ≡ getD ts i 0
+  beside-the-pair i not-bad not-spare =
+      ap (λ (l : List ℕ). getD l i 0) stored ∙ getD-set-other (set ts (2 * n) b) (2 * n + 1) i s 0 not-spare ∙ getD-set-other ts (2 * n) i b 0 not-bad
+
   pub before-the-pair : (i : ℕ) → i < 2 * n → getD (withPair n ts b s) i 0 ≡ getD ts i 0
-  before-the-pair i less =
-      ap (λ (l : List ℕ). getD l i 0) stored ∙ getD-set-other (set ts (2 * n) b) (2 * n + 1) i s 0 (λ same. omega arith) ∙
-      getD-set-other ts (2 * n) i b 0 (λ same. omega arith)
+  before-the-pair i less = beside-the-pair i (λ same. omega arith) (λ same. omega arith)
 
   pub its-bad : badOf (withPair n ts b s) n ≡ b
   its-bad =

@@ -1,31 +1,10 @@
 //! Where sectors stand by a record alone, on the small drive, worked out by hand.
 
+mod common;
+
+use common::{BY_CYLINDER, SMALL};
 use vsmd3200::{
     part_of, Geometry, Order, Pair, Part, Record, Standing, Track, Untold, Volume, RECORD_LEN,
-};
-
-/// The small drive: C = 10, S = 4, B = 64, volume 0 heads 0 and 1, volume 1 head 2. H = 3, so that it has
-/// 120 sectors, and the marks begin at byte 7,680.
-const SMALL: Geometry = Geometry {
-    cylinders: 10,
-    sectors_a_track: 4,
-    bytes_a_sector: 64,
-    volumes: [
-        Volume {
-            start_head: 0,
-            heads: 2,
-        },
-        Volume {
-            start_head: 2,
-            heads: 1,
-        },
-    ],
-    order: Order::ByHead,
-};
-
-const BY_CYLINDER: Geometry = Geometry {
-    order: Order::ByCylinder,
-    ..SMALL
 };
 
 fn record(geometry: Geometry) -> Record {

@@ -1,37 +1,11 @@
 //! The paper's session example through the wrapper, and the typed views of records and answers.
 
+mod common;
+
+use common::{BY_CYLINDER, SMALL, UIB};
 use vsmd3200::{
     inspect, part_of, run, run_as, BlockAnswer, Controller, Event, Geometry, Order, Outcome, Pair,
-    Part, Record, RunAnswer, Track, Volume, EVENTS_LEN_LEAST, PAIRS_MOST, RECORD_LEN,
-};
-
-const UIB: [u8; 18] = [
-    0x00, 0x02, 0x02, 0x01, 0x04, 0x00, 0x00, 0x40, 0x10, 0x20, 0x01, 0x03, 0x00, 0x0a, 0x04, 0x00,
-    0x01, 0xff,
-];
-
-/// The small drive: C = 10, S = 4, B = 64, volume 0 heads 0 and 1, volume 1 head 2.
-const SMALL: Geometry = Geometry {
-    cylinders: 10,
-    sectors_a_track: 4,
-    bytes_a_sector: 64,
-    volumes: [
-        Volume {
-            start_head: 0,
-            heads: 2,
-        },
-        Volume {
-            start_head: 2,
-            heads: 1,
-        },
-    ],
-    order: Order::ByHead,
-};
-
-/// The same drive, counted by cylinder.
-const BY_CYLINDER: Geometry = Geometry {
-    order: Order::ByCylinder,
-    ..SMALL
+    Part, Record, RunAnswer, Track, EVENTS_LEN_LEAST, PAIRS_MOST, RECORD_LEN,
 };
 
 fn image() -> Vec<u8> {

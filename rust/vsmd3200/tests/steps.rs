@@ -1,32 +1,12 @@
 //! Chains made of steps: they leave what a run leaves, and a step that is refused leaves every byte.
 
+mod common;
+
+use common::{SMALL, UIB};
 use vsmd3200::bytes::{block, command, option, record, status};
 use vsmd3200::{
-    run_as, step_as, BlockAnswer, Controller, Geometry, Order, Outcome, Pair, Record, RunAnswer,
-    StepRefused, Stepped, Track, Volume, EVENTS_LEN_LEAST, EVENT_LEN,
-};
-
-const UIB: [u8; 18] = [
-    0x00, 0x02, 0x02, 0x01, 0x04, 0x00, 0x00, 0x40, 0x10, 0x20, 0x01, 0x03, 0x00, 0x0a, 0x04, 0x00,
-    0x01, 0xff,
-];
-
-/// The small drive: C = 10, S = 4, B = 64, volume 0 heads 0 and 1, volume 1 head 2.
-const SMALL: Geometry = Geometry {
-    cylinders: 10,
-    sectors_a_track: 4,
-    bytes_a_sector: 64,
-    volumes: [
-        Volume {
-            start_head: 0,
-            heads: 2,
-        },
-        Volume {
-            start_head: 2,
-            heads: 1,
-        },
-    ],
-    order: Order::ByHead,
+    run_as, step_as, BlockAnswer, Controller, Outcome, Pair, Record, RunAnswer, StepRefused,
+    Stepped, Track, EVENTS_LEN_LEAST, EVENT_LEN,
 };
 
 /// All that is lent to a run or a step.

@@ -3,11 +3,10 @@
 use denote.Ref.{now}
 use mathlib.Core.Path.{refl}
 use borrow.Author.Needs.{needs}
-use Rattle.abi.specs.Calls.{CallLent, lentOf}
+use Rattle.abi.specs.Calls.{lentOf}
 use Rattle.abi.proofs.Stepping.{none-is, once-is}
 use Rattle.abi.proofs.step.step.Statement.{statement}
 use Rattle.abi.proofs.step.step.Tie as tie
-use Rattle.board.specs.declared.Units.{Units}
 
 -- The places: the call's beginning, from where unit 0 is read; that, from where unit 1 is to be; where it was, from the step; the step, from where what is
 -- lent has come back; and that, from where all is known that is to be left.
