@@ -1,6 +1,8 @@
 // Big-endian words read from and stored into a byte slice, the copy of a run of bytes between two slices, the one test whether a range lies in
 // host memory, and the lesser of two numbers. Every layout, transfer and place above is made of these; the laws that crates share stand beside them.
 // It knows no layout and no drive, and it leaves every byte that it does not name as it was.
+#![tactic(auto)]
+
 ghost use Rattle.std.specs.Prelude.{◌≡◌, ◌+◌, ◌≤◌, ◌<◌, min, length};
 ghost use Rattle.wire.specs.Copy.{copied};
 ghost use Rattle.wire.specs.Memory.{InMemory};
