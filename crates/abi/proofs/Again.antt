@@ -129,13 +129,13 @@ written_over l xs ys same fits =
 
 module _ (bytes : List ℕ) (u v : UnitRecord) (fits : 276 ≤ length bytes) (u-long : length (table u) ≡ 64) (v-long : length (table v) ≡ 64) (narrow : Narrow u) where
   -- A record is left, and then the same again, or an initialized one: as if the first had not been.
-  pub left-again :
+  pub left_again :
       ((i : ℕ) → get_or bytes i 0 < 256) → (u ≡ v) ⊎ ((initialized v ≡ true) × ((i : ℕ) → get_or (record_left bytes u) i 0 < 256)) →
       record_left (record_left bytes u) v ≡ record_left bytes v
-  left-again low (inl same) =
+  left_again low (inl same) =
       let reads : record_in (record_left bytes u) ≡ v = left_reads_back u narrow u-long bytes fits ∙ same in
       left_as_it_came (record_left bytes u) v reads ∙ ap (record_left bytes) same
-  left-again low (inr (init, low-then)) =
+  left_again low (inr (init, low-then)) =
       left_stored (record_left bytes u) low-then v init ∙
       by_cases (same_with_table? (record_in bytes) u)
       (λ same. ap (λ (l : List ℕ). written l 0 (record_bytes v)) (left_as_it_came bytes u same))

@@ -18,7 +18,7 @@ use Rattle.unit.specs.Landing.{spot_at}
 use Rattle.unit.specs.Standing.{CountsAsInitialized, by_value, geometry}
 use Rattle.unit.proofs.Alike.{counts_alike, landed_alike, spot_alike}
 use Rattle.board.specs.Inspection.{inspectable?, part_of, sector_part}
-use Rattle.board.proofs.Parts.{sector_not_there, sector-there}
+use Rattle.board.proofs.Parts.{sector_not_there, sector_there}
 use Rattle.abi.specs.declared.places.Wanted.{Wanted}
 use Rattle.abi.specs.declared.places.Wanted.TheVariants.{Numbered, Addressed}
 use Rattle.abi.specs.Layouts.{pairs_in, record_in, tracks_in}
@@ -60,9 +60,9 @@ module _ (bytes : List ℕ) where
   sector_as_read n long place =
       by_cases (inspectable? (read_in bytes) long place)
       (λ there.
-      sector-there n (read_in bytes) long place there
+      sector_there n (read_in bytes) long place there
       ∙ sym
-      (sector-there n (record_in bytes) long place
+      (sector_there n (record_in bytes) long place
       (record { initialized = counts_as_read there.initialized; inside = there.inside; image = there.image })))
       (λ not_there.
       sector_not_there n (read_in bytes) long place not_there
@@ -71,10 +71,10 @@ module _ (bytes : List ℕ) where
       (λ there. not_there (record { initialized = counts_in_bytes there.initialized; inside = there.inside; image = there.image }))))
 
 -- and of either.
-pub part-as-read :
+pub part_as_read :
     (record0 record1 : List ℕ) (long0 long1 unit place : ℕ) →
     part_of (read_in record0) (read_in record1) long0 long1 unit place ≡ part_of (record_in record0) (record_in record1) long0 long1 unit place
 unfolding part_of
-part-as-read record0 record1 long0 long1 zero place = sector_as_read record0 unit.Zero long0 place
-part-as-read record0 record1 long0 long1 (suc zero) place = sector_as_read record1 unit.One long1 place
-part-as-read record0 record1 long0 long1 (suc (suc unit)) place = refl
+part_as_read record0 record1 long0 long1 zero place = sector_as_read record0 unit.Zero long0 place
+part_as_read record0 record1 long0 long1 (suc zero) place = sector_as_read record1 unit.One long1 place
+part_as_read record0 record1 long0 long1 (suc (suc unit)) place = refl

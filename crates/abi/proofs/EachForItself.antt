@@ -14,13 +14,13 @@ other_stays m l First Second apart = refl
 other_stays m l Second First apart = refl
 other_stays m l Second Second apart = absurd (apart refl)
 
-vsmd-run-as-for-itself :
+vsmd_run_as_for_itself :
     EachForItself run-as.Post
     (λ κ a.
     asking a.1.1.1.1.1.1.1.1.1.0 a.1.1.1.1.1.1.1.0 a.1.1.1.1.1.1.1.1.0
     (lent_in a))
     (λ κ x e. called_of x (lent_in e))
-vsmd-run-as-for-itself κ κ' a b x y e f c first allowance m n here there agree p q =
+vsmd_run_as_for_itself κ κ' a b x y e f c first allowance m n here there agree p q =
     record {
       same =
           p ∙

@@ -23,9 +23,9 @@ use Rattle.board.proofs.Chains.{fetched_bad, fetched_spent}
 use Rattle.board.proofs.Runs.{ran_chain, ran_first_bad}
 use Rattle.demands.specs.Visits.{Visit}
 use Rattle.demands.proofs.HeldDrives.{block_keeps_controller}
-use Rattle.demands.proofs.Keeps.{block-keeps-lengths}
-use Rattle.demands.proofs.Records.{block-keeps-low, block-keeps-or-counts, sectors_few}
-use Rattle.demands.proofs.Tables.{block-keeps-long}
+use Rattle.demands.proofs.Keeps.{block_keeps_lengths}
+use Rattle.demands.proofs.Records.{block_keeps_low, block_keeps_or_counts, sectors_few}
+use Rattle.demands.proofs.Tables.{block_keeps_long}
 use Rattle.block.specs.Block.{Effect}
 use Rattle.iopb.specs.declared.Block.{Block}
 use Rattle.iopb.specs.Layout.{block_at}
@@ -45,11 +45,11 @@ use Rattle.abi.specs.InSteps.Loop.{bad, last, on, refused, spent}
 use Rattle.abi.specs.Layouts.{ending_bytes, outcome_bytes, record_bytes, record_in}
 use Rattle.abi.specs.Machines.{Asking, asking}
 use Rattle.abi.specs.Stepping.{block_bad, goes_on, stepped_as, stepped_bytes, stepped_once}
-use Rattle.abi.proofs.Again.{counts_narrow, left-again, read_narrow}
-use Rattle.abi.proofs.Called.{called_is, called-made, refused_0, refused_1, refused_3}
+use Rattle.abi.proofs.Again.{counts_narrow, left_again, read_narrow}
+use Rattle.abi.proofs.Called.{called_is, called_made, refused_0, refused_1, refused_3}
 use Rattle.abi.proofs.Laws.{Narrow, left_reads_back}
 use Rattle.abi.proofs.Left.{left_anew, left_as_it_came}
-use Rattle.abi.proofs.Stepping.{stepped-is, stepped_made}
+use Rattle.abi.proofs.Stepping.{stepped_is, stepped_made}
 use Rattle.abi.proofs.Tracks.{at_the_head, length_words}
 use Rattle.abi.proofs.vsmd_run_as.Reads as run-as
 use Rattle.abi.proofs.vsmd_step_as.Reads as step-as
@@ -96,11 +96,11 @@ ends_there Ended true t w next stops = absurd (omega arith)
 ends_there (Failed r) linked t w next stops =
     ap (λ (a : RunAnswer). ends a (refusal_number r) t w) (sym (failed_last (refusal_number r) (omega (arith, refusals_in_range r))))
 
-goes-there :
+goes_there :
     (a : BlockAnswer) (linked : Bool) (t : Count) (w : World) (next : Ending) → (flag (goes_on a linked) ≡ 0 → ⊥) → follows a linked t w next ≡ next
-goes-there Ended false t w next follow = absurd (follow refl)
-goes-there Ended true t w next follow = refl
-goes-there (Failed r) linked t w next follow = absurd (follow refl)
+goes_there Ended false t w next follow = absurd (follow refl)
+goes_there Ended true t w next follow = refl
+goes_there (Failed r) linked t w next follow = absurd (follow refl)
 
 -- ---- what one step leaves
 
@@ -178,17 +178,17 @@ module _ (c : Controller) (at i : ℕ) (l : CallLent) (room : Room l) (low : Byt
   left_is One = refl
 
   long_then : (n : UnitNumber) → length (table (drive_of then n).unit) ≡ 64
-  long_then n = block-keeps-long visit n (ap (λ (u : UnitRecord). length (table u)) (read_in_lem c l n) ∙ length_words (records_of l n) 20 64)
+  long_then n = block_keeps_long visit n (ap (λ (u : UnitRecord). length (table u)) (read_in_lem c l n) ∙ length_words (records_of l n) 20 64)
 
   -- The record of a unit is as it was, or counts as initialized; so it fits its bytes.
   kept_then : (n : UnitNumber) → (record_in (records_of l n) ≡ (drive_of then n).unit) ⊎ CountsAsInitialized (drive_of then n).unit
-  kept_then n = ⊎_elim (λ same. inl (sym (same ∙ read_in_lem c l n))) inr (block-keeps-or-counts visit n)
+  kept_then n = ⊎_elim (λ same. inl (sym (same ∙ read_in_lem c l n))) inr (block_keeps_or_counts visit n)
 
   narrow_then : (n : UnitNumber) → Narrow (drive_of then n).unit
   narrow_then n =
       let narrow = read_narrow (records_of l n) (low_records l low n) in
       ⊎_elim (λ same. subst Narrow same narrow)
-      (λ counts. counts_narrow (drive_of then n).unit counts (block-keeps-low visit n (subst (λ (u : UnitRecord). (j : ℕ) → get_or (table u) j 0 < 2 ^ 32) (sym (read_in_lem c l n)) narrow.low_tracks)))
+      (λ counts. counts_narrow (drive_of then n).unit counts (block_keeps_low visit n (subst (λ (u : UnitRecord). (j : ℕ) → get_or (table u) j 0 < 2 ^ 32) (sym (read_in_lem c l n)) narrow.low_tracks)))
       (kept_then n)
 
   reads_then : (n : UnitNumber) → record_in (records_of left n) ≡ (drive_of then n).unit
@@ -230,16 +230,16 @@ module _ (c : Controller) (at i : ℕ) (l : CallLent) (room : Room l) (low : Byt
 
   -- One step more before it. What the next one tells in is its own.
   module _ (outcome : List ℕ) where
-    init-then :
+    init_then :
         (n : UnitNumber) →
         (record_in (records_of l n) ≡ (drive_of then n).unit) ⊎
         ((initialized (drive_of then n).unit ≡ true) × ((i : ℕ) → get_or (records_of l n) i 0 < 256))
-    init-then n = ⊎_elim inl (λ counts. inr (counts.said, low_records l low n)) (kept_then n)
+    init_then n = ⊎_elim inl (λ counts. inr (counts.said, low_records l low n)) (kept_then n)
 
-    leaves-once :
+    leaves_once :
         (answer : RunAnswer) (failed : ℕ) (t : Count) →
         Leaves outcome l (ends answer failed t then) (ended outcome answer failed t left)
-    leaves-once answer failed t =
+    leaves_once answer failed t =
         record {
           lent = left;
           came = refl;
@@ -248,13 +248,13 @@ module _ (c : Controller) (at i : ℕ) (l : CallLent) (room : Room l) (low : Byt
           image1 = refl;
           events = refl;
           records = left_is;
-          kept = init-then;
+          kept = init_then;
           long = long_then;
         }
 
-    leaves-on :
+    leaves_on :
         (stepped : List ℕ) (e : Ending) (r : Called) → Leaves outcome (with_outcome left stepped) e r → Leaves outcome l e r
-    leaves-on stepped e r after =
+    leaves_on stepped e r after =
         record {
           lent = after.lent;
           came = after.came;
@@ -264,7 +264,7 @@ module _ (c : Controller) (at i : ℕ) (l : CallLent) (room : Room l) (low : Byt
           events = after.events;
           records = λ n.
               after.records n ∙ ap (λ (b : List ℕ). record_left b (drive_of e.world n).unit) (stands n) ∙
-              left-again (records_of l n) (drive_of then n).unit (drive_of e.world n).unit (room.records n)
+              left_again (records_of l n) (drive_of then n).unit (drive_of e.world n).unit (room.records n)
               (long_then n) (after.long n) (narrow_then n) (low_records l low n)
               (⊎_elim (λ same. inl (stays n same))
               (λ init. inr (init.0, subst (λ (b : List ℕ). (j : ℕ) → get_or b j 0 < 256) (stands n) init.1)) (after.kept n));
@@ -272,7 +272,7 @@ module _ (c : Controller) (at i : ℕ) (l : CallLent) (room : Room l) (low : Byt
               ⊎_elim
               (λ same.
               ⊎_elim (λ first. inl (first ∙ stays n same))
-              (λ init. inr (ap (λ (u : UnitRecord). initialized u) (sym (stays n same)) ∙ init.0, init.1)) (init-then n))
+              (λ init. inr (ap (λ (u : UnitRecord). initialized u) (sym (stays n same)) ∙ init.0, init.1)) (init_then n))
               (λ init. inr (init.0, low_records l low n)) (after.kept n);
           long = after.long;
         }
@@ -290,7 +290,7 @@ module _ (c : Controller) (at i : ℕ) (l : CallLent) (room : Room l) (low : Byt
 -- ---- along the loop
 
 -- A block that is fetched leads where its answer and its link say.
-fetched-once :
+fetched_once :
     (left : ℕ) (t : Count) (at : ℕ) (w : World) → InMemory w.host at 28 →
     fetched (suc left) t at w ≡
     (let e = effect_at at t.blocks w in
@@ -299,7 +299,7 @@ fetched-once :
     let w' = world_after at t.blocks w in
     follows e.answer b.options.link t' w' (fetched left t' b.link w'))
 unfolding fetched
-fetched-once left t at w place = if_pos (in_memory? w.host at 28) place _ _
+fetched_once left t at w place = if_pos (in_memory? w.host at 28) place _ _
 
 module _
     {ℓ} (controller : ℕ) (outcome : List ℕ) (Step : (at i : ℕ) → CallLent → Called → Type ℓ)
@@ -309,17 +309,17 @@ module _
     c = controller_of controller
 
     -- Where every step of what is lent is refused with a code, the loop returns that code.
-    loop-refused :
+    loop_refused :
         (code left : ℕ) (t : Count) (at : ℕ) (l : CallLent) (r : Called) → Loop Step outcome left t at l r → 1 ≤ left →
         ((i : ℕ) (j : ℕ) → stepped_as controller i j l ≡ called_of code l) → (code ≡ 3 → ⊥) → (code ≡ 0 → ⊥) → r ≡ called_of code (with_outcome l outcome)
-    loop-refused code _ _ _ _ _ (spent t at l) some stops other some-code = absurd (omega arith)
-    loop-refused code _ _ _ _ _ (bad n t at l s step none) some stops other some-code =
+    loop_refused code _ _ _ _ _ (spent t at l) some stops other some-code = absurd (omega arith)
+    loop_refused code _ _ _ _ _ (bad n t at l s step none) some stops other some-code =
         absurd (other (sym (ap (λ (x : Called). x.code) ((is at t.blocks l s step).1 ∙ stops at t.blocks)) ∙ none))
-    loop-refused code _ _ _ _ _ (refused n t at l s step not-3 not-0) some stops other some-code =
+    loop_refused code _ _ _ _ _ (refused n t at l s step not-3 not-0) some stops other some-code =
         ap (λ (x : Called). called_of x.code (with_outcome x.lent outcome)) ((is at t.blocks l s step).1 ∙ stops at t.blocks)
-    loop-refused code _ _ _ _ _ (last n t at l s step made told) some stops other some-code =
+    loop_refused code _ _ _ _ _ (last n t at l s step made told) some stops other some-code =
         absurd (some-code (sym (ap (λ (x : Called). x.code) ((is at t.blocks l s step).1 ∙ stops at t.blocks)) ∙ made))
-    loop-refused code _ _ _ _ _ (on n t at l s stepped r step made told long rest) some stops other some-code =
+    loop_refused code _ _ _ _ _ (on n t at l s stepped r step made told long rest) some stops other some-code =
         absurd (some-code (sym (ap (λ (x : Called). x.code) ((is at t.blocks l s step).1 ∙ stops at t.blocks)) ∙ made))
 
     module _ (one_of_two : controller ≤ 1) where
@@ -366,9 +366,9 @@ module _
           λ j. fetched n (counted t ((told_then c at i l room low).sectors_is j)) ((told_then c at i l room low).link_is j) (world_then c at i l room low j) in
           subst (λ (e : Ending). Leaves outcome l e r)
           (sym
-          (fetched-once n t at (world_in c l) place ∙
-          goes-there (effect_at at i (world_in c l)).answer (block_at l.host at).options.link _ _ _ follow))
-          (leaves-on c at i l room low outcome stepped _ r
+          (fetched_once n t at (world_in c l) place ∙
+          goes_there (effect_at at i (world_in c l)).answer (block_at l.host at).options.link _ _ _ follow))
+          (leaves_on c at i l room low outcome stepped _ r
           (subst (λ (e : Ending). Leaves outcome (with_outcome (left c at i l room low) stepped) e r) on-world after))
 
       -- From a first block that can be fetched on.
@@ -397,9 +397,9 @@ module _
             ap (λ (x : Called). x.lent) once,
             (told_then c at i l room low).answer_is,
             (told_then c at i l room low).sectors_is,
-            fetched-once n t at (world_in c l) place,
+            fetched_once n t at (world_in c l) place,
             ends_there (effect_at at i (world_in c l)).answer (block_at l.host at).options.link _ _ _ (sym (ap follow_told once ∙ (told_then c at i l room low).follow_is) ∙ stops),
-          ) (leaves-once c at i l room low outcome _ _ _)
+          ) (leaves_once c at i l room low outcome _ _ _)
       go _ _ _ _ _ (on n t at l s stepped r step made follow long rest) room entries first =
           let i = t.blocks in
           let entry : 8 * i + 8 ≤ length l.events = omega arith in
@@ -408,29 +408,29 @@ module _
           let low = (is at i l s step).0 in
           let room_next = subst (λ (x : Called). Room (with_outcome x.lent stepped)) (sym once) (room_then c at i l room low stepped long) in
           let as_long : length s.lent.events ≡ length l.events =
-          ap (λ (x : Called). length x.lent.events) once ∙ (block-keeps-lengths (visit c at i l room low)).1.0 in
+          ap (λ (x : Called). length x.lent.events) once ∙ (block_keeps_lengths (visit c at i l room low)).1.0 in
           let after = go n (counted t (sectors_told s)) (link_told s) (with_outcome s.lent stepped) r rest room_next (omega arith) (λ none. absurd (omega arith)) in
           on_then n t at l room low stepped r place (λ stops. follow (ap follow_told once ∙ (told_then c at i l room low).follow_is ∙ stops))
           (subst (λ (x : Called). Leaves outcome (with_outcome x.lent stepped) (fetched n (counted t (sectors_told x)) (link_told x) (world_in c x.lent)) r) once after)
 
       -- A loop whose first block cannot be fetched ends there.
-      first-bad :
+      first_bad :
           (left : ℕ) (t : Count) (at : ℕ) (l : CallLent) (r : Called) → Loop Step outcome left t at l r → 1 ≤ left → Room l →
           8 * (t.blocks + left) ≤ length l.events → (InMemory l.host at 28 → ⊥) → r ≡ ended outcome (answer_to_bad t.blocks) 0 t l
-      first-bad _ _ _ _ _ (spent t at l) some room entries out = absurd (omega arith)
-      first-bad _ _ _ _ _ (bad n t at l s step none) some room entries out =
+      first_bad _ _ _ _ _ (spent t at l) some room entries out = absurd (omega arith)
+      first_bad _ _ _ _ _ (bad n t at l s step none) some room entries out =
           ap (λ (x : Called). ended outcome (answer_to_bad t.blocks) 0 t x.lent) (not_there at t.blocks l s room (omega arith) step out)
-      first-bad _ _ _ _ _ (refused n t at l s step not-3 not-0) some room entries out =
+      first_bad _ _ _ _ _ (refused n t at l s step not-3 not-0) some room entries out =
           absurd (one_or_other at t.blocks l s room (omega arith) step not-3 not-0)
-      first-bad _ _ _ _ _ (last n t at l s step made stops) some room entries out = absurd (out (was_there at t.blocks l s room (omega arith) step made))
-      first-bad _ _ _ _ _ (on n t at l s stepped r step made follow long rest) some room entries out =
+      first_bad _ _ _ _ _ (last n t at l s step made stops) some room entries out = absurd (out (was_there at t.blocks l s room (omega arith) step made))
+      first_bad _ _ _ _ _ (on n t at l s stepped r step made follow long rest) some room entries out =
           absurd (out (was_there at t.blocks l s room (omega arith) step made))
 
       -- What a loop from the first entry on comes to is what a run does, with room for both.
-      loop-is-run :
+      loop_is_run :
           (first allowance : ℕ) (l : CallLent) (r : Called) → RunsAlike allowance l outcome → Room l → Loop Step outcome allowance nothing first l r →
           answered (with_outcome l outcome) (ran first allowance (world_in c l)) ≡ r
-      loop-is-run first allowance l r run room loop =
+      loop_is_run first allowance l r run room loop =
           let limits : (1 ≤ allowance) × (allowance ≤ 64) = (run.least, run.most) in
           by_cases (in_memory? l.host first 28)
           (λ inside.
@@ -448,13 +448,13 @@ module _
           called_of 3
           (lent_of l.host l.image0 l.image1 l.events (left_as_it_came l.record0 (record_in l.record0) refl j)
           (left_as_it_came l.record1 (record_in l.record1) refl j) (written outcome 0 (outcome_bytes 3 0 0 0)))) ∙
-          sym (first-bad allowance nothing first l r loop run.least room (omega (arith, run.events, run.most)) out))
+          sym (first_bad allowance nothing first l r loop run.least room (omega (arith, run.events, run.most)) out))
 
     -- And without: each is refused for a record that is too short, or a controller that there is not, with the same code.
-    loop-called :
+    loop_called :
         (first allowance : ℕ) (l : CallLent) (r : Called) → RunsAlike allowance l outcome → Loop Step outcome allowance nothing first l r →
         called_as controller first allowance (with_outcome l outcome) ≡ r
-    loop-called first allowance l r run loop =
+    loop_called first allowance l r run loop =
         let lent = with_outcome l outcome in
         by_cases (dec_le 276 (length l.record0))
         (λ fits0.
@@ -462,23 +462,23 @@ module _
         (λ fits1.
         by_cases (dec_le controller 1)
         (λ one_of_two.
-        called-made controller first allowance lent fits0 fits1 run.long_outcome one_of_two ∙
-        loop-is-run one_of_two first allowance l r run (record { records = both fits0 fits1; stepped = run.long_stepped }) loop)
+        called_made controller first allowance lent fits0 fits1 run.long_outcome one_of_two ∙
+        loop_is_run one_of_two first allowance l r run (record { records = both fits0 fits1; stepped = run.long_stepped }) loop)
         (λ none.
         called_is controller first allowance lent ∙ refused_3 _ controller lent _ fits0 fits1 run.long_outcome (omega arith) ∙
         sym
-        (loop-refused controller_unknown allowance nothing first l r loop run.least
-        (λ i j. stepped-is controller i j l ∙ refused_3 _ controller l _ fits0 fits1 run.long_stepped (omega arith)) (λ is-3. omega arith) (λ is-0. omega arith))))
+        (loop_refused controller_unknown allowance nothing first l r loop run.least
+        (λ i j. stepped_is controller i j l ∙ refused_3 _ controller l _ fits0 fits1 run.long_stepped (omega arith)) (λ is-3. omega arith) (λ is-0. omega arith))))
         (λ short.
         called_is controller first allowance lent ∙ refused_1 _ controller lent _ fits0 (omega arith) ∙
         sym
-        (loop-refused record1_short allowance nothing first l r loop run.least
-        (λ i j. stepped-is controller i j l ∙ refused_1 _ controller l _ fits0 (omega arith)) (λ is-3. omega arith) (λ is-0. omega arith))))
+        (loop_refused record1_short allowance nothing first l r loop run.least
+        (λ i j. stepped_is controller i j l ∙ refused_1 _ controller l _ fits0 (omega arith)) (λ is-3. omega arith) (λ is-0. omega arith))))
         (λ short.
         called_is controller first allowance lent ∙ refused_0 _ controller lent _ (omega arith) ∙
         sym
-        (loop-refused record0_short allowance nothing first l r loop run.least
-        (λ i j. stepped-is controller i j l ∙ refused_0 _ controller l _ (omega arith)) (λ is-3. omega arith) (λ is-0. omega arith)))
+        (loop_refused record0_short allowance nothing first l r loop run.least
+        (λ i j. stepped_is controller i j l ∙ refused_0 _ controller l _ (omega arith)) (λ is-3. omega arith) (λ is-0. omega arith)))
       where
         both : 276 ≤ length l.record0 → 276 ≤ length l.record1 → (n : UnitNumber) → 276 ≤ length (records_of l n)
         both fits0 fits1 Zero = fits0
@@ -486,7 +486,7 @@ module _
 
 -- ---- of the promises, as the source states them
 
-vsmd-run-of-steps :
+vsmd_run_of_steps :
     RunOfSteps step-as.Post
     (λ κ a.
     step_asking a.1.1.1.1.1.1.1.1.1.0 a.1.1.1.1.1.1.1.0 a.1.1.1.1.1.1.1.1.0
@@ -497,7 +497,7 @@ vsmd-run-of-steps :
     asking a.1.1.1.1.1.1.1.1.1.0 a.1.1.1.1.1.1.1.0 a.1.1.1.1.1.1.1.1.0
     (lent_in a))
     (λ κ x e. called_of x (lent_in e))
-vsmd-run-of-steps =
+vsmd_run_of_steps =
     record {
       some_result = λ controller at i l low.
           let s = stepped_as controller at i l in
@@ -524,7 +524,7 @@ vsmd-run-of-steps =
       same = λ controller first allowance l outcome r run loop κ b x f asked promised.
           promised ∙
           ap (λ (k : Asking). called_as k.controller k.first k.allowance k.lent) asked ∙
-          loop-called controller outcome _
+          loop_called controller outcome _
           (λ at i m s step. (
             step.bytes,
             sym step.came ∙ step.allowed ∙

@@ -11,7 +11,7 @@ use lib.ListN.{get_or, length}
 use Rattle.wire.specs.Words.{word}
 use Rattle.geometry.specs.declared.Geometry.{Geometry}
 use Rattle.geometry.specs.Drive.{B, C, S, goes_by_head}
-use Rattle.geometry.proofs.Same.{geometry-is}
+use Rattle.geometry.proofs.Same.{geometry_is}
 use Rattle.unit.proofs.Decided.{record_is, same_with_table?}
 use Rattle.unit.proofs.Holders.{holder_back}
 use Rattle.unit.specs.declared.Holder.{Holder}
@@ -21,7 +21,7 @@ use Rattle.board.specs.Chain.{Ending}
 use Rattle.abi.specs.Calls.{record_left}
 use Rattle.abi.specs.Layouts.{ending_bytes, geometry_bytes, head_bytes, holder_in, opening_bytes, order_byte, outcome_length, record_bytes, record_in, record_length, says_initialized, track_bytes, tracks_in}
 use Rattle.abi.proofs.Left.{left_anew, left_as_it_came}
-use Rattle.abi.proofs.Tracks.{at_the_head, length_tracks, tracks-back, words_past}
+use Rattle.abi.proofs.Tracks.{at_the_head, length_tracks, tracks_back, words_past}
 use Rattle.unit.specs.HolderNumbers.{holder_number}
 use Rattle.wire.specs.Storing.{two_bytes}
 
@@ -84,11 +84,11 @@ module _ (u : UnitRecord) (n : Narrow u) (long : length (table u) ≡ 64) where
       let after = two_bytes (pairs u) ++ tracks ++ rest in
       let value : by_value (record_in (record_bytes u ++ rest)) ≡ by_value u =
       record_is _ (by_value u) (opening_back g (cylinder u) after (goes_by_head g) (holder u) (initialized u))
-      (geometry-is _ g (two_back (C g) n.few_C) (two_back (S g) n.few_S) (two_back (B g) n.few_B) refl refl (order_back (goes_by_head g)))
+      (geometry_is _ g (two_back (C g) n.few_C) (two_back (S g) n.few_S) (two_back (B g) n.few_B) refl refl (order_back (goes_by_head g)))
       (two_back (cylinder u) n.low_cylinder) (two_back (pairs u) n.few_pairs)
       (holder_read_back g (cylinder u) after (goes_by_head g) (holder u) (initialized u)) in
       let words : tracks_in (record_bytes u ++ rest) ≡ table u =
-      words_past (head_bytes u) (tracks ++ rest) 0 64 ∙ rw long at (tracks-back (table u) rest (λ i less. n.low_tracks i)) in
+      words_past (head_bytes u) (tracks ++ rest) 0 64 ∙ rw long at (tracks_back (table u) rest (λ i less. n.low_tracks i)) in
       λ i. unit_of (value i) (words i)
 
   -- What stands in a record's bytes after a run is the record that the run left, its table with it.

@@ -24,37 +24,37 @@ vsmd_record_len_once κ a x y e f p q = p ∙ sym q
 vsmd_outcome_len_once : OneResult outcome-len.Post
 vsmd_outcome_len_once κ a x y e f p q = p ∙ sym q
 
-vsmd-run-once :
+vsmd_run_once :
     OneOutcome run.Post
     (λ κ x e. called_of x (lent_in e))
-vsmd-run-once κ a x y e f p q = p ∙ sym q
+vsmd_run_once κ a x y e f p q = p ∙ sym q
 
-vsmd-run-as-once :
+vsmd_run_as_once :
     OneOutcome run-as.Post
     (λ κ x e. called_of x (lent_in e))
-vsmd-run-as-once κ a x y e f p q = p ∙ sym q
+vsmd_run_as_once κ a x y e f p q = p ∙ sym q
 
-vsmd-step-as-once :
+vsmd_step_as_once :
     OneOutcome step-as.Post
     (λ κ x e. called_of x (lent_in e))
-vsmd-step-as-once κ a x y e f p q = p ∙ sym q
+vsmd_step_as_once κ a x y e f p q = p ∙ sym q
 
-vsmd-inspect-once :
+vsmd_inspect_once :
     OneOutcome inspect.Post
     (λ κ x e.
     inspected_of x e.1.1.1.1.1.1.0.now
     e.1.1.1.1.1.1.1.0.now e.1.1.1.1.1.1.1.1.0.now)
-vsmd-inspect-once κ a x y e f p q = p ∙ sym q
+vsmd_inspect_once κ a x y e f p q = p ∙ sym q
 
 vsmd_image_need_once : OneOutcome image-need.Post (λ κ x e. needed_of x e.1.0.now)
 vsmd_image_need_once κ a x y e f p q = p ∙ sym q
 
-vsmd-sector-of-once :
+vsmd_sector_of_once :
     OneOutcome sector-of.Post
     (λ κ x e. located_of x e.1.1.1.0.now e.1.1.1.1.0.now e.1.1.1.1.1.0.now)
-vsmd-sector-of-once κ a x y e f p q = p ∙ sym q
+vsmd_sector_of_once κ a x y e f p q = p ∙ sym q
 
-vsmd-sector-at-once :
+vsmd_sector_at_once :
     OneOutcome sector-at.Post
     (λ κ x e. located_of x e.1.1.1.1.0.now e.1.1.1.1.1.0.now e.1.1.1.1.1.1.0.now)
-vsmd-sector-at-once κ a x y e f p q = p ∙ sym q
+vsmd_sector_at_once κ a x y e f p q = p ∙ sym q

@@ -16,7 +16,7 @@ use Rattle.unit.specs.declared.Spot.{Spot}
 use Rattle.unit.specs.Answers.{landing}
 use Rattle.unit.specs.Made.{bare}
 use Rattle.unit.specs.Standing.{CountsAsInitialized, UnitRecord, by_value, geometry}
-use Rattle.unit.proofs.Answers.{at_address, at-landing}
+use Rattle.unit.proofs.Answers.{at_address, at_landing}
 use Rattle.unit.proofs.Decided.{counts?}
 use Rattle.unit.proofs.Laws.{address_inside, spot_inside}
 use Rattle.abi.specs.declared.places.Reading.{Reading}
@@ -45,13 +45,13 @@ module _ (bytes : List ℕ) where
         sym (if_neg (dec_lt (length bytes) record_length) (λ h. omega arith) _ _ ∙ if_neg (counts? (record_in bytes)) not_so _ _)
 
   -- Whatever is made of a reading is made of each of its three cases.
-  each-case :
+  each_case :
       {A : Type 0} (f : Reading → A) →
       f (reading bytes) ≡
       ite (dec_lt (length bytes) record_length) (f (Refused record0_short))
       (ite (counts? (record_in bytes)) (f (Counts (by_value (record_in bytes)))) (f (Refused not_initialized)))
   unfolding reading
-  each-case f =
+  each_case f =
       apply_ite f (dec_lt (length bytes) record_length) _ _ ∙
       ap (ite (dec_lt (length bytes) record_length) (f (Refused record0_short))) (apply_ite f (counts? (record_in bytes)) _ _)
 
@@ -61,17 +61,17 @@ module _ (bytes : List ℕ) where
 
   pub needed_read : (held : ℕ) {r : Reading} → r ≡ reading bytes → needed_by held r ≡ needing bytes held
   unfolding needing
-  needed_read held is = ap (needed_by held) is ∙ each-case (needed_by held)
+  needed_read held is = ap (needed_by held) is ∙ each_case (needed_by held)
 
   abbrev located_by : (UnitRecord → Landing) → Located → Reading → Located
   located_by lands held (Counts u) = standing (geometry (bare u)) (lands (record_in bytes)) held
   located_by lands held (Refused code) = refusing code held
 
-  pub located-read :
+  pub located_read :
       (lands : UnitRecord → Landing) (held : Located) {r : Reading} → r ≡ reading bytes →
       located_by lands held r ≡ locating lands bytes held
   unfolding locating
-  located-read lands held is = ap (located_by lands held) is ∙ each-case (located_by lands held)
+  located_read lands held is = ap (located_by lands held) is ∙ each_case (located_by lands held)
 
 pub no_volume : (volume n : ℕ) (u : UnitRecord) → (volume ≡ 0 → ⊥) → (volume ≡ 1 → ⊥) → Landing.Outside ≡ numbered_in volume n u
 no_volume zero n u not-zero not-one = absurd (not-zero refl)
@@ -81,7 +81,7 @@ no_volume (suc (suc volume)) n u not-zero not-one = refl
 module _ (u : UnitRecord) (s : Spot) where
   number_on_drive : (v : VolumeNumber) (n : ℕ) → landing u v n ≡ Landing.At s → s.place < drive_sectors (geometry u)
   number_on_drive v n is =
-      let at = at-landing u v n s is in
+      let at = at_landing u v n s is in
       rw at.1 (omega (arith, spot_inside u v n at.0))
 
   -- What is asked for lands on the drive, where there is such a sector.

@@ -13,7 +13,7 @@ use Rattle.geometry.specs.declared.VolumeNumber.TheVariants.{Zero, One}
 use Rattle.geometry.specs.Drive.{B, drive_sectors, need, volume_sectors}
 use Rattle.geometry.specs.Sectors.{address_of, first_byte, mark_byte}
 use Rattle.geometry.proofs.Answers.{found_inside}
-use Rattle.geometry.proofs.Laws.{sector-in-image}
+use Rattle.geometry.proofs.Laws.{sector_in_image}
 use Rattle.unit.specs.declared.Landing.{Landing}
 use Rattle.unit.specs.declared.Landing.TheVariants.{At, Outside}
 use Rattle.unit.specs.declared.Spot.{Spot}
@@ -21,18 +21,18 @@ use Rattle.unit.specs.declared.UnitNumber.{UnitNumber}
 use Rattle.unit.specs.declared.UnitNumber.TheVariants as unit
 use Rattle.unit.specs.Answers.{landing}
 use Rattle.unit.specs.Standing.{CountsAsInitialized, UnitRecord, geometry}
-use Rattle.unit.proofs.Answers.{found-lands}
+use Rattle.unit.proofs.Answers.{found_lands}
 use Rattle.unit.proofs.Decided.{counts?}
 use Rattle.board.specs.declared.inspection.Part.{Part}
 use Rattle.board.specs.Inspection.{sector_part}
-use Rattle.board.proofs.Parts.{of_unit_one, of_unit_zero, sector-there}
+use Rattle.board.proofs.Parts.{of_unit_one, of_unit_zero, sector_there}
 use Rattle.abi.specs.declared.places.Wanted.{Wanted}
 use Rattle.abi.specs.Calls.{Inspected, image_number, inspected_of, inspection}
 use Rattle.abi.specs.Layouts.{record_in, record_length}
 use Rattle.abi.specs.Places.{Located, Needed, addressed_by, locating, needing, numbered_in, standing}
 use Rattle.abi.specs.Readings.{lands_as}
-use Rattle.abi.proofs.Called.{inspection-made}
-use Rattle.abi.proofs.Readings.{lands_on_drive, located-read, needed_read, read_counts, read_not, read_short}
+use Rattle.abi.proofs.Called.{inspection_made}
+use Rattle.abi.proofs.Readings.{lands_on_drive, located_read, needed_read, read_counts, read_not, read_short}
 
 -- ---- what is told where the code is 0
 
@@ -60,15 +60,15 @@ module _ (bytes : List ℕ) (w : Wanted) (held : Located) where
   told : located.code ≡ 0 → Told bytes located
   told is =
       by_cases (dec_lt (length bytes) record_length)
-      (λ short. absurd (omega (arith, ap (λ (x : Located). x.code) (located-read bytes (lands_as w) held (read_short bytes short)))))
+      (λ short. absurd (omega (arith, ap (λ (x : Located). x.code) (located_read bytes (lands_as w) held (read_short bytes short)))))
       (λ not_IsShort.
       let long : record_length ≤ length bytes = omega arith in
       by_cases (counts? u)
       (λ so.
-      let same = located-read bytes (lands_as w) held (read_counts bytes long so) in
+      let same = located_read bytes (lands_as w) held (read_counts bytes long so) in
       subst (Told bytes) same
       (by_landing long so (lands_as w u) (λ s at. lands_on_drive u s w at) (ap (λ (x : Located). x.code) same ∙ is)))
-      (λ not_so. absurd (omega (arith, ap (λ (x : Located). x.code) (located-read bytes (lands_as w) held (read_not bytes long not_so))))))
+      (λ not_so. absurd (omega (arith, ap (λ (x : Located). x.code) (located_read bytes (lands_as w) held (read_not bytes long not_so))))))
 
   -- How long an image has to be is told wherever a sector is.
   enough : (asked : ℕ) → Told bytes located → need (geometry u) ≡ (needing bytes asked).bytes
@@ -76,34 +76,34 @@ module _ (bytes : List ℕ) (w : Wanted) (held : Located) where
 
   module _ (is : located.code ≡ 0) (asked : ℕ) where
     -- The sector and its mark lie in an image of that length.
-    pub sector-in-its-image :
+    pub sector_in_its_image :
         (located.first + B (geometry u) ≤ (needing bytes asked).bytes) × (located.mark < (needing bytes asked).bytes)
-    sector-in-its-image =
+    sector_in_its_image =
         let t = told is in
-        rw (t.first, t.mark, ← enough asked t) (sector-in-image (geometry u) (need (geometry u)) located.place (omega arith) t.inside)
+        rw (t.first, t.mark, ← enough asked t) (sector_in_image (geometry u) (need (geometry u)) located.place (omega arith) t.inside)
 
-    part-is :
+    part_is :
         (n : UnitNumber) (long : ℕ) → (needing bytes asked).bytes ≤ long →
         sector_part n u long located.place ≡ record { unit = n; at = located.first; bytes = B (geometry u) }
-    part-is n long fits =
+    part_is n long fits =
         let t = told is in
         rw t.first
-        (sector-there n u long located.place
+        (sector_there n u long located.place
         (record { initialized = t.counts; inside = t.inside; image = omega (arith, enough asked t) }))
 
     -- At its place an inspection finds it, in any image that is long enough, whichever of the two units the record is of.
-    pub sector-is-inspected :
+    pub sector_is_inspected :
         (other : List ℕ) (long long' image at size : ℕ) → record_length ≤ length other → (needing bytes asked).bytes ≤ long →
         (inspection bytes other long long' 0 located.place image at size ≡ inspected_of 0 0 located.first (B (geometry u))) ×
         (inspection other bytes long' long 1 located.place image at size ≡ inspected_of 0 1 located.first (B (geometry u)))
-    sector-is-inspected other long long' image at size long-other fits =
+    sector_is_inspected other long long' image at size long-other fits =
         let t = told is in
         let handed : Part → Inspected = λ p. inspected_of 0 (image_number p.unit) p.at p.bytes in
         let place = located.place in (
-          inspection-made bytes other long long' 0 place image at size t.long long-other ∙
-              ap handed (of_unit_zero u (record_in other) long long' place ∙ part-is unit.Zero long fits),
-          inspection-made other bytes long' long 1 place image at size long-other t.long ∙
-              ap handed (of_unit_one (record_in other) u long' long place ∙ part-is unit.One long fits),
+          inspection_made bytes other long long' 0 place image at size t.long long-other ∙
+              ap handed (of_unit_zero u (record_in other) long long' place ∙ part_is unit.Zero long fits),
+          inspection_made other bytes long' long 1 place image at size long-other t.long ∙
+              ap handed (of_unit_one (record_in other) u long' long place ∙ part_is unit.One long fits),
         )
 
 -- ---- by number and by address
@@ -115,16 +115,16 @@ module _ (bytes : List ℕ) (held : Located) where
   abbrev at_address_of : VolumeNumber → ℕ → Located
   at_address_of v n = let a = address_of g v n in locating (addressed_by a.cylinder a.head a.sector) bytes held
 
-  one-landing :
+  one_landing :
       (lands : UnitRecord → Landing) (v : VolumeNumber) (n : ℕ) → lands (record_in bytes) ≡ landing (record_in bytes) v n → n < volume_sectors g v →
       locating lands bytes held ≡ at_address_of v n
   unfolding locating
-  one-landing lands v n is inside =
-      rw (is, ← found-lands (record_in bytes) v n (address_of g v n) (found_inside g v n inside))
+  one_landing lands v n is inside =
+      rw (is, ← found_lands (record_in bytes) v n (address_of g v n) (found_inside g v n inside))
 
   -- A number of a volume stands where its address does, bad track or not.
-  pub by-number-is-by-address :
+  pub by_number_is_by_address :
       (n : ℕ) →
       (n < volume_sectors g Zero → locating (numbered_in 0 n) bytes held ≡ at_address_of Zero n) ×
       (n < volume_sectors g One → locating (numbered_in 1 n) bytes held ≡ at_address_of One n)
-  by-number-is-by-address n = (one-landing (numbered_in 0 n) Zero n refl, one-landing (numbered_in 1 n) One n refl)
+  by_number_is_by_address n = (one_landing (numbered_in 0 n) Zero n refl, one_landing (numbered_in 1 n) One n refl)

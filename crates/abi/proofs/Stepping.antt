@@ -25,14 +25,14 @@ use Rattle.abi.proofs.Unread.{answer_filled, sectors_filled, world_filled, world
 use Rattle.abi.specs.Stepping.{block_bad, goes_on, no_entry, stepped_as, stepped_bytes, stepped_once, stepped_short}
 
 -- A step, as the code read it, ran it and stored what it left. Tracks that were not read are as they stand in the bytes.
-stood-once :
+stood_once :
     (c : Controller) (at i : ℕ) (l : CallLent) (s : Stepped) {host image0 image1 events tracks0 tracks1 record0 record1 stepped : List ℕ} →
     SteppedTo (world_read c l) at i (world_of c host image0 image1 events tracks0 tracks1 s.units) s →
     record0 ≡ record_left l.record0 (filled_in l.record0 (unit_of s.units.zero tracks0)) →
     record1 ≡ record_left l.record1 (filled_in l.record1 (unit_of s.units.one tracks1)) →
     stepped ≡ written l.outcome 0 (stepped_bytes (block_number s.answer) (goes_on s.answer s.linked) s.sectors s.link) →
     called_of 0 (lent_of host image0 image1 events record0 record1 stepped) ≡ stepped_once c at i l
-stood-once c at i l s to left0 left1 told =
+stood_once c at i l s to left0 left1 told =
     let on-host = ap (λ w. w.host) to.world in
     let on-image0 = ap (λ w. w.drive0.image) to.world in
     let on-image1 = ap (λ w. w.drive1.image) to.world in
@@ -66,7 +66,7 @@ module _ (c : Controller) (at i : ℕ) (l : CallLent) (units : Units) (tracks0 t
       called_of 0 (lent_of host image0 image1 events record0 record1 stepped) ≡ steps
   once_is s r tracks0' tracks1' {host} {image0} {image1} {events} is_zero is_one is-ran done left0 left1 told =
       let ran-so : RanOne ran at i host image0 image1 events tracks0' tracks1' (Single.Ran s) = rw is-ran at done in
-      stood-once c at i l s (rw (is_zero, is_one) at ran-so.1) left0 left1 told ∙ sym (if_pos (in_memory? l.host at 28) ran-so.0.place _ _)
+      stood_once c at i l s (rw (is_zero, is_one) at ran-so.1) left0 left1 told ∙ sym (if_pos (in_memory? l.host at 28) ran-so.0.place _ _)
 
   -- and one that cannot be fetched, where there is room for its entry.
   pub none_is :
@@ -89,18 +89,18 @@ module _ (controller at i : ℕ) (l : CallLent) where
   abbrev placed : Called
   placed = ite (in_memory? l.host at 28) (stepped_once (controller_of controller) at i l) (called_of block_bad l)
 
-  pub stepped-is :
+  pub stepped_is :
       stepped_as controller at i l ≡
       unless_refused stepped_short controller l (ite (dec_lt (length l.events) (8 * i + 8)) (called_of no_entry l) placed)
   unfolding stepped_as
-  stepped-is = refl
+  stepped_is = refl
 
   module _ (long0 : 276 ≤ length l.record0) (long1 : 276 ≤ length l.record1) (long : 16 ≤ length l.outcome) (one_of_two : controller ≤ 1) where
     pub stepped_no_entry : length l.events < 8 * i + 8 → stepped_as controller at i l ≡ called_of no_entry l
     stepped_no_entry less =
-        stepped-is ∙ not_refused stepped_short controller l _ long0 long1 long one_of_two ∙ if_pos (dec_lt (length l.events) (8 * i + 8)) less _ _
+        stepped_is ∙ not_refused stepped_short controller l _ long0 long1 long one_of_two ∙ if_pos (dec_lt (length l.events) (8 * i + 8)) less _ _
 
     pub stepped_made : 8 * i + 8 ≤ length l.events → stepped_as controller at i l ≡ placed
     stepped_made room =
-        stepped-is ∙ not_refused stepped_short controller l _ long0 long1 long one_of_two
+        stepped_is ∙ not_refused stepped_short controller l _ long0 long1 long one_of_two
         ∙ if_neg (dec_lt (length l.events) (8 * i + 8)) (λ h. omega arith) _ _

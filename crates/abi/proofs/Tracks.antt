@@ -75,11 +75,11 @@ module _ (bytes ts : List ℕ) (m : ℕ) where
       sym (word_at bytes 20 m k less) ∙ ap (λ (l : List ℕ). get_or l k 0) there ∙ get_or-take m ts k 0 less
 
 -- One track more is read into a table.
-pub one-more-read :
+pub one_more_read :
     (table bytes : List ℕ) (i : ℕ) →
     set (written table 0 (words_from bytes 20 i)) i (be32 bytes (20 + 4 * i)) ≡ written table 0 (words_from bytes 20 (suc i))
 unfolding written
-one-more-read table bytes i =
+one_more_read table bytes i =
     let row = written_row table 0 (words_from bytes 20 i) (be32 bytes (20 + 4 * i) ∷ []) in
     rw (words_more bytes 20 i) (rw (zero-add, length_words) at row)
 
@@ -99,11 +99,11 @@ unfolding written
 word_in_a_row bytes at v = with32_is bytes at v
 
 -- One track more is stored.
-pub one-more-stored :
+pub one_more_stored :
     (bytes table : List ℕ) (i : ℕ) → i < length table →
     with32 (written bytes 20 (track_bytes (take i table))) (20 + 4 * i) (get_or table i 0) ≡ written bytes 20 (track_bytes (take (suc i) table))
 unfolding track_bytes
-one-more-stored bytes table i less =
+one_more_stored bytes table i less =
     let before = track_bytes (take i table) in
     let place : 20 + length before ≡ 20 + 4 * i = omega (arith, length_tracks (take i table), length-take-le i table (omega arith)) in
     word_in_a_row (written bytes 20 before) (20 + 4 * i) (get_or table i 0) ∙
@@ -111,13 +111,13 @@ one-more-stored bytes table i less =
     rw (take-suc table i 0, tracks_row)
 
 -- Tracks that were stored are read back.
-pub tracks-back :
+pub tracks_back :
     (ts rest : List ℕ) → ((i : ℕ) → i < length ts → get_or ts i 0 < 2 ^ 32) → words_from (track_bytes ts ++ rest) 0 (length ts) ≡ ts
 unfolding words_from track_bytes word
-tracks-back [] rest low = refl
-tracks-back (t ∷ ts) rest low =
+tracks_back [] rest low = refl
+tracks_back (t ∷ ts) rest low =
     let first : be32 (four_bytes t ++ (track_bytes ts ++ rest)) 0 ≡ t = omega (arith, low 0 (omega arith)) in
-    let others = words_past (four_bytes t) (track_bytes ts ++ rest) 0 (length ts) ∙ tracks-back ts rest (λ i less. low (suc i) (omega arith)) in
+    let others = words_past (four_bytes t) (track_bytes ts ++ rest) 0 (length ts) ∙ tracks_back ts rest (λ i less. low (suc i) (omega arith)) in
     cc
 
 -- ---- bytes that stand there already

@@ -151,10 +151,10 @@ module _ (others : List ℕ) (others-long : length others ≡ 64) where
     all_count = (min-eq_left (omega arith), min-eq_left (omega arith))
 
     -- How many are known then: the pair more, or all, as before it or because it was the last.
-    known-then :
+    known_then :
         ((known n ts ≡ 2 * n) × (known (n + 1) paired ≡ 2 * n + 2)) ⊎
         ((known (n + 1) paired ≡ 64) × ((known n ts ≡ 64) ⊎ (n ≡ 31)))
-    known-then =
+    known_then =
         by_cases (ℕ_discrete n 31)
         (λ full.
         let spare : get_or paired 63 0 ≡ s = ap (λ (i : ℕ). get_or paired i 0) (omega arith) ∙ its_spare n ts b s room long in
@@ -193,10 +193,10 @@ module _ (others : List ℕ) (others-long : length others ≡ 64) where
             (λ not-second.
             beside i less not_first not-second ∙ sym (beside_the_pair n (filled others n ts) b s room whole i not_first not-second)))
           where
-            by-known :
+            by_known :
                 (i : ℕ) → (i ≡ 2 * n → ⊥) → (i ≡ 2 * n + 1 → ⊥) → (i < known (n + 1) paired → i < known n ts) → (known (n + 1) paired ≤ i → known n ts ≤ i) →
                 get_or (filled others (n + 1) paired) i 0 ≡ get_or (filled others n ts) i 0
-            by-known i not_first not-second in_both in-none =
+            by_known i not_first not-second in_both in-none =
                 let long' = long_still n ts b s room long in
                 by_cases (dec_lt i (known (n + 1) paired))
                 (λ below.
@@ -207,9 +207,9 @@ module _ (others : List ℕ) (others-long : length others ≡ 64) where
 
             beside : (i : ℕ) → i < 64 → (i ≡ 2 * n → ⊥) → (i ≡ 2 * n + 1 → ⊥) → get_or (filled others (n + 1) paired) i 0 ≡ get_or (filled others n ts) i 0
             beside i less not_first not-second =
-                ⊎_elim (λ more. by-known i not_first not-second (λ below. omega arith) (λ past. omega arith))
-                (λ all. ⊎_elim (λ before. by-known i not_first not-second (λ below. omega arith) (λ past. omega arith))
-                (λ full. by-known i not_first not-second (λ below. omega (arith, (known_in_room n ts).0, all_count.0)) (λ past. omega arith)) all.1) known-then
+                ⊎_elim (λ more. by_known i not_first not-second (λ below. omega arith) (λ past. omega arith))
+                (λ all. ⊎_elim (λ before. by_known i not_first not-second (λ below. omega arith) (λ past. omega arith))
+                (λ full. by_known i not_first not-second (λ below. omega (arith, (known_in_room n ts).0, all_count.0)) (λ past. omega arith)) all.1) known_then
 
 -- ---- along a run
 
@@ -254,24 +254,24 @@ module _ (c : Controller) (l : CallLent) where
   read_tables_long = record { first = read_long l.record0; second = read_long l.record1 }
 
   -- A run of it comes to what a run of the world in the bytes does, and so does a block.
-  pub run-filled :
+  pub run_filled :
       (first allowance : ℕ) →
       ran first allowance (world_in c l) ≡
       (let e = ran first allowance world_read in ends e.answer e.failed e.tally (fill e.world))
-  run-filled first allowance =
+  run_filled first allowance =
       ap (ran first allowance) (sym read_filled) ∙ ran_past _ _ (fills l.record0) (fills l.record1) first allowance world_read read_tables_long
 
   module _ (at i : ℕ) where
     pub world_filled : world_after at i (world_in c l) ≡ fill (world_after at i world_read)
     world_filled = ap (world_after at i) (sym read_filled) ∙ world_past _ _ (fills l.record0) (fills l.record1) world_read read_tables_long at i
 
-    effect-filled :
+    effect_filled :
         effect_at at i (world_in c l) ≡
         past_effect (past_of (filled (tracks_in l.record0)) (filled (tracks_in l.record1)) (unit_at world_read at)) (effect_at at i world_read)
-    effect-filled = ap (effect_at at i) (sym read_filled) ∙ effect_at_past _ _ (fills l.record0) (fills l.record1) world_read read_tables_long at i
+    effect_filled = ap (effect_at at i) (sym read_filled) ∙ effect_at_past _ _ (fills l.record0) (fills l.record1) world_read read_tables_long at i
 
     pub answer_filled : (effect_at at i (world_in c l)).answer ≡ (effect_at at i world_read).answer
-    answer_filled = ap (λ (e : Effect). e.answer) effect-filled
+    answer_filled = ap (λ (e : Effect). e.answer) effect_filled
 
     pub sectors_filled : (effect_at at i (world_in c l)).sectors ≡ (effect_at at i world_read).sectors
-    sectors_filled = ap (λ (e : Effect). e.sectors) effect-filled
+    sectors_filled = ap (λ (e : Effect). e.sectors) effect_filled

@@ -16,14 +16,14 @@ use geometry::{Address, Geometry, Sector, VolumeNumber};
 use unit::{Landing, Record};
 
 // What the bytes of a record come to: a unit that counts as initialized, or the code for why there is none.
-#[derive(Drop)]
+#[derive(Clone, Copy)]
 pub(crate) enum Reading {
     Counts(Record),
     Refused(u32),
 }
 
 // A sector as it is asked for.
-#[derive(Drop)]
+#[derive(Clone, Copy)]
 pub(crate) enum Wanted {
     Numbered { volume: u32, number: u64 },
     Addressed(Address),

@@ -6,7 +6,7 @@ ghost use Rattle.answers.specs.RunNumbers.{block_number};
 ghost use Rattle.answers.specs.Numbers.{refusal_number, status_of, run_number};
 
 // How a run ended.
-#[derive(Drop)]
+#[derive(Clone, Copy)]
 pub enum RunAnswer {
     Done,
     EventsShort,
@@ -18,7 +18,7 @@ pub enum RunAnswer {
 }
 
 // Why a block failed.
-#[derive(Drop)]
+#[derive(Clone, Copy)]
 pub enum Refusal {
     CommandUnknown,
     NotInitialized,
@@ -37,7 +37,7 @@ pub enum Refusal {
 }
 
 // How a block ended.
-#[derive(Drop)]
+#[derive(Clone, Copy)]
 pub enum BlockAnswer {
     Ended,
     Failed(Refusal),

@@ -38,7 +38,7 @@ in_a_row :
 in_a_row bytes at status error level vector travel = simp (with32_is, add-one, two, three, four)
 
 -- What stands in the buffer once the code has stored what its functions answered.
-pub entry-stored :
+pub entry_stored :
     (bytes : List ℕ) (at : ℕ) (b : Block) (answer : BlockAnswer) (travel : ℤ)
     {after : List ℕ} {status error level vector bits : ℕ} →
     status ≡ status_of answer →
@@ -49,7 +49,7 @@ pub entry-stored :
     after ≡ with32 (set (set (set (set bytes at status) (at + 1) error) (at + 2) level) (at + 3) vector) (at + 4) bits →
     after ≡ written bytes at (entry b answer travel)
 unfolding written
-entry-stored bytes at b answer travel s e l v t is = is ∙ in_a_row bytes at _ _ _ _ _ ∙ rw (s, e, l, v, t)
+entry_stored bytes at b answer travel s e l v t is = is ∙ in_a_row bytes at _ _ _ _ _ ∙ rw (s, e, l, v, t)
 
 -- Two lists stored one after the other are one.
 pub written_row : (bytes : List ℕ) (at : ℕ) (xs ys : List ℕ) → written (written bytes at xs) (at + length xs) ys ≡ written bytes at (xs ++ ys)
@@ -65,10 +65,10 @@ unfolding written
 two_written bytes at a b = simp (two, three)
 
 -- Three bytes stored one after the other.
-pub three-written :
+pub three_written :
     (bytes : List ℕ) (at a b c : ℕ) → set (set (set bytes (at + 7) a) (at + 8) b) (at + 9) c ≡ written bytes (at + 7) (a ∷ b ∷ c ∷ [])
 unfolding written
-three-written bytes at a b c =
+three_written bytes at a b c =
     let eight : at + 8 ≡ suc (at + 7) = omega arith in
     let nine : at + 9 ≡ suc (suc (at + 7)) = omega arith in
     rw (eight, nine)

@@ -51,9 +51,9 @@ module _ (image : List ℕ) (u : UnitRecord) (j : Job) (f g : ℕ → ℕ) (same
       ap (λ (x : ℕ). move_at (with (λ y. x)) k)
       (same k (omega (arith, h, mul-le-mul_right (B (geometry u)) come))))
 
-  pub made-same :
+  pub made_same :
       (at : ℕ) (host host' image' : List ℕ) (m : Moved) → Made (with f) at host image host' image' m → Made (with g) at host image host' image' m
-  made-same at host host' image' m made =
+  made_same at host host' image' m made =
       record {
         result = made.result;
         stored = λ events. made.stored events ∙ ap (λ (ss : List Store). after (begun at ++ ss) (three host image events)) data_same;
@@ -61,19 +61,19 @@ module _ (image : List ℕ) (u : UnitRecord) (j : Job) (f g : ℕ → ℕ) (same
 
 -- ---- one piece
 
-pub one-piece-fits :
+pub one_piece_fits :
     (host : List ℕ) (at bytes : ℕ) → InMemory host at bytes → PiecesFit (length host) bytes (bytes ∷ []) (at ∷ [])
 unfolding sum
-one-piece-fits host at bytes place =
+one_piece_fits host at bytes place =
     record {
       pairs = refl;
       inside = λ i h. let first : i ≡ 0 = omega arith in rw first place.inside;
       enough = omega arith;
     }
 
-pub one-piece-byte :
+pub one_piece_byte :
     (host : List ℕ) (at bytes k : ℕ) → k < bytes → piece_byte (bytes ∷ []) (at ∷ []) k ≡ data_byte host (Buffer.Piece at) k
-one-piece-byte host at bytes k less = joined_one (λ i. get_or (bytes ∷ []) i 0) (λ i. get_or (at ∷ []) i 0) k less
+one_piece_byte host at bytes k less = joined_one (λ i. get_or (bytes ∷ []) i 0) (λ i. get_or (at ∷ []) i 0) k less
 
 -- ---- a list's pieces
 
@@ -125,16 +125,16 @@ module _ (host : List ℕ) (at n bytes : ℕ) (good : ListGood host at n bytes) 
 -- ---- a job that fits
 
 module _ (host image : List ℕ) (u : UnitRecord) (j : Job) (good : JobGood u (length image) host j) where
-  fits-with :
+  fits_with :
       (lengths addresses : List ℕ) → PiecesFit (length host) (j.span.count * B (geometry u)) lengths addresses →
       SectorsFit (geometry u) j.span lengths addresses (length host) (length image)
-  fits-with lengths addresses pieces =
+  fits_with lengths addresses pieces =
       record { some = good.span.some; inside = good.span.inside; pieces = pieces; held = good.long }
 
   pub piece_fits :
       (at : ℕ) → j.buffer ≡ Buffer.Piece at →
       SectorsFit (geometry u) j.span (j.span.count * B (geometry u) ∷ []) (at ∷ []) (length host) (length image)
-  piece_fits at is = fits-with _ _ (one-piece-fits host at (j.span.count * B (geometry u)) (rw is at good.buffer))
+  piece_fits at is = fits_with _ _ (one_piece_fits host at (j.span.count * B (geometry u)) (rw is at good.buffer))
 
   module _ (at n : ℕ) (is : j.buffer ≡ Buffer.List at n) where
     pub list_good : ListGood host at n (j.span.count * B (geometry u))
@@ -146,14 +146,14 @@ module _ (host image : List ℕ) (u : UnitRecord) (j : Job) (good : JobGood u (l
     copied_out = if_pos (list_place? host at n) (record { most = list_good.most; place = list_good.place }) _ _
 
     pub elements_fit : SectorsFit (geometry u) j.span (take n (lengths_of host at n)) (take n (addresses_of host at n)) (length host) (length image)
-    elements_fit = fits-with _ _ (list_fits host at n (j.span.count * B (geometry u)) list_good (rw is at good.buffer).1)
+    elements_fit = fits_with _ _ (list_fits host at n (j.span.count * B (geometry u)) list_good (rw is at good.buffer).1)
 
     pub slots_enough : (n ≤ length (lengths_of host at n)) × (n ≤ length (addresses_of host at n))
     slots_enough = (omega (arith, list_good.most, lengths_long host at n), omega (arith, list_good.most, addresses_long host at n))
 
 -- A track that fits.
-pub track-fits :
+pub track_fits :
     (host : List ℕ) (image : ℕ) (u : UnitRecord) (spot : Spot) (at : ℕ) → TrackGood u image host spot at →
     TrackFits (geometry u) spot at (length host) image
-track-fits host image u spot at good =
+track_fits host image u spot at good =
     record { some = good.some; inside = good.track; memory = good.buffer.inside; held = good.long }

@@ -38,28 +38,28 @@ module _ (c : Controller) (reserve : Bool) where
   ended_by_value Ended u = refl
   ended_by_value (Failed r) u = refl
 
-  pub held-by-value :
+  pub held_by_value :
       (l : Leaving) (answer : BlockAnswer) (u : UnitRecord) →
       by_value (holder_left c reserve l answer (bare (by_value u))) ≡ by_value (holder_left c reserve l answer u)
-  held-by-value AsItWas answer u = refl
-  held-by-value (HeadsAt x) answer u = ended_by_value answer u
-  held-by-value (HeadsAtLastTried s) answer u = ended_by_value answer u
-  held-by-value (Fresh g) answer u = ended_by_value answer u
-  held-by-value (Mapped bad spare) answer u = ended_by_value answer u
+  held_by_value AsItWas answer u = refl
+  held_by_value (HeadsAt x) answer u = ended_by_value answer u
+  held_by_value (HeadsAtLastTried s) answer u = ended_by_value answer u
+  held_by_value (Fresh g) answer u = ended_by_value answer u
+  held_by_value (Mapped bad spare) answer u = ended_by_value answer u
 
   -- The table stays.
   pub held_table : (l : Leaving) (answer : BlockAnswer) (u : UnitRecord) → table u ≡ table (holder_left c reserve l answer u)
   held_table l answer u = holder_keeps (λ (x : UnitRecord). table u ≡ table x) (λ x h now. now) l answer u refl
 
   -- So what was performed, with its holder, is what is defined of it.
-  pub performed-held :
+  pub performed_held :
       (l : Leaving) (x : Performed) (p : Performance) → x ≡ performed_of p →
       ◌≡◌ {A = Performed}
       (record { unit = by_value (holder_left c reserve l x.answer (bare x.unit)); answer = x.answer; sectors = x.sectors; travel = x.travel })
       (record { unit = by_value (holder_left c reserve l p.answer p.unit); answer = p.answer; sectors = p.sectors; travel = p.travel })
-  performed-held l x p is =
+  performed_held l x p is =
       ap (λ (x : Performed). with_unit x (holder_left c reserve l x.answer (bare x.unit))) is
-      ∙ (λ i. record { unit = held-by-value l p.answer p.unit i; answer = p.answer; sectors = p.sectors; travel = p.travel })
+      ∙ (λ i. record { unit = held_by_value l p.answer p.unit i; answer = p.answer; sectors = p.sectors; travel = p.travel })
 
 -- Whether the unit counts as initialized is no matter of its holder.
 pub held_counts : (u : UnitRecord) (h : Holder) → CountsAsInitialized u → CountsAsInitialized (held_by u h)

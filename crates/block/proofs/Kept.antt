@@ -11,7 +11,7 @@ use Rattle.judge.specs.Fits.{LeavingFits}
 use Rattle.transfer.specs.Progress.{last_tried}
 use Rattle.unit.specs.Landing.{spot_of}
 use Rattle.unit.specs.Standing.{CountsAsInitialized, UnitRecord, pairs, table}
-use Rattle.unit.proofs.Kept.{fresh_counts, mapped-counts, moved_counts}
+use Rattle.unit.proofs.Kept.{fresh_counts, mapped_counts, moved_counts}
 use Rattle.unit.proofs.Laws.{spot_inside}
 use Rattle.wire.specs.Promise.{Says}
 use Rattle.block.specs.Block.{left_by}
@@ -27,14 +27,14 @@ module _ (u : UnitRecord) (moved : ℕ) where
       (spot_inside u s.volume last (omega (arith, fits.1.some, fits.1.inside))).cylinder
   still_counts (Fresh g) counts fits = fresh_counts g fits
   still_counts (Mapped bad spare) counts fits =
-      mapped-counts u counts bad spare fits.1.bad_on fits.1.spare_on fits.1.free fits.1.room
+      mapped_counts u counts bad spare fits.1.bad_on fits.1.spare_on fits.1.free fits.1.room
 
   -- A plan that fits only a unit that counts leaves one that counts: what was told of it stays true.
-  pub stays-told :
+  pub stays_told :
       (l : Leaving) (told : Bool) → (LeavingFits u l → CountsAsInitialized u) → Says told (CountsAsInitialized u) → LeavingFits u l →
       Says told (CountsAsInitialized (left_by u moved l))
-  stays-told l true needs counts fits = still_counts l counts fits
-  stays-told l false needs not_it fits = absurd (not_it (needs fits))
+  stays_told l true needs counts fits = still_counts l counts fits
+  stays_told l false needs not_it fits = absurd (not_it (needs fits))
 
   -- A table keeps its length.
   pub still_long : (l : Leaving) → length (table u) ≡ 64 → LeavingFits u l → length (table (left_by u moved l)) ≡ 64

@@ -28,17 +28,17 @@ record Seen : Type 0 where
 seen_of : Done → Buffers → List ℕ → Seen
 seen_of d m ts = record { result = d; buffers = m; tracks = ts }
 
-did-once :
+did_once :
     (b : Block) (e : Effect) (m v w : Buffers) (ts us : List ℕ) (c d : Done) → Did b e m v ts c → Did b e m w us d → seen_of c v ts ≡ seen_of d w us
 unfolding seen_of
-did-once b e m v w ts us c d p q = λ i.
+did_once b e m v w ts us c d p q = λ i.
     record {
       result = (p.result ∙ sym q.result) i;
       buffers = (p.stored ∙ sym q.stored) i;
       tracks = (p.table ∙ sym q.table) i;
     }
 
-run-block-once :
+run_block_once :
     OneOutcome run-block.Post
     (λ κ x e. seen_of x (three e.0.now e.1.0.now e.1.1.0.now) e.1.1.1.1.1.1.0.now)
-run-block-once κ a x y e f p q = did-once _ _ _ _ _ _ _ x y p q
+run_block_once κ a x y e f p q = did_once _ _ _ _ _ _ _ x y p q

@@ -27,7 +27,7 @@ use Rattle.judge.proofs.LongEnough.{long_enough_alike}
 use Rattle.transfer.specs.Data.{data_on}
 use Rattle.transfer.specs.SameSectors.{SameButPast, SameSectors}
 use Rattle.transfer.specs.Stores.{after, bytes_from, event_byte, host_byte}
-use Rattle.transfer.proofs.Marks.{StandsOnDrive, formatting-on-drive, moving-on-drive}
+use Rattle.transfer.proofs.Marks.{StandsOnDrive, formatting_on_drive, moving_on_drive}
 use Rattle.transfer.proofs.PastMarks.{Below, below_both, comes_alike, data_alike, data_below, events_below, host_below, leave_alike}
 use Rattle.unit.specs.declared.Controller.{Controller}
 use Rattle.unit.specs.Standing.{UnitRecord, cylinder, geometry}
@@ -46,8 +46,8 @@ finish_below n b at i answer travel =
 pub moving_stands : (u : UnitRecord) (image : ℕ) (host : List ℕ) (m : Moving) → MovingFits u image host m → StandsOnDrive (transfer_of host u m)
 moving_stands u image host Nothing fits = λ j less. absurd (omega arith)
 moving_stands u image host (Sectors j) fits =
-    moving-on-drive u j.to_host j.past_marks j.span.volume j.span.first j.span.count (data_byte host j.buffer) fits.span.inside
-moving_stands u image host (Track spot at) fits = formatting-on-drive u spot at fits.track
+    moving_on_drive u j.to_host j.past_marks j.span.volume j.span.first j.span.count (data_byte host j.buffer) fits.span.inside
+moving_stands u image host (Track spot at) fits = formatting_on_drive u spot at fits.track
 
 pub moving_geometry : (u : UnitRecord) (host : List ℕ) (m : Moving) → (transfer_of host u m).geometry ≡ geometry u
 moving_geometry u host Nothing = refl
@@ -104,11 +104,11 @@ module _
       (below_both n (begun at) (data_on image t) (host_below n (at + 2) (0x81 ∷ 0x00 ∷ [])) moved)
       (rw words.1.1 (host_below n words.0 words.1.0))
 
-  pub left-alike :
+  pub left_alike :
       (events : List ℕ) → let stores = (effect_on c host (drive_with u image) at i).stores in
       SameButPast (geometry u) (after stores (three host image events)) (after stores (three host other events))
   unfolding verdict_on
-  left-alike events =
+  left_alike events =
       let p = acted_on host (drive_with u image) at (verdict_on image) in
       rw (effect_finished c host (drive_with u image) at i)
       (leave_alike (geometry u) _ (three host image events) (three host other events)

@@ -57,14 +57,14 @@ module _ (F : ℕ → List ℕ → List ℕ) (p : PastPairs F) where
   ended_past c reserve Ended u = refl
   ended_past c reserve (Failed r) u = refl
 
-  holder-past :
+  holder_past :
       (c : Controller) (reserve : Bool) (l : Leaving) (answer : BlockAnswer) (u : UnitRecord) →
       holder_left c reserve l answer (past F u) ≡ past F (holder_left c reserve l answer u)
-  holder-past c reserve AsItWas answer u = refl
-  holder-past c reserve (HeadsAt x) answer u = ended_past c reserve answer u
-  holder-past c reserve (HeadsAtLastTried s) answer u = ended_past c reserve answer u
-  holder-past c reserve (Fresh g) answer u = ended_past c reserve answer u
-  holder-past c reserve (Mapped bad spare) answer u = ended_past c reserve answer u
+  holder_past c reserve AsItWas answer u = refl
+  holder_past c reserve (HeadsAt x) answer u = ended_past c reserve answer u
+  holder_past c reserve (HeadsAtLastTried s) answer u = ended_past c reserve answer u
+  holder_past c reserve (Fresh g) answer u = ended_past c reserve answer u
+  holder_past c reserve (Mapped bad spare) answer u = ended_past c reserve answer u
 
   module _ (u : UnitRecord) (long : length (table u) ≡ 64) where
     same_pairs : counted (pairs u) (F (pairs u) (table u)) ≡ counted (pairs u) (table u)
@@ -74,10 +74,10 @@ module _ (F : ℕ → List ℕ → List ℕ) (p : PastPairs F) where
     spot_past v n = spot_alike (by_value u) (F (pairs u) (table u)) (table u) same_pairs v n
 
     -- The transfer is the same.
-    moving-past :
-        (to_host past-marks : Bool) (v : VolumeNumber) (first count : ℕ) (host_byte : ℕ → ℕ) →
-        moving (past F u) to_host past-marks v first count host_byte ≡ moving u to_host past-marks v first count host_byte
-    moving-past to_host past-marks v first count host_byte =
+    moving_past :
+        (to_host past-marks : Bool) (v : VolumeNumber) (first count : ℕ) (host_at : ℕ → ℕ) →
+        moving (past F u) to_host past-marks v first count host_at ≡ moving u to_host past-marks v first count host_at
+    moving_past to_host past-marks v first count host_at =
         λ i.
         record {
           geometry = geometry u;
@@ -85,13 +85,13 @@ module _ (F : ℕ → List ℕ → List ℕ) (p : PastPairs F) where
           heeds = to_host && not past-marks;
           count = count;
           place = λ j. (spot_past v (first + j) i).place;
-          host_byte = host_byte;
+          host_at = host_at;
         }
 
     transfer_past : (host : List ℕ) (m : Moving) → transfer_of host (past F u) m ≡ transfer_of host u m
-    transfer_past host Nothing = moving-past false false VolumeNumber.Zero 0 0 (λ k. 0)
+    transfer_past host Nothing = moving_past false false VolumeNumber.Zero 0 0 (λ k. 0)
     transfer_past host (Sectors j) =
-        moving-past j.to_host j.past_marks j.span.volume j.span.first j.span.count (data_byte host j.buffer)
+        moving_past j.to_host j.past_marks j.span.volume j.span.first j.span.count (data_byte host j.buffer)
     transfer_past host (Track spot at) = refl
 
     -- What becomes of the record: an 87 clears the table, an 85 stores its pair, and nothing else touches it.
@@ -120,10 +120,10 @@ module _ (F : ℕ → List ℕ → List ℕ) (p : PastPairs F) where
           sectors = made.sectors;
         }
 
-    performed-past :
+    performed_past :
         (plan : Plan) → LeavingFits u plan.leaving →
         performed c host (drive_with (past F u) image) at i plan ≡ past_effect F (performed c host (drive_with u image) at i plan)
-    performed-past plan fits =
+    performed_past plan fits =
         let t = transfer_of host u plan.moving in
         let made = progress_on image t in
         let left = left_by u made.sectors plan.leaving in
@@ -131,7 +131,7 @@ module _ (F : ℕ → List ℕ → List ℕ) (p : PastPairs F) where
         ap (λ (x : Transfer). comes_to plan x (left_by (past F u) (progress_on image x).sectors plan.leaving)) (transfer_past u long host plan.moving)
         ∙ ap (comes_to plan t) (left_past u long made.sectors plan.leaving fits)
         ∙ ap (λ (x : UnitRecord). record { stores = e.stores; unit = x; answer = e.answer; sectors = e.sectors })
-        (holder-past c (block_at host at).options.reserve plan.leaving made.answer left)
+        (holder_past c (block_at host at).options.reserve plan.leaving made.answer left)
 
     abbrev asked : Asked
     asked = on c u (length image) (task_of host (block_at host at)) host
@@ -147,4 +147,4 @@ module _ (F : ℕ → List ℕ → List ℕ) (p : PastPairs F) where
       where
         by_verdict : (v : Verdict) → verdict asked ≡ v → judged c host (drive_with (past F u) image) at i v ≡ past_effect F (judged c host (drive_with u image) at i v)
         by_verdict (Refused r) is = refl
-        by_verdict (Do plan) is = performed-past plan (plan_fits asked plan is).leaving
+        by_verdict (Do plan) is = performed_past plan (plan_fits asked plan is).leaving

@@ -19,14 +19,14 @@ use Rattle.judge.specs.declared.Verdict.TheVariants.{Refused}
 use Rattle.judge.specs.Given.{on}
 use Rattle.judge.specs.Verdict.{verdict}
 use Rattle.transfer.specs.Stores.{Buffers, after}
-use Rattle.transfer.proofs.Stays.{lengths-stay}
+use Rattle.transfer.proofs.Stays.{lengths_stay}
 use Rattle.transfer.proofs.Stores.{after_append}
 use Rattle.unit.specs.declared.Controller.{Controller}
 use Rattle.block.specs.Block.{Drive, effect_on, finish}
 use Rattle.block.specs.Events.{entry, twos_complement}
 use Rattle.block.specs.Steps.{BlockRoom, Performance, acted_on, three}
 use Rattle.block.specs.Tells.{Tells}
-use Rattle.block.proofs.Effects.{effect_finished, effect-judged, finish-leaves}
+use Rattle.block.proofs.Effects.{effect_finished, effect_judged, finish_leaves}
 use Rattle.wire.specs.Words.{four_bytes}
 use Rattle.wire.specs.Storing.{written}
 
@@ -39,12 +39,12 @@ row_stands ns l at k fits less =
     ap (λ (n : ℕ). get_or (take at l ++ ns) (n + k) 0) (sym short) ∙ get_or-append-add (take at l) ns k 0)
 
 -- After the finish.
-finish-tells :
+finish_tells :
     (b : Block) (at i : ℕ) (answer : BlockAnswer) (travel : ℤ) (host image events : List ℕ) → BlockRoom host events at i →
     Tells b at i answer travel (after (finish b at i answer travel) (three host image events))
 unfolding written
-finish-tells b at i answer travel host image events room =
-    rw (finish-leaves b at i answer travel host image events)
+finish_tells b at i answer travel host image events room =
+    rw (finish_leaves b at i answer travel host image events)
     (record {
       status = word 0 _ (omega arith) (omega arith);
       error = word 1 _ (omega arith) (omega arith);
@@ -63,17 +63,17 @@ finish-tells b at i answer travel host image events room =
 
 module _ (host : List ℕ) (d : Drive) (at i : ℕ) (events : List ℕ) (room : BlockRoom host events at i) where
   -- After what was performed, whatever that is, and the finish.
-  finished-tells :
+  finished_tells :
       (p : Performance) →
       Tells (block_at host at) at i p.answer p.travel
       (after (p.stores ++ finish (block_at host at) at i p.answer p.travel) (three host d.image events))
-  finished-tells p =
+  finished_tells p =
       let b = block_at host at in
       let m = three host d.image events in
       let n = after p.stores m in
-      let long = lengths-stay p.stores m in
+      let long = lengths_stay p.stores m in
       rw (after_append p.stores (finish b at i p.answer p.travel) m)
-      (finish-tells b at i p.answer p.travel n.host n.image n.events
+      (finish_tells b at i p.answer p.travel n.host n.image n.events
       (record { block = omega (arith, room.block, long.0); entry = omega (arith, room.entry, long.1.1) }))
 
   module _ (c : Controller) where
@@ -89,9 +89,9 @@ module _ (host : List ℕ) (d : Drive) (at i : ℕ) (events : List ℕ) (room : 
 
     -- Whatever the block did: its word 1 and its entry have the status and the error of its own answer.
     pub its_answer_is_told : Tells (block_at host at) at i (effect_on c host d at i).answer performance.travel left
-    its_answer_is_told = rw (effect_finished c host d at i) (finished-tells performance)
+    its_answer_is_told = rw (effect_finished c host d at i) (finished_tells performance)
 
     -- Of a block refused before transfer: its answer is that of the refusal, and travel is zero.
     pub refusal_is_told : (r : Refusal) → judgement ≡ Refused r → Tells (block_at host at) at i (BlockAnswer.Failed r) (pos 0) left
     refusal_is_told r refused =
-        rw (effect-judged c host d at i (block_at host at) (Refused r) refl refused) (finished-tells (acted_on host d at (Refused r)))
+        rw (effect_judged c host d at i (block_at host at) (Refused r) refl refused) (finished_tells (acted_on host d at (Refused r)))

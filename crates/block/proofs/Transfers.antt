@@ -13,7 +13,7 @@ use Rattle.transfer.proofs.Stores.{after_more}
 use Rattle.judge.specs.declared.Moving.{Moving}
 use Rattle.block.specs.Block.{begun}
 use Rattle.block.specs.Steps.{Stores, three, transfer_with}
-use Rattle.block.proofs.Effects.{host-written, then-made}
+use Rattle.block.proofs.Effects.{host_written, then_made}
 use Rattle.unit.specs.Standing.{UnitRecord}
 use Rattle.wire.specs.Storing.{written}
 
@@ -21,43 +21,43 @@ abbrev beside : Buffers → List ℕ → Buffers
 beside m events = three m.host m.image events
 
 -- Bytes moved between host and image, with and without an event buffer beside them.
-moves-beside :
+moves_beside :
     (n : ℕ) (to_host : Bool) (disk at : ℕ → ℕ) (host image events : List ℕ) →
     after (up_to n (λ k. move to_host (disk k) (at k))) (three host image events) ≡
     beside (after (up_to n (λ k. move to_host (disk k) (at k))) (lent host image)) events
 unfolding after up_to
-moves-beside zero to_host disk at host image events = refl
-moves-beside (suc n) true disk at host image events =
+moves_beside zero to_host disk at host image events = refl
+moves_beside (suc n) true disk at host image events =
     let moves : ℕ → Store = λ k. move true (disk k) (at k) in
     after_more n moves (three host image events)
-    ∙ rw (moves-beside n true disk at host image events, after_more n moves (lent host image))
-moves-beside (suc n) false disk at host image events =
+    ∙ rw (moves_beside n true disk at host image events, after_more n moves (lent host image))
+moves_beside (suc n) false disk at host image events =
     let moves : ℕ → Store = λ k. move false (disk k) (at k) in
     after_more n moves (three host image events)
-    ∙ rw (moves-beside n false disk at host image events, after_more n moves (lent host image))
+    ∙ rw (moves_beside n false disk at host image events, after_more n moves (lent host image))
 
-data-made :
+data_made :
     (t : Transfer) (of host image events host' image' : List ℕ) →
     lent host' image' ≡ after (data_on of t) (lent host image) →
     after (data_on of t) (three host image events) ≡ three host' image' events
 unfolding data_on
-data-made t of host image events host' image' is =
-    moves-beside _ t.to_host _ _ host image events ∙ ap (λ (m : Buffers). beside m events) (sym is)
+data_made t of host image events host' image' is =
+    moves_beside _ t.to_host _ _ host image events ∙ ap (λ (m : Buffers). beside m events) (sym is)
 
 -- A transfer that was made on a block's marked memory: 81 00 and then its data, whatever the event buffer holds.
-pub begun-made :
+pub begun_made :
     (t : Transfer) (at : ℕ) (host image host' image' : List ℕ) →
     lent host' image' ≡ after (data_on image t) (lent (written host (at + 2) (0x81 ∷ 0x00 ∷ [])) image) →
     Stores (begun at ++ data_on image t) host image host' image'
-begun-made t at host image host' image' is events =
-    then-made (begun at) (data_on image t) (three host image events) _ _ (sym (host-written (0x81 ∷ 0x00 ∷ []) host image events (at + 2)))
-    (sym (data-made t image (written host (at + 2) (0x81 ∷ 0x00 ∷ [])) image events host' image' is))
+begun_made t at host image host' image' is events =
+    then_made (begun at) (data_on image t) (three host image events) _ _ (sym (host_written (0x81 ∷ 0x00 ∷ []) host image events (at + 2)))
+    (sym (data_made t image (written host (at + 2) (0x81 ∷ 0x00 ∷ [])) image events host' image' is))
 
 -- One of no sectors stores no data.
-pub nothing-made :
-    (u : UnitRecord) (at : ℕ) (host image : List ℕ) (data_byte_lem : ℕ → ℕ) →
-    Stores (begun at ++ data_on image (transfer_with u Moving.Nothing data_byte_lem)) host image (written host (at + 2) (0x81 ∷ 0x00 ∷ [])) image
+pub nothing_made :
+    (u : UnitRecord) (at : ℕ) (host image : List ℕ) (data_at : ℕ → ℕ) →
+    Stores (begun at ++ data_on image (transfer_with u Moving.Nothing data_at)) host image (written host (at + 2) (0x81 ∷ 0x00 ∷ [])) image
 unfolding after data_on progress up_to
-nothing-made u at host image data_byte_lem events =
-    then-made (begun at) (data_on image (transfer_with u Moving.Nothing data_byte_lem)) (three host image events) _ _
-    (sym (host-written (0x81 ∷ 0x00 ∷ []) host image events (at + 2))) (rw zero-mul refl)
+nothing_made u at host image data_at events =
+    then_made (begun at) (data_on image (transfer_with u Moving.Nothing data_at)) (three host image events) _ _
+    (sym (host_written (0x81 ∷ 0x00 ∷ []) host image events (at + 2))) (rw zero-mul refl)

@@ -44,10 +44,10 @@ Stores ss host image host' image' = (events : List ℕ) → three host' image' e
 
 -- The transfer that is made, with byte k of a job's data at an index of host memory: the pieces of the data are found before anything is stored.
 abbrev pub transfer_with : UnitRecord → Moving → (ℕ → ℕ) → Transfer
-transfer_with u Nothing data_byte_lem = moving u false false VolumeNumber.Zero 0 0 (λ k. 0)
-transfer_with u (Sectors j) data_byte_lem =
-    moving u j.to_host j.past_marks j.span.volume j.span.first j.span.count data_byte_lem
-transfer_with u (Track spot at) data_byte_lem = formatting u spot at
+transfer_with u Nothing data_at = moving u false false VolumeNumber.Zero 0 0 (λ k. 0)
+transfer_with u (Sectors j) data_at =
+    moving u j.to_host j.past_marks j.span.volume j.span.first j.span.count data_at
+transfer_with u (Track spot at) data_at = formatting u spot at
 
 -- What is to be moved fits, to or from these pieces.
 abbrev pub Ready : UnitRecord → Moving → (lengths addresses : List ℕ) → (long image : ℕ) → Type 0

@@ -35,14 +35,14 @@ use wire::lesser;
 mod events;
 
 // Whether a unit counts as initialized, where that has been asked before: a table of many pairs is long to look through.
-#[derive(Drop)]
+#[derive(Clone, Copy)]
 pub enum Known {
     Unasked,
     Counts(bool),
 }
 
 // What a block tells: whether its unit counts as initialized now, its answer and its sectors, and what it said of the next.
-#[derive(Drop)]
+#[derive(Clone, Copy)]
 pub struct BlockTold {
     pub counts: bool,
     pub answer: BlockAnswer,
@@ -52,14 +52,14 @@ pub struct BlockTold {
 }
 
 // What a block came to: what it leaves of its unit's record, and what it tells.
-#[derive(Drop)]
+#[derive(Clone, Copy)]
 pub struct Done {
     pub unit: Record,
     pub told: BlockTold,
 }
 
 // What performing a block came to: what it leaves of the record, and what is left to be told of it.
-#[derive(Drop)]
+#[derive(Clone, Copy)]
 struct Performed {
     unit: Record,
     answer: BlockAnswer,

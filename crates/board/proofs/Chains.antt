@@ -40,12 +40,12 @@ module _ (w : World) (at i : ℕ) (n : UnitNumber) (named : unit_at w at ≡ n) 
   unfolding effect_at
   effect_named = ap (λ (x : UnitNumber). effect_on w.controller w.host (drive_of w x) at i) named
 
-  step-made :
+  step_made :
       (m : Buffers) (ts : List ℕ) (d : Done) (units : Units) →
       Did (block_at w.host at) (effect_on w.controller w.host (drive_of w n) at i) (buffers_of w n) m ts d →
       SteppedTo w at i (changed w n m (unit_of d.unit ts)) (stepped_of d.told units)
   unfolding world_after
-  step-made m ts d units did =
+  step_made m ts d units did =
       rw (did.result, did.table, did.stored)
       (record {
         world = rw (effect_named, named);
@@ -61,7 +61,7 @@ pub step_by :
     (m : Buffers) (ts : List ℕ) (d : Done) (units : Units) →
     Did (block_at w.host at) (effect_on w.controller w.host (drive_of w n) at i) (buffers_of w n) m ts d →
     SteppedTo w at i (changed w n m (unit_of d.unit ts)) (stepped_of d.told units)
-step_by w at i x n asks is m ts d units did = step-made w at i n (sym asks ∙ is) m ts d units did
+step_by w at i x n asks is m ts d units did = step_made w at i n (sym asks ∙ is) m ts d units did
 
 -- Whether its unit counts as initialized then, a block tells.
 pub told_then :
@@ -74,18 +74,18 @@ module _ (fetch : Count → ℕ → World → Ending) (count : Count) (at : ℕ)
   abbrev more : Count
   more = counted count s.sectors
 
-  pub executed-failed :
+  pub executed_failed :
       (r : Refusal) → s.answer ≡ BlockAnswer.Failed r →
       executed fetch count at w ≡ ends RunAnswer.BlockFailed (refusal_number r) more w'
-  executed-failed r is = rw (stepped.world, stepped.sectors, sym stepped.answer ∙ is)
+  executed_failed r is = rw (stepped.world, stepped.sectors, sym stepped.answer ∙ is)
 
-  pub executed-done :
+  pub executed_done :
       s.answer ≡ BlockAnswer.Ended → s.linked ≡ false → executed fetch count at w ≡ ends RunAnswer.Done 0 more w'
-  executed-done is unlinked = rw (stepped.world, stepped.sectors, sym stepped.answer ∙ is, sym stepped.linked ∙ unlinked)
+  executed_done is unlinked = rw (stepped.world, stepped.sectors, sym stepped.answer ∙ is, sym stepped.linked ∙ unlinked)
 
-  pub executed-on :
+  pub executed_on :
       s.answer ≡ BlockAnswer.Ended → s.linked ≡ true → executed fetch count at w ≡ fetch more s.link w'
-  executed-on is linked =
+  executed_on is linked =
       rw (stepped.world, stepped.sectors, stepped.link, sym stepped.answer ∙ is, sym stepped.linked ∙ linked)
 
 -- ---- fetching
@@ -110,10 +110,10 @@ module _ (left : ℕ) (t : Count) (at : ℕ) (w : World) (some : 0 < left) where
 
 -- ---- an end
 
-pub ended-in :
+pub ended_in :
     (answer : RunAnswer) (failed : ℕ) (count : Count) (w : World) (e : Ending) →
     e ≡ ends answer failed count w → EndedIn e w (ended_of answer failed count)
-ended-in answer failed count w e is = rw is (record { result = refl; world = refl })
+ended_in answer failed count w e is = rw is (record { result = refl; world = refl })
 
 -- An end that is another's.
 pub ended_the_same : (e f : Ending) (w : World) (r : End) → e ≡ f → EndedIn f w r → EndedIn e w r
@@ -128,20 +128,20 @@ came_to e w r ended =
 pub came_refused :
     (answer : RunAnswer) (w : World) (e : Ending) → e ≡ ends answer 0 nothing w →
     CameTo e w (outcome_with (ended_of answer 0 nothing) (units_of w))
-came_refused answer w e is = came_to e w (ended_of answer 0 nothing) (ended-in answer 0 nothing w e is)
+came_refused answer w e is = came_to e w (ended_of answer 0 nothing) (ended_in answer 0 nothing w e is)
 
 -- What is spare after a block.
-pub spare-less :
+pub spare_less :
     (events : List ℕ) (left : ℕ) (count : Count) (sectors : ℕ) → sectors ≤ 65535 →
     Spare events (left + 1) count → Spare events left (counted count sectors)
-spare-less events left count sectors few spare =
+spare_less events left count sectors few spare =
     record {
       entries = omega (arith, spare.entries);
       blocks = omega (arith, spare.blocks);
       sectors = omega (arith, spare.sectors);
     }
 
-pub spare-kept :
+pub spare_kept :
     (events events' : List ℕ) (left : ℕ) (t : Count) → length events' ≡ length events → Spare events left t → Spare events' left t
-spare-kept events events' left t same spare =
+spare_kept events events' left t same spare =
     record { entries = omega (arith, spare.entries, same); blocks = spare.blocks; sectors = spare.sectors }

@@ -7,7 +7,7 @@ use native.Mathlib.Omega.{arith}
 use lib.ListN.{length}
 use Rattle.unit.specs.declared.UnitNumber.TheVariants.{One}
 use Rattle.board.specs.Inspection.{Inspectable, lies_at}
-use Rattle.board.proofs.Parts.{of_no_unit, of_unit_one, sector-there}
+use Rattle.board.proofs.Parts.{of_no_unit, of_unit_one, sector_there}
 use Rattle.board.proofs.inspection.inspect.Reads as inspect
 use Rattle.unit.specs.Standing.{unit_of}
 
@@ -19,9 +19,9 @@ Refuted {K} {A} {R} {E} Post wrong = (κ : K) (a : A κ) (x : R κ) (e : E κ) �
 
 -- The arguments are, in their order, the two images, the records, the two tables, the unit and the place. Of a unit over 1 the part is empty; an empty one of
 -- image 0 from a later byte on is another.
-empty-from-a-later-byte :
+empty_from_a_later_byte :
     Refuted inspect.Post (λ κ a x. (1 < a.1.1.1.1.1.0) × ((x.ref_ptr.0 ≡ a.0.ref_ptr.0) × (a.0.ref_ptr.1 < x.ref_ptr.1)))
-empty-from-a-later-byte κ a x e (over, (memory, later)) p =
+empty_from_a_later_byte κ a x e (over, (memory, later)) p =
     let none =
     of_no_unit (unit_of a.1.1.0.zero a.1.1.1.0.now) (unit_of a.1.1.0.one a.1.1.1.1.0.now) (length a.0.now) (length a.1.0.now)
     a.1.1.1.1.1.1.0 a.1.1.1.1.1.0 (λ z. omega arith) (λ z. omega arith) in
@@ -29,9 +29,9 @@ empty-from-a-later-byte κ a x e (over, (memory, later)) p =
     omega (arith, ap (λ (q : ℕ × ℕ). q.1) place)
 
 -- Nor may it be taken from image 1.
-empty-of-the-other :
+empty_of_the_other :
     Refuted inspect.Post (λ κ a x. (1 < a.1.1.1.1.1.0) × ((a.0.ref_ptr.0 ≡ a.1.0.ref_ptr.0 → ⊥) × (x.ref_ptr.0 ≡ a.1.0.ref_ptr.0)))
-empty-of-the-other κ a x e (over, (apart, there)) p =
+empty_of_the_other κ a x e (over, (apart, there)) p =
     let none =
     of_no_unit (unit_of a.1.1.0.zero a.1.1.1.0.now) (unit_of a.1.1.0.one a.1.1.1.1.0.now) (length a.0.now) (length a.1.0.now)
     a.1.1.1.1.1.1.0 a.1.1.1.1.1.0 (λ z. omega arith) (λ z. omega arith) in
@@ -39,18 +39,18 @@ empty-of-the-other κ a x e (over, (apart, there)) p =
     apart (sym (ap (λ (q : ℕ × ℕ). q.0) place) ∙ there)
 
 -- A sector of unit 1 does not lie in image 0, also where that has the same bytes at the same place.
-sector-of-the-other :
+sector_of_the_other :
     Refuted inspect.Post
     (λ κ a x.
     (a.1.1.1.1.1.0 ≡ 1) ×
     (Inspectable (unit_of a.1.1.0.one a.1.1.1.1.0.now) (length a.1.0.now) a.1.1.1.1.1.1.0 ×
     ((a.0.ref_ptr.0 ≡ a.1.0.ref_ptr.0 → ⊥) × (x.ref_ptr.0 ≡ a.0.ref_ptr.0))))
-sector-of-the-other κ a x e (one, (there, (apart, here))) p =
+sector_of_the_other κ a x e (one, (there, (apart, here))) p =
     let u0 = unit_of a.1.1.0.zero a.1.1.1.0.now in
     let u1 = unit_of a.1.1.0.one a.1.1.1.1.0.now in
     let long0 = length a.0.now in
     let long1 = length a.1.0.now in
     let place = a.1.1.1.1.1.1.0 in
-    let its = of_unit_one u0 u1 long0 long1 place ∙ sector-there One u1 long1 place there in
+    let its = of_unit_one u0 u1 long0 long1 place ∙ sector_there One u1 long1 place there in
     let lies = rw one at p.1 in
     apart (sym here ∙ ap (λ (q : ℕ × ℕ). q.0) (lies ∙ ap (lies_at a.0.ref_ptr a.1.0.ref_ptr) its))

@@ -55,11 +55,11 @@ came_once : (d : Ending) (v w : World) (r s : Outcome) → CameTo d v r → Came
 unfolding seen_of
 came_once d v w r s p q = λ i. seen_of ((p.result ∙ sym q.result) i) ((p.world ∙ sym q.world) i)
 
-run-once :
+run_once :
     OneOutcome run.Post
     (λ κ x e. seen_of x (world_of First e.0.now e.1.0.now e.1.1.0.now e.1.1.1.0.now e.1.1.1.1.0.now e.1.1.1.1.1.0.now x.units))
 unfolding seen_of
-run-once κ a x y e f p q = came_once _ _ _ x y p q
+run_once κ a x y e f p q = came_once _ _ _ x y p q
 
 -- The same of a block alone.
 record SeenOne : Type 0 where
@@ -108,19 +108,19 @@ module _ (w : World) (at i : ℕ) where
       (p.world t).host (p.world t).drive0.image (p.world t).drive1.image (p.world t).events
       (table (p.world t).drive0.unit) (table (p.world t).drive1.unit)
 
-  one-once :
+  one_once :
       (r s : Single) (h i0 i1 e t0 t1 h' i0' i1' e' t0' t1' : List ℕ) → RanOne w at i h i0 i1 e t0 t1 r → RanOne w at i h' i0' i1' e' t0' t1' s →
       seen_one r h i0 i1 e t0 t1 ≡ seen_one s h' i0' i1' e' t0' t1'
   unfolding seen_one
-  one-once (Ran r) (Ran s) h i0 i1 e t0 t1 h' i0' i1' e' t0' t1' p q = ran_one_is h i0 i1 e t0 t1 r p.1 ∙ sym (ran_one_is h' i0' i1' e' t0' t1' s q.1)
-  one-once (Ran r) NoRoom h i0 i1 e t0 t1 h' i0' i1' e' t0' t1' p q = absurd (q.0 p.0)
-  one-once NoRoom (Ran s) h i0 i1 e t0 t1 h' i0' i1' e' t0' t1' p q = absurd (p.0 q.0)
-  one-once NoRoom NoRoom h i0 i1 e t0 t1 h' i0' i1' e' t0' t1' p q =
+  one_once (Ran r) (Ran s) h i0 i1 e t0 t1 h' i0' i1' e' t0' t1' p q = ran_one_is h i0 i1 e t0 t1 r p.1 ∙ sym (ran_one_is h' i0' i1' e' t0' t1' s q.1)
+  one_once (Ran r) NoRoom h i0 i1 e t0 t1 h' i0' i1' e' t0' t1' p q = absurd (q.0 p.0)
+  one_once NoRoom (Ran s) h i0 i1 e t0 t1 h' i0' i1' e' t0' t1' p q = absurd (p.0 q.0)
+  one_once NoRoom NoRoom h i0 i1 e t0 t1 h' i0' i1' e' t0' t1' p q =
       let same = p.1 ∙ sym q.1 in
       λ t. seen_one NoRoom (same t).host (same t).drive0.image (same t).drive1.image (same t).events
       (table (same t).drive0.unit) (table (same t).drive1.unit)
 
-run-one-once :
+run_one_once :
     OneOutcome run-one.Post
     (λ κ x e. seen_one x e.0.now e.1.0.now e.1.1.0.now e.1.1.1.0.now e.1.1.1.1.0.now e.1.1.1.1.1.0.now)
-run-one-once κ a x y e f p q = one-once _ _ _ x y _ _ _ _ _ _ _ _ _ _ _ _ p q
+run_one_once κ a x y e f p q = one_once _ _ _ x y _ _ _ _ _ _ _ _ _ _ _ _ p q

@@ -9,7 +9,7 @@ use native.Mathlib.Omega.{arith}
 use lib.ListN.{drop, length, take}
 use Rattle.geometry.specs.Drive.{B}
 use Rattle.geometry.specs.Sectors.{first_byte}
-use Rattle.geometry.proofs.Laws.{sector-in-image}
+use Rattle.geometry.proofs.Laws.{sector_in_image}
 use Rattle.unit.specs.declared.UnitNumber.{UnitNumber}
 use Rattle.unit.specs.declared.UnitNumber.TheVariants.{Zero, One}
 use Rattle.board.specs.Inspection.{Inspectable, base_of, bytes_of, image_of, inspectable?, lies_at, no_part, part_of, sector_part}
@@ -20,26 +20,26 @@ use Rattle.unit.specs.Made.{record_of}
 
 -- One unit: its sector, or nothing.
 module _ (n : UnitNumber) (u : UnitRecord) (long place : ℕ) where
-  pub sector-there :
+  pub sector_there :
       Inspectable u long place →
       sector_part n u long place ≡ record { unit = n; at = first_byte (geometry u) place; bytes = B (geometry u) }
-  sector-there there = if_pos (inspectable? u long place) there _ _
+  sector_there there = if_pos (inspectable? u long place) there _ _
 
   pub sector_not_there : (Inspectable u long place → ⊥) → sector_part n u long place ≡ no_part
   sector_not_there not_there = if_neg (inspectable? u long place) not_there _ _
 
 -- "The inspection call still goes by place in the image" (02, K5): of a unit that counts as initialized it hands back what it would without a table.
-pub maps-nothing :
+pub maps_nothing :
     (n : UnitNumber) (u : UnitRecord) (long place : ℕ) → CountsAsInitialized u →
     sector_part n u long place ≡ sector_part n (record_of (initialized u) (geometry u) (cylinder u) 0 no_tracks) long place
-maps-nothing n u long place counts =
+maps_nothing n u long place counts =
     let without = record_of (initialized u) (geometry u) (cylinder u) 0 no_tracks in
     let so : CountsAsInitialized without =
     record { said = counts.said; within = counts.within; cylinder = counts.cylinder; good = empty_is_good (geometry u) no_tracks refl } in
     by_cases (inspectable? u long place)
     (λ there.
-    sector-there n u long place there
-    ∙ sym (sector-there n without long place (record { initialized = so; inside = there.inside; image = there.image })))
+    sector_there n u long place there
+    ∙ sym (sector_there n without long place (record { initialized = so; inside = there.inside; image = there.image })))
     (λ not_there.
     sector_not_there n u long place not_there
     ∙ sym
@@ -71,7 +71,7 @@ module _ (image0 image1 : List ℕ) where
   sector_lies n u place =
       let long = length (image_of image0 image1 n) in
       by_cases (inspectable? u long place)
-      (λ there. rw (sector-there n u long place there) (sector-in-image (geometry u) long place there.image there.inside).0)
+      (λ there. rw (sector_there n u long place there) (sector_in_image (geometry u) long place there.image there.inside).0)
       (λ not_there. rw (sector_not_there n u long place not_there) (omega arith))
 
   pub part_lies :
@@ -82,10 +82,10 @@ module _ (image0 image1 : List ℕ) where
   part_lies u0 u1 (suc (suc unit)) place = omega arith
 
   -- Either image is below what both are below.
-  pub image-below :
+  pub image_below :
       (n : UnitNumber) (limit : ℕ) → length image0 < limit → length image1 < limit → length (image_of image0 image1 n) < limit
-  image-below Zero limit below0 below1 = below0
-  image-below One limit below0 below1 = below1
+  image_below Zero limit below0 below1 = below0
+  image_below One limit below0 below1 = below1
 
   -- What is cut out of the named image, from a part's place to its end, are the part's bytes.
   pub part_cut :
@@ -94,7 +94,7 @@ module _ (image0 image1 : List ℕ) where
   part_cut p n is = rw (add-sub_cancel_left, is)
 
 -- A part that is cut out of the image that it names begins at its place there.
-pub part-place :
+pub part_place :
     (base0 base1 : ℕ × ℕ) (p : Part) (n : UnitNumber) → p.unit ≡ n →
     ((base_of base0 base1 n).0, p.at + (base_of base0 base1 n).1) ≡ lies_at base0 base1 p
-part-place base0 base1 p n is = rw is
+part_place base0 base1 p n is = rw is

@@ -19,10 +19,10 @@ module _ (first allowance : ℕ) (w : World) where
   ran_events_short short = if_pos (dec_lt (length w.events) 512) short _ _
 
   module _ (long : 512 ≤ length w.events) where
-    pub ran-allowance-bad :
+    pub ran_allowance_bad :
         ((1 ≤ allowance) × (allowance ≤ 64) → ⊥) → ran first allowance w ≡ ends RunAnswer.AllowanceBad 0 nothing w
     unfolding ran
-    ran-allowance-bad bad =
+    ran_allowance_bad bad =
         if_neg (dec_lt (length w.events) 512) (λ short. omega arith) _ _
         ∙ if_pos (Dec.not (Dec.and (dec_le 1 allowance) (dec_le allowance 64))) bad _ _
 

@@ -1,6 +1,7 @@
 -- A chain of blocks, and the run (01, One run and Answer numbers 0 to 6).
 use Rattle.std.specs.Prelude.{ℕ, zero, suc, ◌+◌, Bool, true, false, length}
-use Rattle.std.proofs.Math.Logic.{ite, Dec·and, Dec·not}
+use Rattle.std.proofs.Math.Logic.{ite}
+use Rattle.std.proofs.Math.Logic.Dec.{and as dec_and, not as dec_not}
 use Rattle.std.proofs.Math.Decide.{dec_le, dec_lt}
 use Rattle.answers.specs.declared.BlockAnswer.{BlockAnswer}
 use Rattle.answers.specs.declared.BlockAnswer.TheVariants.{Ended, Failed}
@@ -59,6 +60,6 @@ nothing = record { blocks = 0; sectors = 0 }
 unfoldable pub ran : ℕ → ℕ → World → Ending
 ran first allowance w =
     ite (dec_lt (length w.events) 512) (ends RunAnswer.EventsShort 0 nothing w)
-    (ite (Dec·not (Dec·and (dec_le 1 allowance) (dec_le allowance 64))) (ends RunAnswer.AllowanceBad 0 nothing w)
-    (ite (Dec·not (in_memory? w.host first 28)) (ends RunAnswer.FirstBad 0 nothing w)
+    (ite (dec_not (dec_and (dec_le 1 allowance) (dec_le allowance 64))) (ends RunAnswer.AllowanceBad 0 nothing w)
+    (ite (dec_not (in_memory? w.host first 28)) (ends RunAnswer.FirstBad 0 nothing w)
     (fetched allowance nothing first w)))

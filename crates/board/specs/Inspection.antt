@@ -1,7 +1,8 @@
 -- The inspection call (01, Answer numbers, last paragraph): which part of which image it hands back. It "still goes by place in the image" (02, K5),
 -- and a unit whose table is not good is not initialized here too.
 use Rattle.std.specs.Prelude.{ℕ, zero, suc, ◌+◌, ◌≤◌, ◌<◌, List, drop, take}
-use Rattle.std.proofs.Math.Logic.{ite, Dec·and}
+use Rattle.std.proofs.Math.Logic.{ite}
+use Rattle.std.proofs.Math.Logic.Dec.{and as dec_and}
 use Rattle.std.proofs.Math.Decide.{dec_le, dec_lt, map_dec}
 use Rattle.geometry.specs.Drive.{B, drive_sectors, need}
 use Rattle.geometry.specs.Sectors.{first_byte}
@@ -21,7 +22,7 @@ pub record Inspectable (u : UnitRecord) (long place : ℕ) : Type 0 where
 pub inspectable? : (u : UnitRecord) (long place : ℕ) → Dec (Inspectable u long place)
 inspectable? u long place =
     map_dec (λ d. record { initialized = d.0; inside = d.1.0; image = d.1.1 }) (λ i. (i.initialized, (i.inside, i.image)))
-    (Dec·and (counts? u) (Dec·and (dec_lt place (drive_sectors (geometry u))) (dec_le (need (geometry u)) long)))
+    (dec_and (counts? u) (dec_and (dec_lt place (drive_sectors (geometry u))) (dec_le (need (geometry u)) long)))
 
 -- "a part of length 0 at the start of unit 0's image"
 abbrev pub no_part : Part

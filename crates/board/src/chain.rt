@@ -23,7 +23,7 @@ use block::{BlockTold, Known, run_block};
 use unit::{Controller, Record, UnitNumber};
 
 // What a block alone came to: the records that it left, what it told, and what it said of the next.
-#[derive(Drop)]
+#[derive(Clone, Copy)]
 pub struct Stepped {
     pub units: Units,
     pub answer: BlockAnswer,
@@ -33,28 +33,28 @@ pub struct Stepped {
 }
 
 // Of which units a chain knows whether they count as initialized. It asks once, where a block names the unit, and every block tells anew.
-#[derive(Drop)]
+#[derive(Clone, Copy)]
 pub(crate) struct Learnt {
     pub zero: Known,
     pub one: Known,
 }
 
 // A block of a chain: what the chain goes by after it, and what it has learnt.
-#[derive(Drop)]
+#[derive(Clone, Copy)]
 pub(crate) struct Went {
     pub told: BlockTold,
     pub learnt: Learnt,
 }
 
 // The blocks run and the sectors moved so far.
-#[derive(Drop)]
+#[derive(Clone, Copy)]
 pub struct Count {
     pub blocks: u32,
     pub sectors: u32,
 }
 
 // How a chain ended, but for the records: these are left where they are lent. `failed` is as in an outcome.
-#[derive(Drop)]
+#[derive(Clone, Copy)]
 pub struct End {
     pub answer: RunAnswer,
     pub failed: u8,
@@ -63,7 +63,7 @@ pub struct End {
 }
 
 // A leg of a chain: how it ended, and, where its allowance is spent, from which address and with what knowledge the chain goes on.
-#[derive(Drop)]
+#[derive(Clone, Copy)]
 pub(crate) struct Leg {
     pub end: End,
     pub at: u32,
@@ -74,7 +74,7 @@ pub(crate) struct Leg {
 const LEG: u32 = 8;
 
 // What a run came to. `failed` is the failed block's number with the answer BlockFailed, and 0 with any other.
-#[derive(Drop)]
+#[derive(Clone, Copy)]
 pub struct Outcome {
     pub answer: RunAnswer,
     pub failed: u8,
@@ -489,7 +489,7 @@ pub fn run(
 }
 
 // What a block alone came to, or that it cannot be fetched or has no room for its entry.
-#[derive(Drop)]
+#[derive(Clone, Copy)]
 pub enum Single {
     Ran(Stepped),
     NoRoom,

@@ -8,7 +8,7 @@ use geometry::Sector;
 use unit::{Record, UnitNumber};
 
 // A part of a unit's image: so many bytes, from the byte `at` on.
-#[derive(Drop)]
+#[derive(Clone, Copy)]
 pub struct Part {
     pub unit: UnitNumber,
     pub at: usize,

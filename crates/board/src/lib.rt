@@ -11,7 +11,7 @@ pub use chain::{Count, End, Outcome, Single, Stepped, run, run_one};
 pub use inspection::{Part, inspect, part_of};
 
 // The two unit records.
-#[derive(Drop)]
+#[derive(Clone, Copy)]
 pub struct Units {
     pub zero: Record,
     pub one: Record,

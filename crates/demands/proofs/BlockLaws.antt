@@ -18,21 +18,21 @@ use Rattle.geometry.specs.Drive.{B, marks_at}
 use Rattle.judge.specs.declared.Verdict.{Verdict}
 use Rattle.judge.specs.declared.Verdict.TheVariants.{Refused, Do}
 use Rattle.judge.specs.Table.{AnsweredWith, BeforeTransfer, listed, one_of, paper}
-use Rattle.judge.proofs.Table.{answered_by_one_line, one_of_lem, refused_before_transfer, refused-by-the-table}
+use Rattle.judge.proofs.Table.{answered_by_one_line, one_of_lem, refused_before_transfer, refused_by_the_table}
 use Rattle.unit.specs.Holding.{held_by_other}
 use Rattle.unit.specs.declared.UnitNumber.{UnitNumber}
 use Rattle.transfer.specs.Progress.{Progress}
 use Rattle.transfer.specs.Stores.{image_byte}
 use Rattle.transfer.proofs.Marks.{no_mark_stored}
-use Rattle.transfer.proofs.Stops.{stopped-with, stops_before_the_first, unreadable_exactly}
+use Rattle.transfer.proofs.Stops.{stopped_with, stops_before_the_first, unreadable_exactly}
 use Rattle.block.specs.Block.{Effect, transfer_of}
 use Rattle.block.specs.Steps.{acted_on}
 use Rattle.demands.specs.Footprint.{FirstUnreadable, InReport, Unreadable, WritesHost, WritesImage, asked_of, changes, comes, leaving_of, moving_of, named_drive, names, report_of, transfer_by, verdict_of}
 use Rattle.demands.specs.Footprint.HostWritten.{moved, report, status_word}
 use Rattle.demands.specs.Visits.{Visit, block_of, effect_of, world_left}
 use Rattle.demands.proofs.Fits.{drives_geometry, on_drive}
-use Rattle.demands.proofs.Keeps.{block_keeps_events, block_keeps_host, block-keeps-image, block-keeps-record}
-use Rattle.demands.proofs.Written.{data-disk, effect_is, event_written_exactly, host_written_exactly, image_written_exactly, sectors_come}
+use Rattle.demands.proofs.Keeps.{block_keeps_events, block_keeps_host, block_keeps_image, block_keeps_record}
+use Rattle.demands.proofs.Written.{data_disk, effect_is, event_written_exactly, host_written_exactly, image_written_exactly, sectors_come}
 use Rattle.unit.specs.Standing.{geometry, holder}
 use Rattle.board.specs.World.{drive_of}
 use Rattle.transfer.specs.Targets.{Stored}
@@ -68,14 +68,14 @@ module _ (v : Visit) where
     refusal_keeps_events x outside = block_keeps_events v x (λ there. outside ((event_written_exactly v x).1 there))
 
     -- every image byte of both units,
-    pub refusal-keeps-images :
+    pub refusal_keeps_images :
         (n : UnitNumber) (x : ℕ) → get_or (drive_of (world_left v) n).image x 0 ≡ get_or (drive_of v.world n).image x 0
-    refusal-keeps-images n x = block-keeps-image v n x (λ there. no_image x ((image_written_exactly v x).1 there.1))
+    refusal_keeps_images n x = block_keeps_image v n x (λ there. no_image x ((image_written_exactly v x).1 there.1))
 
     -- both records; and it moved nothing.
     pub refusal_keeps_records : (n : UnitNumber) → (drive_of (world_left v) n).unit ≡ (drive_of v.world n).unit
     refusal_keeps_records n =
-        block-keeps-record v n (λ there. subst (λ (verd : Verdict). changes (leaving_of verd)) refused there.1)
+        block_keeps_record v n (λ there. subst (λ (verd : Verdict). changes (leaving_of verd)) refused there.1)
 
     pub refusal_moves_nothing : ((effect_of v).sectors ≡ 0) × ((effect_of v).answer ≡ BlockAnswer.Failed r)
     refusal_moves_nothing = (
@@ -90,14 +90,14 @@ module _ (v : Visit) where
   no_mark x from there =
       let d = (image_written_exactly v x).1 there in
       no_mark_stored (named_drive v).image (transfer_by (asked_of v)) (on_drive (asked_of v)) x (rw (drives_geometry (asked_of v)) from)
-      (data-disk (named_drive v).image (transfer_by (asked_of v)) x d.goes (d.byte, (d.moved, d.here)))
+      (data_disk (named_drive v).image (transfer_by (asked_of v)) x d.goes (d.byte, (d.moved, d.here)))
 
   -- "No command changes a mark" (01, One run), and "Bytes after that are never touched" (01, Geometry): whatever a block does, every
   -- byte of its unit's image from the marks on is as it was.
-  pub no-mark-changes :
+  pub no_mark_changes :
       (x : ℕ) → marks_at (geometry (named_drive v).unit) ≤ x →
       get_or (drive_of (world_left v) (names v)).image x 0 ≡ get_or (named_drive v).image x 0
-  no-mark-changes x from = block-keeps-image v (names v) x (λ there. no_mark x from there.1)
+  no_mark_changes x from = block_keeps_image v (names v) x (λ there. no_mark x from there.1)
 
   -- ---- the answer
 
@@ -122,24 +122,24 @@ module _ (v : Visit) where
       by_way : Fails r → verdict_of v ≡ Refused r
       by_way (refused is) = is
       by_way (stopped stop) =
-          absurd (early (ap refusal_number (stopped-with (named_drive v).image (transfer_by (asked_of v)) r stop)))
+          absurd (early (ap refusal_number (stopped_with (named_drive v).image (transfer_by (asked_of v)) r stop)))
 
   -- So each of 10 to 19, and of 22 to 24, is "given in its stated case and no other" (00, demand 1): it is the block's answer exactly where the first
   -- line of the papers' table that applies to the block has it, "Block answers, in order".
-  pub answered-by-the-table :
+  pub answered_by_the_table :
       (r : Refusal) → BeforeTransfer r →
       ((effect_of v).answer ≡ BlockAnswer.Failed r) ↔ AnsweredWith (refusal_number r) (block_of v).command (paper (block_of v) (asked_of v))
-  answered-by-the-table r early = Iff.trans (refused_exactly r early) (refused-by-the-table (block_of v) (asked_of v) refl r)
+  answered_by_the_table r early = Iff.trans (refused_exactly r early) (refused_by_the_table (block_of v) (asked_of v) refl r)
 
   -- 12: "UIB address odd or UIB not wholly in host memory", of an 87 that 24 does not refuse.
-  pub answer-12-exactly :
+  pub answer_12_exactly :
       ((effect_of v).answer ≡ BlockAnswer.Failed Refusal.UibMisplaced) ↔
       (((block_of v).command ≡ 0x87) ×
       ((T (held_by_other v.world.controller (holder (named_drive v).unit)) → ⊥) × (InMemory v.world.host (block_of v).address 18 → ⊥)))
-  answer-12-exactly =
+  answer_12_exactly =
       let c = (block_of v).command in
       let lines = paper (block_of v) (asked_of v) in
-      Iff.trans (answered-by-the-table Refusal.UibMisplaced (λ is. omega arith))
+      Iff.trans (answered_by_the_table Refusal.UibMisplaced (λ is. omega arith))
       (Iff.trans (answered_by_one_line c 12 lines tt) (
         λ (known, (free, (counts, (for-87, bad)))).
             let is = one_of_lem (λ x. x ≡ 0x87) c (0x87 ∷ []) (refl, tt) for-87 in
@@ -148,15 +148,15 @@ module _ (v : Visit) where
       ))
 
   -- 24: "A chain's block for a drive held by the other controller", for the nine commands of its line, which are all but 86 (02, K10).
-  pub answer-24-exactly :
+  pub answer_24_exactly :
       ((effect_of v).answer ≡ BlockAnswer.Failed Refusal.DriveHeld) ↔
       (T (one_of (block_of v).command (0x81 ∷ 0x82 ∷ 0x87 ∷ 0x89 ∷ 0x8a ∷ 0x8c ∷ 0xa1 ∷ 0xa2 ∷ 0x85 ∷ [])) ×
       T (held_by_other v.world.controller (holder (named_drive v).unit)))
-  answer-24-exactly =
+  answer_24_exactly =
       let c = (block_of v).command in
       let nine : List ℕ = 0x81 ∷ 0x82 ∷ 0x87 ∷ 0x89 ∷ 0x8a ∷ 0x8c ∷ 0xa1 ∷ 0xa2 ∷ 0x85 ∷ [] in
       let alone = answered_by_one_line c 24 (paper (block_of v) (asked_of v)) tt in
-      Iff.trans (answered-by-the-table Refusal.DriveHeld (λ is. omega arith)) (
+      Iff.trans (answered_by_the_table Refusal.DriveHeld (λ is. omega arith)) (
         λ x. (alone.0 x).1,
         λ so.
             alone.1 (

@@ -81,11 +81,11 @@ module _ (left : ℕ) (t : Count) (at : ℕ) (w : World) where
       fewer : suc left - suc (suc (length told.rest)) ≡ left - suc (length told.rest)
       fewer = omega arith
 
-  visits-bad :
+  visits_bad :
       0 < left → (InMemory (world_left here).host (block_of here).link 28 → ⊥) →
       visits left (t.blocks + 1) (block_of here).link (world_left here) ≡ []
   unfolding visits
-  visits-bad some bad =
+  visits_bad some bad =
       let one : left ≡ suc (left - 1) = omega arith in
       ap (λ (n : ℕ). visits n (t.blocks + 1) (block_of here).link (world_left here)) one
       ∙ if_neg (in_memory? (world_left here).host (block_of here).link 28) bad _ _
@@ -106,7 +106,7 @@ module _ (left : ℕ) (t : Count) (at : ℕ) (w : World) where
       (λ some.
       by_cases (in_memory? (world_left here).host (block_of here).link 28)
       (λ good. on _ _ _ (next good some))
-      (λ bad. rw (fetched_bad left then (block_of here).link (world_left here) some bad, visits-bad some bad) (alone RunAnswer.LinkBad 0 (linked, is, bad, some) (ap block_number (sym is)))))
+      (λ bad. rw (fetched_bad left then (block_of here).link (world_left here) some bad, visits_bad some bad) (alone RunAnswer.LinkBad 0 (linked, is, bad, some) (ap block_number (sym is)))))
       (λ none.
       let spent : left ≡ 0 = omega arith in
       rw (fetched_spent left then (block_of here).link (world_left here) spent, visits_spent spent)
@@ -117,25 +117,25 @@ module _ (n : ℕ) (t : Count) (at : ℕ) (w : World) (good : InMemory w.host at
   unfolding fetched
   fetched_step = if_pos (in_memory? w.host at 28) good _ _
 
-  pub visits-step :
+  pub visits_step :
       visits (suc n) t.blocks at w ≡
       here n t at w ∷
       onwards (effect_of (here n t at w)).answer (block_of (here n t at w)).options.link
       (visits n (t.blocks + 1) (block_of (here n t at w)).link (world_left (here n t at w)))
   unfolding visits
-  visits-step = if_pos (in_memory? w.host at 28) good _ _
+  visits_step = if_pos (in_memory? w.host at 28) good _ _
 
-  told-step :
+  told_step :
       Next n t at w →
       ToldByBlocks (fetched (suc n) t at w) (visits (suc n) t.blocks at w) (suc n) t (record { at = at; index = t.blocks; world = w })
-  told-step next = rw (fetched_step, visits-step) (by_end n t at w _ _ refl refl next)
+  told_step next = rw (fetched_step, visits_step) (by_end n t at w _ _ refl refl next)
 
 -- The theorem, for a first block that can be fetched.
-pub chain-told :
+pub chain_told :
     (left : ℕ) (t : Count) (at : ℕ) (w : World) → InMemory w.host at 28 →
     ToldByBlocks (fetched (suc left) t at w) (visits (suc left) t.blocks at w) (suc left) t (record { at = at; index = t.blocks; world = w })
-chain-told zero t at w good = told-step zero t at w good (λ place less. absurd (omega arith))
-chain-told (suc n) t at w good = told-step (suc n) t at w good (λ place less. chain-told n (then (suc n) t at w) _ _ place)
+chain_told zero t at w good = told_step zero t at w good (λ place less. absurd (omega arith))
+chain_told (suc n) t at w good = told_step (suc n) t at w good (λ place less. chain_told n (then (suc n) t at w) _ _ place)
 
 -- A chain fetches no more blocks than its allowance has left.
 onwards_few : (a : BlockAnswer) (k : Bool) (rest : List Visit) → length (onwards a k rest) ≤ length rest
@@ -176,16 +176,16 @@ visits_linked (suc n) i at w =
     by_cases (in_memory? w.host at 28)
     (λ good.
     rw (if_pos (in_memory? w.host at 28) good _ _)
-    (linked-by (effect_of v).answer (block_of v).options.link refl refl (visits_linked n (i + 1) (block_of v).link (world_left v))))
+    (linked_by (effect_of v).answer (block_of v).options.link refl refl (visits_linked n (i + 1) (block_of v).link (world_left v))))
     (λ bad. rw (if_neg (in_memory? w.host at 28) bad _ _) tt)
   where
     v : Visit
     v = record { at = at; index = i; world = w }
 
-    linked-by :
+    linked_by :
         (a : BlockAnswer) (k : Bool) → (effect_of v).answer ≡ a → (block_of v).options.link ≡ k →
         Linked (visits n (i + 1) (block_of v).link (world_left v)) →
         Linked (v ∷ onwards a k (visits n (i + 1) (block_of v).link (world_left v)))
-    linked-by (Failed r) k is linked rest = (tt, tt)
-    linked-by Ended false is linked rest = (tt, tt)
-    linked-by Ended true is linked rest = (first_of n (i + 1) (block_of v).link (world_left v) v is linked refl refl refl, rest)
+    linked_by (Failed r) k is linked rest = (tt, tt)
+    linked_by Ended false is linked rest = (tt, tt)
+    linked_by Ended true is linked rest = (first_of n (i + 1) (block_of v).link (world_left v) v is linked refl refl refl, rest)

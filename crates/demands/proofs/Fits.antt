@@ -5,7 +5,7 @@ use mathlib.Core.Path.{◌≡◌, refl}
 use native.Mathlib.Omega.{arith}
 use Rattle.geometry.specs.Drive.{B, need}
 use Rattle.geometry.specs.Sectors.{first_byte, mark_byte}
-use Rattle.geometry.proofs.Laws.{sector-in-image}
+use Rattle.geometry.proofs.Laws.{sector_in_image}
 use Rattle.judge.specs.declared.Moving.{Moving}
 use Rattle.judge.specs.declared.Moving.TheVariants.{Nothing, Sectors, Track}
 use Rattle.judge.specs.declared.Verdict.{Verdict}
@@ -42,12 +42,12 @@ module _ (a : Asked) where
   pub drives_geometry : (transfer_by a).geometry ≡ geometry a.unit
   drives_geometry = moving_geometry a.unit a.host (moving_of (verdict a))
 
-  pub all-in-image :
+  pub all_in_image :
       (j : ℕ) → j < (transfer_by a).count →
       (first_byte (transfer_by a).geometry ((transfer_by a).place j) + B (transfer_by a).geometry ≤ a.image) ×
       (mark_byte (transfer_by a).geometry ((transfer_by a).place j) < a.image)
-  all-in-image j less =
-      sector-in-image (transfer_by a).geometry a.image ((transfer_by a).place j) (long (moving_of (verdict a)) moving_fits less) (on_drive j less)
+  all_in_image j less =
+      sector_in_image (transfer_by a).geometry a.image ((transfer_by a).place j) (long (moving_of (verdict a)) moving_fits less) (on_drive j less)
     where
       long :
           (m : Moving) → MovingFits a.unit a.image a.host m → j < (transfer_of a.host a.unit m).count →

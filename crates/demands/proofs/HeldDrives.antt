@@ -27,7 +27,7 @@ use Rattle.block.specs.Block.{transfer_of}
 use Rattle.board.specs.Chain.{ran}
 use Rattle.demands.specs.Footprint.{DiskData, RunWritesImage, RunWritesRecord, Some, WritesImage, WritesRecord, asked_of, changes, leaving_of, moving_of, named_drive, names, verdict_of}
 use Rattle.demands.specs.Visits.{Visit, block_of, effect_of, fetched_by, onwards, passes?, visits, world_left}
-use Rattle.demands.proofs.Keeps.{block-keeps-image, block-keeps-lengths, block-keeps-record, run-hands, some_none}
+use Rattle.demands.proofs.Keeps.{block_keeps_image, block_keeps_lengths, block_keeps_record, run_hands, some_none}
 use Rattle.demands.proofs.Places.{data_is_touched}
 use Rattle.demands.proofs.Written.{image_written_exactly}
 use Rattle.board.specs.World.{World, buffers_of, changed, drive_of, world_after}
@@ -82,12 +82,12 @@ module _ (v : Visit) (n : UnitNumber) (held : held_by_other v.world.controller (
   block_writes_no_record (named, does) = subst changes (idle named).leaving does
 
   same_image : (x : ℕ) → get_or (drive_of (world_left v) n).image x 0 ≡ get_or (drive_of v.world n).image x 0
-  same_image x = block-keeps-image v n x (λ (named, target). block_stores_none x (named, (image_written_exactly v x).1 target))
+  same_image x = block_keeps_image v n x (λ (named, target). block_stores_none x (named, (image_written_exactly v x).1 target))
 
   pub block_leaves_held_drive : drive_of (world_left v) n ≡ drive_of v.world n
   block_leaves_held_drive =
-      let image = ext_get_or 0 (drive_of (world_left v) n).image (drive_of v.world n).image ((block-keeps-lengths v).1.1 n) (λ x less. same_image x) in
-      let unit = block-keeps-record v n block_writes_no_record in
+      let image = ext_get_or 0 (drive_of (world_left v) n).image (drive_of v.world n).image ((block_keeps_lengths v).1.1 n) (λ x less. same_image x) in
+      let unit = block_keeps_record v n block_writes_no_record in
       λ i. record { unit = unit i; image = image i }
 
 -- ---- a run
@@ -103,11 +103,11 @@ block_keeps_controller v = by_unit (names v)
     by_unit UnitNumber.Zero = refl
     by_unit UnitNumber.One = refl
 
-pub run-leaves-held-drive :
+pub run_leaves_held_drive :
     (first allowance : ℕ) (w : World) (n : UnitNumber) → held_by_other w.controller (holder (drive_of w n).unit) ≡ true →
     drive_of (ran first allowance w).world n ≡ drive_of w n
-run-leaves-held-drive first allowance w n held =
-    (run-hands (λ x. (x.controller ≡ w.controller) × (drive_of x n ≡ drive_of w n)) first allowance w (λ v. ⊥)
+run_leaves_held_drive first allowance w n held =
+    (run_hands (λ x. (x.controller ≡ w.controller) × (drive_of x n ≡ drive_of w n)) first allowance w (λ v. ⊥)
     (λ v out now.
     let still : held_by_other v.world.controller (holder (drive_of v.world n).unit) ≡ true =
     (λ i. held_by_other (now.0 i) (holder (now.1 i).unit)) ∙ held in

@@ -16,7 +16,7 @@ use Rattle.judge.specs.Given.{on}
 use Rattle.judge.specs.Verdict.{verdict}
 use Rattle.judge.proofs.LetThrough.{own_plan}
 use Rattle.judge.proofs.Table.{only_86_identifies}
-use Rattle.judge.proofs.Tasks.{handshake, own-unless-held, shape_misplaced, unknown}
+use Rattle.judge.proofs.Tasks.{handshake, own_unless_held, shape_misplaced, unknown}
 use Rattle.request.specs.declared.Shape.{Shape}
 use Rattle.request.specs.declared.Task.{Task}
 use Rattle.transfer.specs.Progress.{progress}
@@ -79,10 +79,10 @@ module _ (v : Visit) where
       left_holder AsItWas (ap leaving_of (as_task _ task ∙ handshake v.world.controller u (asked_of v).image v.world.host))
 
   -- Every other that succeeds takes or keeps the drive with RV, and gives it up without.
-  pub ended-reserves :
+  pub ended_reserves :
       (effect_of v).answer ≡ Ended → ((block_of v).command ≡ 0x86 → ⊥) →
       holder (effect_of v).unit ≡ reserved_by v.world.controller (block_of v).options.reserve
-  ended-reserves ended other = by_verdict (verdict_of v) refl
+  ended_reserves ended other = by_verdict (verdict_of v) refl
     where
       with_answer : (l : Leaving) → leaving_of (verdict_of v) ≡ l → holder (effect_of v).unit ≡ holder (left_then v Ended (effect_of v).sectors l)
       with_answer l is = left_holder l is ∙ ap (λ (answer : BlockAnswer). holder (left_then v answer (effect_of v).sectors l)) ended
@@ -100,7 +100,7 @@ module _ (v : Visit) where
       by_task p so (Task.Initialize Shape.Misplaced) task is =
           absurd
           (⊎_elim (λ held. not_refused _ (as_task _ task ∙ held)) (λ own. not_refused _ (as_task _ task ∙ own ∙ shape_misplaced _ _ _ _))
-          (own-unless-held v.world.controller u (asked_of v).image v.world.host (Task.Initialize Shape.Misplaced) tt))
+          (own_unless_held v.world.controller u (asked_of v).image v.world.host (Task.Initialize Shape.Misplaced) tt))
       by_task p so (Task.Initialize (Shape.Given g)) task is = with_answer _ (ap leaving_of so ∙ ap (λ (p : Plan). p.leaving) is)
       by_task p so (Task.Move m) task is = with_answer _ (ap leaving_of so ∙ ap (λ (p : Plan). p.leaving) is)
       by_task p so Task.Restore task is = with_answer _ (ap leaving_of so ∙ ap (λ (p : Plan). p.leaving) is)

@@ -13,7 +13,7 @@ use Rattle.answers.specs.declared.BlockAnswer.TheVariants.{Ended, Failed}
 use Rattle.unit.specs.declared.UnitNumber.{UnitNumber}
 use Rattle.unit.specs.declared.UnitNumber.TheVariants.{Zero, One}
 use Rattle.transfer.specs.Stores.{Buffers, ByteAt, after, event_byte, byte_in, host_byte, image_byte}
-use Rattle.transfer.proofs.Stays.{lengths-stay, unstored_stays}
+use Rattle.transfer.proofs.Stays.{lengths_stay, unstored_stays}
 use Rattle.wire.proofs.Decided.{in_memory?}
 use Rattle.block.specs.Block.{Drive, Effect, holder_left, left_by}
 use Rattle.block.specs.Steps.{acted_on, held_unit}
@@ -31,7 +31,7 @@ use Rattle.judge.specs.Fits.{LeavingFits}
 use Rattle.demands.proofs.Fits.{leaving_fits}
 use Rattle.demands.specs.Visits.{Visit, block_of, effect_of, fetched_by, onwards, passes?, visits, world_left}
 use Rattle.board.proofs.Chains.{fetched_bad, fetched_spent}
-use Rattle.demands.proofs.Endings.{fetched_step, here, then, visits-step}
+use Rattle.demands.proofs.Endings.{fetched_step, here, then, visits_step}
 use Rattle.board.proofs.Runs.{ran_chain}
 use Rattle.demands.proofs.RunAnswers.{not_passed}
 use Rattle.board.specs.World.{World, buffers_of, changed, drive_of, world_after}
@@ -59,11 +59,11 @@ module _ (I : World → Type 0) where
   by_end Ended false t v next rest on every now = every.0 now
   by_end Ended true t v next rest on every now = on every.1 (every.0 now)
 
-  chain-hands :
+  chain_hands :
       (left : ℕ) (t : Count) (at : ℕ) (w : World) →
       Every Hands (visits left t.blocks at w) → I w → I (fetched left t at w).world
-  chain-hands zero t at w every now = rw (fetched_spent 0 t at w refl) now
-  chain-hands (suc n) t at w every now =
+  chain_hands zero t at w every now = rw (fetched_spent 0 t at w refl) now
+  chain_hands (suc n) t at w every now =
       by_cases (in_memory? w.host at 28)
       (λ good.
       let v = here n t at w in
@@ -71,30 +71,30 @@ module _ (I : World → Type 0) where
       rw (fetched_step n t at w good)
       (by_end (effect_of v).answer (block_of v).options.link (then n t at w) v (fetched n (then n t at w) link (world_left v))
       (visits n (t.blocks + 1) link (world_left v))
-      (λ later so. chain-hands n (then n t at w) link (world_left v) later so)
-      (rw (visits-step n t at w good) at every) now))
+      (λ later so. chain_hands n (then n t at w) link (world_left v) later so)
+      (rw (visits_step n t at w good) at every) now))
       (λ bad. rw (fetched_bad (suc n) t at w (omega arith) bad) now)
 
   -- Where a block that is not P hands it on, a run that fetches no P hands it on.
-  pub run-hands :
+  pub run_hands :
       (first allowance : ℕ) (w : World) (P : Visit → Type 0) → ((v : Visit) → (P v → ⊥) → Hands v) →
       (Some P (fetched_by first allowance w) → ⊥) → I w → I (ran first allowance w).world
   unfolding fetched_by
-  run-hands first allowance w P each none now =
+  run_hands first allowance w P each none now =
       by_cases (passes? first allowance w)
       (λ passes.
       rw (ran_chain first allowance w passes.events (passes.least, passes.most) passes.place)
-      (chain-hands allowance nothing first w
+      (chain_hands allowance nothing first w
       (none_every P Hands each (visits allowance 0 first w) (rw (if_pos (passes? first allowance w) passes _ _) at none)) now))
       (λ refused. rw (not_passed first allowance w refused) now)
 
 -- So what such a block keeps, the run keeps.
-pub run-keeps :
+pub run_keeps :
     {X : Type 0} (see : World → X) (first allowance : ℕ) (w : World) (P : Visit → Type 0) →
     ((v : Visit) → (P v → ⊥) → see (world_left v) ≡ see v.world) →
     (Some P (fetched_by first allowance w) → ⊥) → see (ran first allowance w).world ≡ see w
-run-keeps see first allowance w P each none =
-    run-hands (λ u. see u ≡ see w) first allowance w P (λ v out so. each v out ∙ so) none refl
+run_keeps see first allowance w P each none =
+    run_hands (λ u. see u ≡ see w) first allowance w P (λ v out so. each v out ∙ so) none refl
 
 unit_number : UnitNumber → ℕ
 unit_number Zero = 0
@@ -145,11 +145,11 @@ module _ (v : Visit) where
       by_unit One Zero apart = refl
       by_unit One One apart = absurd (apart refl)
 
-  pub block-keeps-image :
+  pub block_keeps_image :
       (n : UnitNumber) (x : ℕ) → ((names v ≡ n) × Targets (image_byte x) → ⊥) →
       get_or (drive_of (world_left v) n).image x 0 ≡ get_or (drive_of v.world n).image x 0
   unfolding world_after
-  block-keeps-image n x none = by_unit (names v) n none
+  block_keeps_image n x none = by_unit (names v) n none
     where
       by_unit :
           (m n : UnitNumber) → ((m ≡ n) × Targets (image_byte x) → ⊥) →
@@ -168,35 +168,35 @@ some_none (v ∷ vs) (inl here) = here
 some_none (v ∷ vs) (inr there) = some_none vs there
 
 module _ (v : Visit) where
-  pub block-keeps-lengths :
+  pub block_keeps_lengths :
       (length (world_left v).host ≡ length v.world.host) ×
       ((length (world_left v).events ≡ length v.world.events) ×
       ((n : UnitNumber) → length (drive_of (world_left v) n).image ≡ length (drive_of v.world n).image))
   unfolding world_after
-  block-keeps-lengths = by_unit (names v)
+  block_keeps_lengths = by_unit (names v)
     where
       after_it : UnitNumber → World
       after_it m = changed v.world m (after (effect_of v).stores (buffers_of v.world m)) (effect_of v).unit
 
       images : (m n : UnitNumber) → length (drive_of (after_it m) n).image ≡ length (drive_of v.world n).image
-      images Zero Zero = (lengths-stay (effect_of v).stores (buffers_of v.world Zero)).1.0
+      images Zero Zero = (lengths_stay (effect_of v).stores (buffers_of v.world Zero)).1.0
       images Zero One = refl
       images One Zero = refl
-      images One One = (lengths-stay (effect_of v).stores (buffers_of v.world One)).1.0
+      images One One = (lengths_stay (effect_of v).stores (buffers_of v.world One)).1.0
 
       by_unit :
           (m : UnitNumber) →
           (length (after_it m).host ≡ length v.world.host) ×
           ((length (after_it m).events ≡ length v.world.events) ×
           ((n : UnitNumber) → length (drive_of (after_it m) n).image ≡ length (drive_of v.world n).image))
-      by_unit Zero = let l = lengths-stay (effect_of v).stores (buffers_of v.world Zero) in (l.0, (l.1.1, images Zero))
-      by_unit One = let l = lengths-stay (effect_of v).stores (buffers_of v.world One) in (l.0, (l.1.1, images One))
+      by_unit Zero = let l = lengths_stay (effect_of v).stores (buffers_of v.world Zero) in (l.0, (l.1.1, images Zero))
+      by_unit One = let l = lengths_stay (effect_of v).stores (buffers_of v.world One) in (l.0, (l.1.1, images One))
 
   -- The record of a unit is the one that the block leaves, where it names that unit, and the old one where it does not.
-  record-left :
+  record_left_lem :
       (n : UnitNumber) → (effect_of v).unit ≡ (named_drive v).unit → (drive_of (world_left v) n).unit ≡ (drive_of v.world n).unit
   unfolding world_after
-  record-left n same = by_unit (names v) refl n
+  record_left_lem n same = by_unit (names v) refl n
     where
       by_unit :
           (m : UnitNumber) → names v ≡ m → (n : UnitNumber) →
@@ -235,32 +235,32 @@ module _ (v : Visit) where
       by_verdict (Do plan) = refl
 
   -- What a change of holder keeps, is kept of what is left.
-  pub left-keeps :
+  pub left_keeps :
       (P : UnitRecord → Type 0) → ((u : UnitRecord) (h : Holder) → P u → P (held_by u h)) →
       P (left_by (named_drive v).unit (effect_of v).sectors (leaving_of (verdict_of v))) → P (drive_of (world_left v) (names v)).unit
-  left-keeps P kept now =
+  left_keeps P kept now =
       subst P (sym (named_record ∙ unit_left))
       (holder_keeps v.world.controller (block_of v).options.reserve P kept (leaving_of (verdict_of v)) (effect_of v).answer _ now)
 
-  pub block-keeps-record :
+  pub block_keeps_record :
       (n : UnitNumber) → ((names v ≡ n) × WritesRecord v → ⊥) → (drive_of (world_left v) n).unit ≡ (drive_of v.world n).unit
-  block-keeps-record n none = by_leaving (leaving_of (verdict_of v)) refl
+  block_keeps_record n none = by_leaving (leaving_of (verdict_of v)) refl
     where
       other : changes (leaving_of (verdict_of v)) → (drive_of (world_left v) n).unit ≡ (drive_of v.world n).unit
       other does = ap (λ (d : Drive). d.unit) (block_keeps_drive v n (λ named. none (named, does)))
 
       by_leaving : (l : Leaving) → leaving_of (verdict_of v) ≡ l → (drive_of (world_left v) n).unit ≡ (drive_of v.world n).unit
-      by_leaving AsItWas is = record-left n (unit_left ∙ ap (left_then (effect_of v).answer (effect_of v).sectors) is)
+      by_leaving AsItWas is = record_left_lem n (unit_left ∙ ap (left_then (effect_of v).answer (effect_of v).sectors) is)
       by_leaving (HeadsAt c) is = other (rw is tt)
       by_leaving (HeadsAtLastTried s) is = other (rw is tt)
       by_leaving (Fresh g) is = other (rw is tt)
       by_leaving (Mapped bad spare) is = other (rw is tt)
 
   -- A record that does not count as initialized is changed by a successful 87 alone.
-  pub block-keeps-bad :
+  pub block_keeps_bad :
       (n : UnitNumber) → (CountsAsInitialized (drive_of v.world n).unit → ⊥) → ((names v ≡ n) × Renews (asked_of v) → ⊥) →
       (drive_of (world_left v) n).unit ≡ (drive_of v.world n).unit
-  block-keeps-bad n bad none = block-keeps-record n (λ there. by_leaving (leaving_of (verdict_of v)) refl there.0 there.1 (leaving_fits (asked_of v)))
+  block_keeps_bad n bad none = block_keeps_record n (λ there. by_leaving (leaving_of (verdict_of v)) refl there.0 there.1 (leaving_fits (asked_of v)))
     where
       counted : names v ≡ n → CountsAsInitialized (named_drive v).unit → ⊥
       counted named counts = bad (subst (λ (m : UnitNumber). CountsAsInitialized (drive_of v.world m).unit) named counts)
@@ -283,56 +283,56 @@ module _ (first allowance : ℕ) (w : World) where
   -- A host byte that a run does not write is as it was.
   pub run_keeps_host : (x : ℕ) → (RunWrites first allowance w x → ⊥) → get_or world_left_by.host x 0 ≡ get_or w.host x 0
   run_keeps_host x none =
-      run-keeps (λ u. get_or u.host x 0) first allowance w (λ v. WritesHost v x)
+      run_keeps (λ u. get_or u.host x 0) first allowance w (λ v. WritesHost v x)
       (λ v out. block_keeps_host v x (λ there. out ((host_written_exactly v x).1 there))) none
 
   -- So is a byte of the event buffer,
   pub run_keeps_events : (x : ℕ) → (RunWritesEvents first allowance w x → ⊥) → get_or world_left_by.events x 0 ≡ get_or w.events x 0
   run_keeps_events x none =
-      run-keeps (λ u. get_or u.events x 0) first allowance w (λ v. WritesEvents v x)
+      run_keeps (λ u. get_or u.events x 0) first allowance w (λ v. WritesEvents v x)
       (λ v out. block_keeps_events v x (λ there. out ((event_written_exactly v x).1 there))) none
 
   -- a byte of a unit's image,
-  pub run-keeps-image :
+  pub run_keeps_image :
       (n : UnitNumber) (x : ℕ) → (RunWritesImage first allowance w n x → ⊥) →
       get_or (drive_of world_left_by n).image x 0 ≡ get_or (drive_of w n).image x 0
-  run-keeps-image n x none =
-      run-keeps (λ u. get_or (drive_of u n).image x 0) first allowance w (λ v. (names v ≡ n) × WritesImage v x)
-      (λ v out. block-keeps-image v n x (λ there. out (there.0, (image_written_exactly v x).1 there.1))) none
+  run_keeps_image n x none =
+      run_keeps (λ u. get_or (drive_of u n).image x 0) first allowance w (λ v. (names v ≡ n) × WritesImage v x)
+      (λ v out. block_keeps_image v n x (λ there. out (there.0, (image_written_exactly v x).1 there.1))) none
 
   -- a unit's record,
   pub run_keeps_record : (n : UnitNumber) → (RunWritesRecord first allowance w n → ⊥) → (drive_of world_left_by n).unit ≡ (drive_of w n).unit
   run_keeps_record n none =
-      run-keeps (λ u. (drive_of u n).unit) first allowance w (λ v. (names v ≡ n) × WritesRecord v) (λ v out. block-keeps-record v n out)
+      run_keeps (λ u. (drive_of u n).unit) first allowance w (λ v. (names v ≡ n) × WritesRecord v) (λ v out. block_keeps_record v n out)
       none
 
   -- and the whole drive of a unit that no block names.
   pub run_keeps_drive : (n : UnitNumber) → (RunNames first allowance w n → ⊥) → drive_of world_left_by n ≡ drive_of w n
   run_keeps_drive n none =
-      run-keeps (λ u. drive_of u n) first allowance w (λ v. names v ≡ n) (λ v out. block_keeps_drive v n out) none
+      run_keeps (λ u. drive_of u n) first allowance w (λ v. names v ≡ n) (λ v out. block_keeps_drive v n out) none
 
   -- No buffer changes its length.
-  pub run-keeps-lengths :
+  pub run_keeps_lengths :
       (length world_left_by.host ≡ length w.host) ×
       ((length world_left_by.events ≡ length w.events) ×
       ((n : UnitNumber) → length (drive_of world_left_by n).image ≡ length (drive_of w n).image))
-  run-keeps-lengths = (
-    run-keeps (λ u. length u.host) first allowance w (λ v. ⊥) (λ v out. (block-keeps-lengths v).0) (some_none (fetched_by first allowance w)),
+  run_keeps_lengths = (
+    run_keeps (λ u. length u.host) first allowance w (λ v. ⊥) (λ v out. (block_keeps_lengths v).0) (some_none (fetched_by first allowance w)),
     (
-      run-keeps (λ u. length u.events) first allowance w (λ v. ⊥) (λ v out. (block-keeps-lengths v).1.0) (some_none (fetched_by first allowance w)),
+      run_keeps (λ u. length u.events) first allowance w (λ v. ⊥) (λ v out. (block_keeps_lengths v).1.0) (some_none (fetched_by first allowance w)),
       λ n.
-          run-keeps (λ u. length (drive_of u n).image) first allowance w (λ v. ⊥) (λ v out. (block-keeps-lengths v).1.1 n)
+          run_keeps (λ u. length (drive_of u n).image) first allowance w (λ v. ⊥) (λ v out. (block_keeps_lengths v).1.1 n)
           (some_none (fetched_by first allowance w)),
     ),
   )
 
   -- "A record handed in with a geometry outside the limits, or a cylinder of C or more, counts as not initialized; unless an 87
   -- succeeds it is handed back as it came" (01, Geometry); so is one with a table that is not good (02, K5).
-  pub bad-record-handed-back :
+  pub bad_record_handed_back :
       (n : UnitNumber) → (CountsAsInitialized (drive_of w n).unit → ⊥) →
       (Some (λ v. (names v ≡ n) × Renews (asked_of v)) (fetched_by first allowance w) → ⊥) →
       (drive_of world_left_by n).unit ≡ (drive_of w n).unit
-  bad-record-handed-back n bad none =
-      run-hands (λ u. (drive_of u n).unit ≡ (drive_of w n).unit) first allowance w
+  bad_record_handed_back n bad none =
+      run_hands (λ u. (drive_of u n).unit ≡ (drive_of w n).unit) first allowance w
       (λ v. (names v ≡ n) × Renews (asked_of v))
-      (λ v out so. block-keeps-bad v n (rw so bad) out ∙ so) none refl
+      (λ v out so. block_keeps_bad v n (rw so bad) out ∙ so) none refl

@@ -22,7 +22,7 @@ use Rattle.judge.specs.declared.Verdict.TheVariants.{Refused, Do}
 use Rattle.judge.specs.Given.{Asked}
 use Rattle.judge.specs.Verdict.{verdict}
 use Rattle.judge.proofs.Known.{MoverKnown, ReportKnown}
-use Rattle.judge.proofs.LetThrough.{format-reports, handshake-reports, mover_let_through, report_let_through}
+use Rattle.judge.proofs.LetThrough.{format_reports, handshake_reports, mover_let_through, report_let_through}
 use Rattle.transfer.specs.Data.{progress_on}
 use Rattle.transfer.specs.Progress.{progress}
 use Rattle.unit.specs.Standing.{geometry}
@@ -57,9 +57,9 @@ module _ (a : Asked) where
       by_verdict (Do p) is among = by_report p is p.report (report_let_through a p is) among
 
   for_reported : (at x : ℕ) → ReportedFor at x → InReport at (report_of (verdict a)) x
-  for_reported at x (inl (is, among)) = rw (handshake-reports a is) among
+  for_reported at x (inl (is, among)) = rw (handshake_reports a is) among
   for_reported at x (inr (((k, is), (p, do-so)), among)) =
-      subst (λ (r : Report). InReport at r x) (sym (ap report_of do-so ∙ format-reports a k p is do-so)) among
+      subst (λ (r : Report). InReport at r x) (sym (ap report_of do-so ∙ format_reports a k p is do-so)) among
 
   known : MoverKnown a.task (moving_of (verdict a))
   known = by_verdict (verdict a) refl

@@ -23,15 +23,15 @@ use Rattle.unit.specs.Standing.{geometry}
 use Rattle.wire.proofs.Decided.{in_memory?}
 use Rattle.wire.specs.Memory.{InMemory}
 use Rattle.block.specs.Block.{Effect, effect_on}
-use Rattle.block.proofs.PastMarks.{left-alike, one_effect}
+use Rattle.block.proofs.PastMarks.{left_alike, one_effect}
 use Rattle.board.specs.Chain.{Ending, counted, ends, fetched, follows, nothing, ran}
 use Rattle.board.proofs.Chains.{fetched_bad, fetched_spent}
-use Rattle.board.proofs.Runs.{ran-allowance-bad, ran_chain, ran_events_short, ran_first_bad}
+use Rattle.board.proofs.Runs.{ran_allowance_bad, ran_chain, ran_events_short, ran_first_bad}
 use Rattle.demands.specs.Footprint.{Renews, Some, asked_of, names}
 use Rattle.demands.specs.PastMarks.{EndsAlike, SameOn, imaged}
 use Rattle.demands.specs.Visits.{Passes, Visit, block_of, effect_of, fetched_by, onwards, passes?, visits, world_left}
-use Rattle.demands.proofs.Endings.{fetched_step, here, then, visits-step}
-use Rattle.demands.proofs.RunMarks.{block-keeps-geometry}
+use Rattle.demands.proofs.Endings.{fetched_step, here, then, visits_step}
+use Rattle.demands.proofs.RunMarks.{block_keeps_geometry}
 use Rattle.board.specs.World.{World, buffers_of, changed, drive_of, effect_at, unit_at, world_after}
 
 -- ---- a block
@@ -63,7 +63,7 @@ module _ (at i : ℕ) (w : World) (image : List ℕ) where
   alike_on Zero Zero alike =
       let d = w.drive0 in
       let one = one_effect w.controller w.host d.unit d.image image alike at i in
-      let m = left-alike w.controller w.host d.unit d.image image alike at i w.events in
+      let m = left_alike w.controller w.host d.unit d.image image alike at i w.events in
       let z = imaged Zero image w in
       let e = effect_for Zero at i w in
       let kept = (after e.stores (buffers_of z Zero)).image in
@@ -84,7 +84,7 @@ module _ (at i : ℕ) (w : World) (image : List ℕ) where
   alike_on One One alike =
       let d = w.drive1 in
       let one = one_effect w.controller w.host d.unit d.image image alike at i in
-      let m = left-alike w.controller w.host d.unit d.image image alike at i w.events in
+      let m = left_alike w.controller w.host d.unit d.image image alike at i w.events in
       let z = imaged One image w in
       let e = effect_for One at i w in
       let kept = (after e.stores (buffers_of z One)).image in
@@ -126,7 +126,7 @@ module _ (n : UnitNumber) where
   -- What a block leaves is alike in the geometry that its unit has then, for that is the one it had.
   same_then : (v : Visit) (image : List ℕ) → (Renewing v → ⊥) → SameSectors (geometry (drive_of v.world n).unit) (drive_of (world_left v) n).image image → SameOn n (world_left v) image
   same_then v image none alike =
-      subst (λ (g : Geometry). SameSectors g (drive_of (world_left v) n).image image) (sym (block-keeps-geometry v n none)) alike
+      subst (λ (g : Geometry). SameSectors g (drive_of (world_left v) n).image image) (sym (block_keeps_geometry v n none)) alike
 
   by_end :
       (a : BlockAnswer) (k : Bool) (t : Count) (w : World) (image : List ℕ) → SameOn n w image → (next next' : Ending) (rest : List Visit) →
@@ -155,32 +155,32 @@ module _ (n : UnitNumber) where
       let t' = counted t e.sectors in
       follows e.answer b.options.link t' (step.world k) (fetched left t' b.link (step.world k)))
 
-  chain-alike :
+  chain_alike :
       (left : ℕ) (t : Count) (at : ℕ) (w : World) (image : List ℕ) → SameOn n w image → (Some Renewing (visits left t.blocks at w) → ⊥) →
       EndsAlike n (fetched left t at w) (fetched left t at (imaged n image w))
-  chain-alike zero t at w image alike none =
+  chain_alike zero t at w image alike none =
       rw (fetched_spent 0 t at w refl, fetched_spent 0 t at (imaged n image w) refl) (unmoved n _ _ _ w image alike)
-  chain-alike (suc left) t at w image alike none =
+  chain_alike (suc left) t at w image alike none =
       by_cases (in_memory? w.host at 28)
       (λ good.
       let v = here left t at w in
       let t' = then left t at w in
       let step = block_past_marks at t.blocks w image n alike in
       let none_here : Some Renewing (v ∷ onwards (effect_of v).answer (block_of v).options.link (visits left (t.blocks + 1) (block_of v).link (world_left v))) → ⊥ =
-      rw (visits-step left t at w good) at none in
+      rw (visits_step left t at w good) at none in
       let now = same_then v step.left (λ renews. none_here (inl renews)) step.sectors in
       as_told _ _ _ _ (fetched_step left t at w good) (goes_on left t at w image good step)
       (by_end (effect_of v).answer (block_of v).options.link t' (world_left v) step.left now _ _ _ (λ some. none_here (inr some))
-      (λ out. chain-alike left t' (block_of v).link (world_left v) step.left now out)))
+      (λ out. chain_alike left t' (block_of v).link (world_left v) step.left now out)))
       (λ bad.
       rw (fetched_bad (suc left) t at w (omega arith) bad, fetched_bad (suc left) t at (imaged n image w) (omega arith) bad)
       (unmoved n _ _ _ w image alike))
 
-  pub run-past-marks :
+  pub run_past_marks :
       (first allowance : ℕ) (w : World) (image : List ℕ) → SameOn n w image → (Some Renewing (fetched_by first allowance w) → ⊥) →
       EndsAlike n (ran first allowance w) (ran first allowance (imaged n image w))
   unfolding fetched_by
-  run-past-marks first allowance w image alike none =
+  run_past_marks first allowance w image alike none =
       let z = imaged n image w in
       by_cases (dec_lt (length w.events) 512)
       (λ short. rw (ran_events_short first allowance w short, ran_events_short first allowance z short) as_it_was)
@@ -192,9 +192,9 @@ module _ (n : UnitNumber) where
       (λ place.
       let passes : Passes first allowance w = record { events = long; least = good.0; most = good.1; place = place } in
       rw (ran_chain first allowance w long good place, ran_chain first allowance z long good place)
-      (chain-alike allowance nothing first w image alike (rw (if_pos (passes? first allowance w) passes _ _) at none)))
+      (chain_alike allowance nothing first w image alike (rw (if_pos (passes? first allowance w) passes _ _) at none)))
       (λ bad. rw (ran_first_bad first allowance w long good bad, ran_first_bad first allowance z long good bad) as_it_was))
-      (λ bad. rw (ran-allowance-bad first allowance w long bad, ran-allowance-bad first allowance z long bad) as_it_was))
+      (λ bad. rw (ran_allowance_bad first allowance w long bad, ran_allowance_bad first allowance z long bad) as_it_was))
     where
       as_it_was : {answer : RunAnswer} {failed : ℕ} → EndsAlike n (ends answer failed nothing w) (ends answer failed nothing (imaged n image w))
       as_it_was = unmoved n _ _ _ w image alike

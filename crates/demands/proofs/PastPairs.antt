@@ -24,7 +24,7 @@ use Rattle.board.specs.Chain.{Ending, counted, ends, fetched, follows, nothing, 
 use Rattle.board.specs.World.{World, buffers_of, changed, drive_of, effect_at, unit_at, world_after}
 use Rattle.wire.proofs.Decided.{in_memory?}
 use Rattle.demands.specs.Visits.{Visit}
-use Rattle.demands.proofs.Tables.{block-keeps-long, run-keeps-long}
+use Rattle.demands.proofs.Tables.{block_keeps_long, run_keeps_long}
 
 -- Both tables have room for 32 pairs.
 pub record LongTables (w : World) : Type 0 where
@@ -35,13 +35,13 @@ pub record LongTables (w : World) : Type 0 where
 pub after_long : (at i : ℕ) (w : World) → LongTables w → LongTables (world_after at i w)
 after_long at i w long =
     let v : Visit = record { at = at; index = i; world = w } in
-    record { first = block-keeps-long v Zero long.first; second = block-keeps-long v One long.second }
+    record { first = block_keeps_long v Zero long.first; second = block_keeps_long v One long.second }
 
 pub ran_long : (first allowance : ℕ) (w : World) → LongTables w → LongTables (ran first allowance w).world
 ran_long first allowance w long =
     record {
-      first = run-keeps-long first allowance w Zero long.first;
-      second = run-keeps-long first allowance w One long.second;
+      first = run_keeps_long first allowance w Zero long.first;
+      second = run_keeps_long first allowance w One long.second;
     }
 
 -- A world with both tables written anew past the pairs that count, and how a chain ends with the world that it leaves written anew.
@@ -93,17 +93,17 @@ module _ (F G : ℕ → List ℕ → List ℕ) (p : PastPairs F) (q : PastPairs 
 
   -- ---- a chain, and the run
 
-  follows-past :
+  follows_past :
       (a : BlockAnswer) (link : Bool) (t : Count) (w : World) (next next' : Ending) → next' ≡ past_ending F G next →
       follows a link t (past_both F G w) next' ≡ past_ending F G (follows a link t w next)
-  follows-past (Failed r) link t w next next' same = refl
-  follows-past Ended false t w next next' same = refl
-  follows-past Ended true t w next next' same = same
+  follows_past (Failed r) link t w next next' same = refl
+  follows_past Ended false t w next next' same = refl
+  follows_past Ended true t w next next' same = same
 
-  either-past :
+  either_past :
       {P : Type 0} (d : Dec P) (x x' y y' : Ending) → x' ≡ past_ending F G x → y' ≡ past_ending F G y → ite d x' y' ≡ past_ending F G (ite d x y)
-  either-past (yes so) x x' y y' here there = here
-  either-past (no not_so) x x' y y' here there = there
+  either_past (yes so) x x' y y' here there = here
+  either_past (no not_so) x x' y y' here there = there
 
   pub fetched_past :
       (left : ℕ) (t : Count) (at : ℕ) (w : World) → LongTables w → fetched left t at (past_both F G w) ≡ past_ending F G (fetched left t at w)
@@ -115,18 +115,18 @@ module _ (F G : ℕ → List ℕ → List ℕ) (p : PastPairs F) (q : PastPairs 
       let world = world_past w long at t.blocks in
       let t' = counted t (effect_at at t.blocks w).sectors in
       let w' = world_after at t.blocks w in
-      either-past (in_memory? w.host at 28) _ _ _ _
+      either_past (in_memory? w.host at 28) _ _ _ _
       ((λ k.
       let more = counted t (effect k).sectors in
       follows (effect k).answer b.options.link more (world k) (fetched left more b.link (world k)))
-      ∙ follows-past (effect_at at t.blocks w).answer b.options.link t' w' _ _
+      ∙ follows_past (effect_at at t.blocks w).answer b.options.link t' w' _ _
       (fetched_past left t' b.link w' (after_long at t.blocks w long)))
       refl
 
   pub ran_past : (first allowance : ℕ) (w : World) → LongTables w → ran first allowance (past_both F G w) ≡ past_ending F G (ran first allowance w)
   unfolding ran
   ran_past first allowance w long =
-      either-past (dec_lt (length w.events) 512) (ends RunAnswer.EventsShort 0 nothing w) _ _ _ refl
-      (either-past (Dec.not (Dec.and (dec_le 1 allowance) (dec_le allowance 64))) (ends RunAnswer.AllowanceBad 0 nothing w) _ _ _ refl
-      (either-past (Dec.not (in_memory? w.host first 28)) (ends RunAnswer.FirstBad 0 nothing w) _ _ _ refl
+      either_past (dec_lt (length w.events) 512) (ends RunAnswer.EventsShort 0 nothing w) _ _ _ refl
+      (either_past (Dec.not (Dec.and (dec_le 1 allowance) (dec_le allowance 64))) (ends RunAnswer.AllowanceBad 0 nothing w) _ _ _ refl
+      (either_past (Dec.not (in_memory? w.host first 28)) (ends RunAnswer.FirstBad 0 nothing w) _ _ _ refl
       (fetched_past allowance nothing first w long)))

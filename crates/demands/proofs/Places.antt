@@ -21,7 +21,7 @@ use Rattle.geometry.specs.Limits.{Present}
 use Rattle.geometry.specs.SectorBytes.{SectorByte}
 use Rattle.geometry.specs.Answers.{on_drive?}
 use Rattle.geometry.specs.Sectors.{OnDrive, address, address_of, first_byte, place_of}
-use Rattle.geometry.specs.SectorBytes.SectorByte.{data_byte_lem}
+use Rattle.geometry.specs.SectorBytes.SectorByte.{data_at}
 use Rattle.geometry.proofs.Laws.{address_on_drive}
 use Rattle.spares.specs.declared.Track.{Track as OfADrive}
 use Rattle.unit.specs.Landing.{landed, spot_of}
@@ -37,7 +37,7 @@ use Rattle.judge.specs.Fits.{MovingFits}
 use Rattle.judge.specs.Given.{Asked, on}
 use Rattle.judge.specs.Verdict.{verdict}
 use Rattle.judge.proofs.LetThrough.{own_plan, plan_fits}
-use Rattle.judge.proofs.Tasks.{format_16, move_14, move_on, own-unless-held, start_nowhere}
+use Rattle.judge.proofs.Tasks.{format_16, move_14, move_on, own_unless_held, start_nowhere}
 use Rattle.request.specs.declared.Move.{Move}
 use Rattle.request.specs.declared.Shape.{Shape}
 use Rattle.request.specs.declared.Task.{Task}
@@ -48,10 +48,10 @@ use Rattle.transfer.proofs.Wholes.{some_bytes}
 use Rattle.block.specs.Block.{Drive, transfer_of}
 use Rattle.demands.specs.Footprint.{DiskData, asked_of, comes, moving_of, named_drive, names, transfer_by}
 use Rattle.demands.specs.Tables.{NamesSector, ReachedByCommands, Touches}
-use Rattle.demands.specs.Tables.NamesSector.{by_number, on-its-track}
+use Rattle.demands.specs.Tables.NamesSector.{by_number, on_its_track}
 use Rattle.demands.specs.Visits.{Visit, world_left}
 use Rattle.demands.proofs.Fits.{drives_geometry}
-use Rattle.demands.proofs.Keeps.{block-keeps-image}
+use Rattle.demands.proofs.Keeps.{block_keeps_image}
 use Rattle.demands.proofs.Tables.{reached_counts}
 use Rattle.demands.proofs.Written.{image_written_exactly}
 use Rattle.board.specs.World.{drive_of}
@@ -84,7 +84,7 @@ module _ (a : Asked) where
         (t : Task) (r : Refusal) → a.task ≡ t → T (asks_holder t) → by_its_own (on a.controller u a.image t a.host) ≡ Refused r → ⊥
     not_refused t r is asks refused =
         ⊎_elim (λ held. not_so DriveHeld (as_task ∙ held)) (λ own. not_so r (as_task ∙ own ∙ refused))
-        (own-unless-held a.controller u a.image a.host t asks)
+        (own_unless_held a.controller u a.image a.host t asks)
       where
         as_task : verdict a ≡ verdict (on a.controller u a.image t a.host)
         as_task = ap (λ (t : Task). verdict (on a.controller u a.image t a.host)) is
@@ -139,7 +139,7 @@ module _ (a : Asked) where
           record {
             counts = fits.counts;
             address = address k.cylinder k.head j;
-            named = on-its-track k is j less;
+            named = on_its_track k is j less;
             on = record { cylinder = first.cylinder; head = first.head; sector = less };
             here = track_lands u k.cylinder k.head j;
           }
@@ -176,7 +176,7 @@ module _ (a : Asked) where
       record {
         sector = byte / B shape;
         less = omega (arith, (div-lt_iff_lt-mul some).1 moved.moved);
-        byte = subst (λ (g : Geometry). SectorByte g (t.place (byte / B shape)) x) (drives_geometry a) (data_byte_lem among);
+        byte = subst (λ (g : Geometry). SectorByte g (t.place (byte / B shape)) x) (drives_geometry a) (data_at among);
       }
 
   module _ (x : ℕ) (touched : Touches a x) where
@@ -201,12 +201,12 @@ module _ (a : Asked) where
     no_bad_track_touched k bad there = bad_never_reached u stands.counts stands.address stands.on k bad x reaches there
 
 -- A block leaves every byte that an address reaches which meets none that it names: what it writes is of its own sectors.
-pub others-keep-their-bytes :
+pub others_keep_their_bytes :
     (v : Visit) (c : Address) → OnDrive (geometry (named_drive v).unit) c →
     ((b : Address) → NamesSector (asked_of v) b → Meets (named_drive v).unit b c → ⊥) → (x : ℕ) → Reaches (named_drive v).unit c x →
     get_or (drive_of (world_left v) (names v)).image x 0 ≡ get_or (named_drive v).image x 0
-others-keep-their-bytes v c on none x there =
-    block-keeps-image v (names v) x
+others_keep_their_bytes v c on none x there =
+    block_keeps_image v (names v) x
     (λ (same, target).
     let written = (image_written_exactly v x).1 target in
     let meets = touched_meets (asked_of v) x (data_is_touched (asked_of v) (named_drive v) false x written) c on there in

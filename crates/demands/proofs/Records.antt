@@ -40,25 +40,25 @@ use Rattle.board.specs.World.{drive_of}
 use Rattle.demands.specs.Footprint.{Renews, asked_of, moving_of, named_drive, names, transfer_by, verdict_of}
 use Rattle.demands.specs.Visits.{Visit, block_of, effect_of, world_left}
 use Rattle.demands.proofs.Fits.{leaving_fits, moving_fits}
-use Rattle.demands.proofs.Keeps.{block-keeps-bad, left-keeps}
-use Rattle.demands.proofs.Tables.{block_hands, block-keeps-counting}
+use Rattle.demands.proofs.Keeps.{block_keeps_bad, left_keeps}
+use Rattle.demands.proofs.Tables.{block_hands, block_keeps_counting}
 use Rattle.demands.proofs.Written.{sectors_come}
 
 -- ---- a unit's record
 
 -- A block leaves a unit's record as it was, or as one that counts as initialized: one that does not count is changed by an 87 alone.
-pub block-keeps-or-counts :
+pub block_keeps_or_counts :
     (v : Visit) (n : UnitNumber) →
     ((drive_of (world_left v) n).unit ≡ (drive_of v.world n).unit) ⊎ CountsAsInitialized (drive_of (world_left v) n).unit
-block-keeps-or-counts v n =
+block_keeps_or_counts v n =
     by_cases (counts? (drive_of (world_left v) n).unit) (λ counts. inr counts)
     (λ not_it.
-    inl (block-keeps-bad v n (λ before. not_it (block-keeps-counting v n before))
+    inl (block_keeps_bad v n (λ before. not_it (block_keeps_counting v n before))
     (λ there. not_it (subst (λ (m : UnitNumber). CountsAsInitialized (drive_of (world_left v) m).unit) there.0 (renewed there.1)))))
   where
     renewed : Renews (asked_of v) → CountsAsInitialized (drive_of (world_left v) (names v)).unit
     renewed (g, is) =
-        left-keeps v CountsAsInitialized held_counts (rw is (fresh_counts g (subst (LeavingFits (named_drive v).unit) is (leaving_fits (asked_of v)))))
+        left_keeps v CountsAsInitialized held_counts (rw is (fresh_counts g (subst (LeavingFits (named_drive v).unit) is (leaving_fits (asked_of v)))))
 
 -- ---- the tracks of a table
 
@@ -94,10 +94,10 @@ still_low u moved (Mapped bad spare) low (counts, fits) =
     (track_low (geometry u) spare counts.within fits.spare_on))
 
 -- A table of such numbers stays one.
-pub block-keeps-low :
+pub block_keeps_low :
     (v : Visit) (n : UnitNumber) → ((i : ℕ) → get_or (table (drive_of v.world n).unit) i 0 < 2 ^ 32) →
     (i : ℕ) → get_or (table (drive_of (world_left v) n).unit) i 0 < 2 ^ 32
-block-keeps-low v n = block_hands (λ u. Low (table u)) still_low (λ u h low. low) n v
+block_keeps_low v n = block_hands (λ u. Low (table u)) still_low (λ u h low. low) n v
 
 -- ---- the sectors of a block
 

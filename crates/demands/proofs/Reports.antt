@@ -24,7 +24,7 @@ use Rattle.request.specs.declared.Task.TheVariants.{Format}
 use Rattle.request.specs.declared.Track.{Track}
 use Rattle.transfer.specs.Data.{Transfer, data_on, disk_byte, formatting}
 use Rattle.transfer.specs.Stores.{Buffers, Store, after, bytes_from, host_byte}
-use Rattle.transfer.proofs.Stays.{host-bytes-stored, lengths-stay}
+use Rattle.transfer.proofs.Stays.{host_bytes_stored, lengths_stay}
 use Rattle.transfer.proofs.Stores.{after_append}
 use Rattle.unit.specs.Landing.{track_of}
 use Rattle.unit.specs.Standing.{geometry}
@@ -34,7 +34,7 @@ use Rattle.demands.specs.Footprint.{WritesHost, asked_of, moving_of, named_drive
 use Rattle.demands.specs.Visits.{Visit, effect_of, world_left}
 use Rattle.demands.proofs.Keeps.{block_keeps_host, buffers_left}
 use Rattle.demands.proofs.Lists.{Formats, Listed, written_for}
-use Rattle.demands.proofs.Whole.{disk-has-the-hosts-bytes, marked_host, write_ends_whole}
+use Rattle.demands.proofs.Whole.{disk_has_the_hosts_bytes, marked_host, write_ends_whole}
 use Rattle.demands.proofs.Written.{closing_keeps_host, host_written_exactly, performance, performed_then_closed}
 use Rattle.board.specs.World.{buffers_of, drive_of}
 
@@ -51,10 +51,10 @@ module _ (v : Visit) (room : v.at + 28 ≤ length v.world.host) where
 
   -- The words of a plan that was let through, in a row that lies in the block and not in word 1.
   module _ (p : Plan) (is : verdict_of v ≡ Do p) where
-    row-left :
+    row_left :
         (from : ℕ) (ns : List ℕ) → reported at p.report ≡ bytes_from host_byte (at + from) ns → 4 ≤ from → from + length ns ≤ 28 →
         (k : ℕ) → k < length ns → get_or (world_left v).host (at + from + k) 0 ≡ get_or ns k 0
-    row-left from ns row low high k less =
+    row_left from ns row low high k less =
         let b = buffers_of v.world (names v) in
         let x = at + from + k in
         let early = begun at ++ data_on (named_drive v).image (transfer_of v.world.host (named_drive v).unit p.moving) in
@@ -62,16 +62,16 @@ module _ (v : Visit) (room : v.at + 28 ≤ length v.world.host) where
         ap (λ (m : Buffers). get_or m.host x 0) (buffers_left v ∙ performed_then_closed v b)
         ∙ closing_keeps_host v x (after (performance v).stores b) (λ word. omega arith)
         ∙ ap (λ (ss : List Store). get_or (after ss b).host x 0) (performed-so ∙ ap (λ (ss : List Store). early ++ ss) row)
-        ∙ ap (λ (m : Buffers). get_or m.host x 0) (after_append early (bytes_from host_byte (at + from) ns) b ∙ host-bytes-stored ns (at + from) (after early b))
-        ∙ row_stands ns (after early b).host (at + from) k (omega (arith, (lengths-stay early b).0)) less
+        ∙ ap (λ (m : Buffers). get_or m.host x 0) (after_append early (bytes_from host_byte (at + from) ns) b ∙ host_bytes_stored ns (at + from) (after early b))
+        ∙ row_stands ns (after early b).host (at + from) k (omega (arith, (lengths_stay early b).0)) less
 
     pub report_stands : Stands (world_left v).host at p.report
     report_stands = by_report p.report refl
       where
         by_report : (r : Report) → p.report ≡ r → Stands (world_left v).host at r
         by_report Silent so = tt
-        by_report Identity so = row-left 4 identity_bytes (ap (reported at) so) (omega arith) (omega arith)
-        by_report (Formatted n) so = row-left 7 ((n - 1) ∷ 0x00 ∷ n ∷ []) (ap (reported at) so) (omega arith) (omega arith)
+        by_report Identity so = row_left 4 identity_bytes (ap (reported at) so) (omega arith) (omega arith)
+        by_report (Formatted n) so = row_left 7 ((n - 1) ∷ 0x00 ∷ n ∷ []) (ap (reported at) so) (omega arith) (omega arith)
 
 -- ---- a format that is let through
 
@@ -138,10 +138,10 @@ module _ (v : Visit) (room : v.at + 28 ≤ length v.world.host) (formats : Forma
       }
 
   -- Every sector of the track has the bytes that stood at the buffer once 81 00 was stored in the block, and nothing else.
-  pub format_data :
+  pub format_data_lem :
       (x : ℕ) → x < S g * B g →
       get_or (drive_of (world_left v) (names v)).image (disk_byte g t.place x) 0 ≡ get_or (marked_host v) (k.buffer + x % B g) 0
-  format_data x less = rw its_transfer at (disk-has-the-hosts-bytes v _ is_plan writes in_a_row x (rw its_transfer less))
+  format_data_lem x less = rw its_transfer at (disk_has_the_hosts_bytes v _ is_plan writes in_a_row x (rw its_transfer less))
     where
       in_a_row : (i j : ℕ) → i < (transfer_by (asked_of v)).count → j < (transfer_by (asked_of v)).count → (transfer_by (asked_of v)).place i ≡ (transfer_by (asked_of v)).place j → i ≡ j
       in_a_row = rw its_transfer (λ i j i< j< same. omega arith)

@@ -22,8 +22,8 @@ use Rattle.answers.specs.RunNumbers.{block_number}
 use Rattle.answers.specs.Numbers.{refusal_number, run_number}
 use Rattle.board.specs.Chain.{Ending, ends, nothing, ran}
 use Rattle.demands.specs.Visits.{EndsWith, Passes, RunTold, Visit, block_of, effect_of, fetched_by, last_fetched, passes?, sectors_of, visits}
-use Rattle.demands.proofs.Endings.{ToldByBlocks, chain-told, visits_few}
-use Rattle.board.proofs.Runs.{ran-allowance-bad, ran_chain, ran_events_short, ran_first_bad}
+use Rattle.demands.proofs.Endings.{ToldByBlocks, chain_told, visits_few}
+use Rattle.board.proofs.Runs.{ran_allowance_bad, ran_chain, ran_events_short, ran_first_bad}
 use Rattle.board.specs.World.{World}
 
 -- ---- one answer for one last block
@@ -81,7 +81,7 @@ module _ (first allowance : ℕ) (w : World) where
       let some : allowance ≡ suc (allowance - 1) = omega (arith, passes.least) in
       let told : ToldByBlocks end fetches allowance nothing one =
       rw (ran_chain first allowance w passes.events (passes.least, passes.most) passes.place, some)
-      (chain-told (allowance - 1) nothing first w passes.place) in
+      (chain_told (allowance - 1) nothing first w passes.place) in
       let are = fetched_past passes ∙ told.are in
       record {
         answer = rw are told.last;
@@ -92,10 +92,10 @@ module _ (first allowance : ℕ) (w : World) where
       }
 
   -- 0, 4, 5 and 6: such a run has an answer exactly where its last block ends it so. What is left is the allowance less the blocks run.
-  pub answered-exactly :
+  pub answered_exactly :
       Passes first allowance w → (a : RunAnswer) →
       (end.answer ≡ a) ↔ EndsWith a (allowance - length (fetched_by first allowance w)) (last_fetched first allowance w)
-  answered-exactly passes a =
+  answered_exactly passes a =
       let so = (run_told passes).answer in
       (λ is. rw (← is) so, λ ends_so. leaves_one _ _ _ so ∙ sym (leaves_one a _ _ ends_so))
 
@@ -122,7 +122,7 @@ module _ (first allowance : ℕ) (w : World) where
       by_cases (in_memory? w.host first 28)
       (λ place. past (record { events = enough; least = good.0; most = good.1; place = place }))
       (λ out. misplaced enough good out (ran_first_bad first allowance w enough good out)))
-      (λ no-good. bad enough no-good (ran-allowance-bad first allowance w enough no-good)))
+      (λ no-good. bad enough no-good (ran_allowance_bad first allowance w enough no-good)))
 
   answer_of : (e : Ending) → end ≡ e → run_number end.answer ≡ run_number e.answer
   answer_of e is = ap (λ (x : Ending). run_number x.answer) is
@@ -141,11 +141,11 @@ module _ (first allowance : ℕ) (w : World) where
       by_standing (past passes) is = absurd (not_refused passes (omega arith) (omega arith))
 
   -- 2: "allowance 0 or over 64", once check 1 is passed
-  pub answer-2-exactly :
+  pub answer_2_exactly :
       (end.answer ≡ AllowanceBad) ↔ ((512 ≤ length w.events) × ((1 ≤ allowance) × (allowance ≤ 64) → ⊥))
-  answer-2-exactly = (
+  answer_2_exactly = (
     λ is. by_standing stands (ap run_number is),
-    λ case. ap (λ (e : Ending). e.answer) (ran-allowance-bad first allowance w case.0 case.1),
+    λ case. ap (λ (e : Ending). e.answer) (ran_allowance_bad first allowance w case.0 case.1),
   )
     where
       by_standing : Stands → run_number end.answer ≡ 2 → (512 ≤ length w.events) × ((1 ≤ allowance) × (allowance ≤ 64) → ⊥)
@@ -155,10 +155,10 @@ module _ (first allowance : ℕ) (w : World) where
       by_standing (past passes) is = absurd (not_refused passes (omega arith) (omega arith))
 
   -- 3: "first block odd, or not wholly in host memory", once checks 1 and 2 are passed
-  pub answer-3-exactly :
+  pub answer_3_exactly :
       (end.answer ≡ FirstBad) ↔
       ((512 ≤ length w.events) × (((1 ≤ allowance) × (allowance ≤ 64)) × (InMemory w.host first 28 → ⊥)))
-  answer-3-exactly = (
+  answer_3_exactly = (
     λ is. by_standing stands (ap run_number is),
     λ case. ap (λ (e : Ending). e.answer) (ran_first_bad first allowance w case.0 case.1.0 case.1.1),
   )
@@ -173,9 +173,9 @@ module _ (first allowance : ℕ) (w : World) where
 
   -- "A refused run changes nothing" (00, demand 1): with answer 1, 2 or 3 the world is as it was, records included, and nothing is
   -- counted.
-  pub refused-run-changes-nothing :
+  pub refused_run_changes_nothing :
       1 ≤ run_number end.answer → run_number end.answer ≤ 3 → end ≡ ends end.answer 0 nothing w
-  refused-run-changes-nothing least most = by_standing stands
+  refused_run_changes_nothing least most = by_standing stands
     where
       unchanged : (a : RunAnswer) → end ≡ ends a 0 nothing w → end ≡ ends end.answer 0 nothing w
       unchanged a e = e ∙ ap (λ (x : RunAnswer). ends x 0 nothing w) (sym (ap (λ (x : Ending). x.answer) e))

@@ -13,9 +13,9 @@ pub answer_in_range : (first allowance : ℕ) (w : World) → run_number (ran fi
 answer_in_range first allowance w = answers_in_range (ran first allowance w).answer
 
 -- The failed number is 0 or one of 10 to 20 and 22 to 24, whatever the world, the first address and the allowance.
-pub failed-in-range :
+pub failed_in_range :
     (first allowance : ℕ) (w : World) → ((ran first allowance w).failed ≡ 0) ⊎ OfABlock (ran first allowance w).failed
-failed-in-range first allowance w =
+failed_in_range first allowance w =
     ⊎_elim (λ none. inl none)
     (λ (v, (r, (number, failed))). inr (rw number (refusals_in_range r)))
     (failed_number first allowance w)

@@ -17,7 +17,7 @@ use Rattle.geometry.specs.Limits.{Within}
 use Rattle.unit.specs.declared.Holder.{Holder}
 use Rattle.unit.specs.Holding.{reserved_by}
 use Rattle.unit.specs.Standing.{CountsAsInitialized, UnitRecord, fresh, geometry, held_by, pairs, table}
-use Rattle.unit.proofs.Kept.{fresh_counts, mapped-counts, moved_counts}
+use Rattle.unit.proofs.Kept.{fresh_counts, mapped_counts, moved_counts}
 use Rattle.wire.proofs.Promises.{never}
 use Rattle.judge.specs.declared.Moving.TheVariants.{Nothing}
 use Rattle.judge.specs.declared.Leaving.{Leaving}
@@ -31,7 +31,7 @@ use Rattle.judge.specs.Fits.{LeavingFits}
 use Rattle.judge.specs.Given.{on}
 use Rattle.judge.specs.Verdict.{verdict}
 use Rattle.judge.proofs.LetThrough.{own_plan}
-use Rattle.judge.proofs.Tasks.{own-unless-held, shape_misplaced}
+use Rattle.judge.proofs.Tasks.{own_unless_held, shape_misplaced}
 use Rattle.iopb.specs.Ask.{pair_of, shape_at, task_of}
 use Rattle.request.specs.declared.Shape.{Shape}
 use Rattle.request.specs.declared.Shape.TheVariants.{Given, Misplaced}
@@ -52,7 +52,7 @@ use Rattle.demands.specs.Tables.{AddsItsPair, Maps, ReachedByCommands}
 use Rattle.demands.specs.Tables.ReachedByCommands.{by_85, by_87, heads_moved, holder_changed}
 use Rattle.demands.specs.Visits.{Visit, block_of, effect_of, fetched_by, world_left}
 use Rattle.demands.proofs.Fits.{leaving_fits}
-use Rattle.demands.proofs.Keeps.{block_keeps_drive, left-keeps, left_then, named_record, run-hands, run-keeps, same_unit?, some_none, unit_left}
+use Rattle.demands.proofs.Keeps.{block_keeps_drive, left_keeps, left_then, named_record, run_hands, run_keeps, same_unit?, some_none, unit_left}
 use Rattle.demands.proofs.Written.{effect_is}
 use Rattle.board.specs.World.{World, drive_of}
 
@@ -97,7 +97,7 @@ module _
         by_cases (same_unit? (names v) n)
         (λ named.
         subst (λ (m : UnitNumber). P (drive_of (world_left v) m).unit) named
-        (left-keeps v P with-holder
+        (left_keeps v P with-holder
         (kept (named_drive v).unit (effect_of v).sectors (leaving_of (verdict_of v))
         (subst (λ (m : UnitNumber). P (drive_of v.world m).unit) (sym named) now) (leaving_fits (asked_of v)))))
         (λ other. subst P (sym (ap (λ (d : Drive). d.unit) (block_keeps_drive v n other))) now)
@@ -105,36 +105,36 @@ module _
     -- and so does a run.
     run_hands_records : (first allowance : ℕ) (w : World) (n : UnitNumber) → P (drive_of w n).unit → P (drive_of (ran first allowance w).world n).unit
     run_hands_records first allowance w n now =
-        run-hands (λ x. P (drive_of x n).unit) first allowance w (λ v. ⊥) (λ v out so. block_hands n v so) (some_none (fetched_by first allowance w)) now
+        run_hands (λ x. P (drive_of x n).unit) first allowance w (λ v. ⊥) (λ v out so. block_hands n v so) (some_none (fetched_by first allowance w)) now
 
 -- A unit that counts as initialized still does after every block and every run.
-pub block-keeps-counting :
+pub block_keeps_counting :
     (v : Visit) (n : UnitNumber) → CountsAsInitialized (drive_of v.world n).unit → CountsAsInitialized (drive_of (world_left v) n).unit
-block-keeps-counting v n = block_hands CountsAsInitialized still_counts held_counts n v
+block_keeps_counting v n = block_hands CountsAsInitialized still_counts held_counts n v
 
-pub run-keeps-counting :
+pub run_keeps_counting :
     (first allowance : ℕ) (w : World) (n : UnitNumber) → CountsAsInitialized (drive_of w n).unit →
     CountsAsInitialized (drive_of (ran first allowance w).world n).unit
-run-keeps-counting = run_hands_records CountsAsInitialized still_counts held_counts
+run_keeps_counting = run_hands_records CountsAsInitialized still_counts held_counts
 
 -- A table keeps its length.
-pub block-keeps-long :
+pub block_keeps_long :
     (v : Visit) (n : UnitNumber) → length (table (drive_of v.world n).unit) ≡ 64 → length (table (drive_of (world_left v) n).unit) ≡ 64
-block-keeps-long v n = block_hands (λ u. length (table u) ≡ 64) still_long (λ u h now. now) n v
+block_keeps_long v n = block_hands (λ u. length (table u) ≡ 64) still_long (λ u h now. now) n v
 
-pub run-keeps-long :
+pub run_keeps_long :
     (first allowance : ℕ) (w : World) (n : UnitNumber) → length (table (drive_of w n).unit) ≡ 64 →
     length (table (drive_of (ran first allowance w).world n).unit) ≡ 64
-run-keeps-long = run_hands_records (λ u. length (table u) ≡ 64) still_long (λ u h now. now)
+run_keeps_long = run_hands_records (λ u. length (table u) ≡ 64) still_long (λ u h now. now)
 
 -- A table is changed by a successful 85 or 87 for its unit and by nothing else: heads move over it, and refused blocks leave it.
 abbrev pairs_and_tracks : UnitRecord → ℕ × List ℕ
 pairs_and_tracks u = (pairs u, table u)
 
-pub block-keeps-table :
+pub block_keeps_table :
     (v : Visit) (n : UnitNumber) → ((names v ≡ n) × (Renews (asked_of v) ⊎ Maps (asked_of v)) → ⊥) →
     pairs_and_tracks (drive_of (world_left v) n).unit ≡ pairs_and_tracks (drive_of v.world n).unit
-block-keeps-table v n none =
+block_keeps_table v n none =
     by_cases (same_unit? (names v) n) here (λ other. ap (λ (d : Drive). pairs_and_tracks d.unit) (block_keeps_drive v n other))
   where
     kept :
@@ -149,16 +149,16 @@ block-keeps-table v n none =
     here : names v ≡ n → pairs_and_tracks (drive_of (world_left v) n).unit ≡ pairs_and_tracks (drive_of v.world n).unit
     here named =
         subst (λ (m : UnitNumber). pairs_and_tracks (drive_of (world_left v) m).unit ≡ pairs_and_tracks (drive_of v.world m).unit) named
-        (left-keeps v (λ (u : UnitRecord). pairs_and_tracks u ≡ pairs_and_tracks (named_drive v).unit) (λ u h now. now)
+        (left_keeps v (λ (u : UnitRecord). pairs_and_tracks u ≡ pairs_and_tracks (named_drive v).unit) (λ u h now. now)
         (kept (leaving_of (verdict_of v)) refl (λ does. none (named, does))))
 
-pub run-keeps-table :
+pub run_keeps_table :
     (first allowance : ℕ) (w : World) (n : UnitNumber) →
     (Some (λ v. (names v ≡ n) × (Renews (asked_of v) ⊎ Maps (asked_of v))) (fetched_by first allowance w) → ⊥) →
     pairs_and_tracks (drive_of (ran first allowance w).world n).unit ≡ pairs_and_tracks (drive_of w n).unit
-run-keeps-table first allowance w n none =
-    run-keeps (λ x. pairs_and_tracks (drive_of x n).unit) first allowance w (λ v. (names v ≡ n) × (Renews (asked_of v) ⊎ Maps (asked_of v)))
-    (λ v out. block-keeps-table v n out) none
+run_keeps_table first allowance w n none =
+    run_keeps (λ x. pairs_and_tracks (drive_of x n).unit) first allowance w (λ v. (names v ≡ n) × (Renews (asked_of v) ⊎ Maps (asked_of v)))
+    (λ v out. block_keeps_table v n out) none
 
 -- ---- the tables that the commands reach
 
@@ -187,7 +187,7 @@ module _ (v : Visit) (is : (block_of v).command ≡ 0x87) (ended : (effect_of v)
           absurd
           (⊎_elim (λ held. not_refused DriveHeld (as_task ∙ held))
           (λ own. not_refused UibMisplaced (as_task ∙ own ∙ shape_misplaced v.world.controller (named_drive v).unit (asked_of v).image v.world.host))
-          (own-unless-held v.world.controller (named_drive v).unit (asked_of v).image v.world.host (Initialize Misplaced) tt))
+          (own_unless_held v.world.controller (named_drive v).unit (asked_of v).image v.world.host (Initialize Misplaced) tt))
         where
           as_task : verdict_of v ≡ verdict (on v.world.controller (named_drive v).unit (asked_of v).image (Initialize Misplaced) v.world.host)
           as_task =
@@ -224,7 +224,7 @@ module _ (v : Visit) (is : (block_of v).command ≡ 0x87) (ended : (effect_of v)
 pub reached_counts : (u : UnitRecord) → ReachedByCommands u → CountsAsInitialized u
 reached_counts _ (by_87 g within) = fresh_counts g within
 reached_counts _ (by_85 u bad spare before fits) =
-    mapped-counts u (reached_counts u before) bad spare fits.bad_on fits.spare_on fits.free fits.room
+    mapped_counts u (reached_counts u before) bad spare fits.bad_on fits.spare_on fits.free fits.room
 reached_counts _ (heads_moved u c before on) = moved_counts u (reached_counts u before) c on
 reached_counts _ (holder_changed u h before) = held_counts u h (reached_counts u before)
 
@@ -233,23 +233,23 @@ reached_counts _ (holder_changed u h before) = held_counts u h (reached_counts u
 abbrev ReachedWhereCounting : UnitRecord → Type 0
 ReachedWhereCounting u = CountsAsInitialized u → ReachedByCommands u
 
-still-reached :
+still_reached :
     (u : UnitRecord) (moved : ℕ) (l : Leaving) → ReachedWhereCounting u → LeavingFits u l → ReachedWhereCounting (left_by u moved l)
-still-reached u moved AsItWas now fits counts = now counts
-still-reached u moved (HeadsAt c) now fits counts = heads_moved u c (now fits.0) fits.1
-still-reached u moved (HeadsAtLastTried s) now fits counts = heads_moved u _ (now fits.0) counts.cylinder
-still-reached u moved (Fresh g) now fits counts = by_87 g fits
-still-reached u moved (Mapped bad spare) now fits counts = by_85 u bad spare (now fits.0) fits.1
+still_reached u moved AsItWas now fits counts = now counts
+still_reached u moved (HeadsAt c) now fits counts = heads_moved u c (now fits.0) fits.1
+still_reached u moved (HeadsAtLastTried s) now fits counts = heads_moved u _ (now fits.0) counts.cylinder
+still_reached u moved (Fresh g) now fits counts = by_87 g fits
+still_reached u moved (Mapped bad spare) now fits counts = by_85 u bad spare (now fits.0) fits.1
 
 held_reached : (u : UnitRecord) (h : Holder) → ReachedWhereCounting u → ReachedWhereCounting (held_by u h)
 held_reached u h now counts =
     holder_changed u h (now (record { said = counts.said; within = counts.within; cylinder = counts.cylinder; good = counts.good }))
 
-pub block-reaches :
+pub block_reaches :
     (v : Visit) (n : UnitNumber) → ReachedWhereCounting (drive_of v.world n).unit → ReachedWhereCounting (drive_of (world_left v) n).unit
-block-reaches v n = block_hands ReachedWhereCounting still-reached held_reached n v
+block_reaches v n = block_hands ReachedWhereCounting still_reached held_reached n v
 
-pub run-reaches :
+pub run_reaches :
     (first allowance : ℕ) (w : World) (n : UnitNumber) → ReachedWhereCounting (drive_of w n).unit →
     ReachedWhereCounting (drive_of (ran first allowance w).world n).unit
-run-reaches = run_hands_records ReachedWhereCounting still-reached held_reached
+run_reaches = run_hands_records ReachedWhereCounting still_reached held_reached

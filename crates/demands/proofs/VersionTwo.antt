@@ -18,8 +18,8 @@ use Rattle.judge.specs.declared.Verdict.TheVariants.{Refused, Do}
 use Rattle.judge.proofs.LetThrough.{quiet_let_through}
 use Rattle.transfer.specs.Data.{Transfer, data_on, disk_byte, progress_on}
 use Rattle.transfer.specs.Stores.{Buffers, Store, after, bytes_from}
-use Rattle.transfer.proofs.Earlier.{host-has-byte}
-use Rattle.transfer.proofs.Stays.{host-bytes-stored, lengths-stay}
+use Rattle.transfer.proofs.Earlier.{host_has_byte}
+use Rattle.transfer.proofs.Stays.{host_bytes_stored, lengths_stay}
 use Rattle.transfer.proofs.Stores.{after_append}
 use Rattle.block.specs.Block.{begun, reported, transfer_of}
 use Rattle.block.specs.Steps.{acted_on}
@@ -62,10 +62,10 @@ module _ (v : Visit) (reads : (transfer_by (asked_of v)).to_host ≡ true) where
   count_says = sym (sectors_come v)
 
   -- Nothing of the rest: a host byte that is neither in word 1 nor one of the bytes that came is as it was.
-  pub nothing-of-the-rest :
+  pub nothing_of_the_rest :
       (x : ℕ) → (Among (v.at + 2) 2 x → ⊥) → (HostData (asked_of v) (named_drive v) true x → ⊥) →
       get_or (world_left v).host x 0 ≡ get_or v.world.host x 0
-  nothing-of-the-rest x outside other = block_keeps_host v x (λ there. none ((host_written_exactly v x).1 there))
+  nothing_of_the_rest x outside other = block_keeps_host v x (λ there. none ((host_written_exactly v x).1 there))
     where
       none : WritesHost v x → ⊥
       none (status_word word) = outside word
@@ -75,9 +75,9 @@ module _ (v : Visit) (reads : (transfer_by (asked_of v)).to_host ≡ true) where
   -- The disk's bytes for the sectors that came: byte k of them stands in host memory at its place in the pieces, where no later
   -- byte takes that place and word 1 does not lie there.
   module _
-      (k : ℕ) (came : k < (comes (asked_of v) (named_drive v)).sectors * B t.geometry) (inside : t.host_byte k < length v.world.host)
-      (last : (i : ℕ) → k < i → i < (comes (asked_of v) (named_drive v)).sectors * B t.geometry → t.host_byte i ≡ t.host_byte k → ⊥)
-      (outside : Among (v.at + 2) 2 (t.host_byte k) → ⊥) where
+      (k : ℕ) (came : k < (comes (asked_of v) (named_drive v)).sectors * B t.geometry) (inside : t.host_at k < length v.world.host)
+      (last : (i : ℕ) → k < i → i < (comes (asked_of v) (named_drive v)).sectors * B t.geometry → t.host_at i ≡ t.host_at k → ⊥)
+      (outside : Among (v.at + 2) 2 (t.host_at k) → ⊥) where
     abbrev marked : Buffers → Buffers
     marked b = after (begun v.at) b
 
@@ -90,24 +90,24 @@ module _ (v : Visit) (reads : (transfer_by (asked_of v)).to_host ≡ true) where
         ∙ append-nil _
         ∙ ap (λ (verd : Verdict). begun v.at ++ data_on (named_drive v).image (transfer_of v.world.host (named_drive v).unit (moving_of verd))) (sym accepted.judged_so)
 
-    data-there :
+    data_there :
         (b : Buffers) → b.image ≡ (named_drive v).image → length b.host ≡ length v.world.host →
-        get_or (after (effect_of v).stores b).host (t.host_byte k) 0 ≡ get_or (named_drive v).image (disk_byte t.geometry t.place k) 0
-    data-there b same long =
+        get_or (after (effect_of v).stores b).host (t.host_at k) 0 ≡ get_or (named_drive v).image (disk_byte t.geometry t.place k) 0
+    data_there b same long =
         let data-stores = data_on (named_drive v).image t in
-        let marked-image : (marked b).image ≡ (named_drive v).image = ap (λ (x : Buffers). x.image) (host-bytes-stored (0x81 ∷ 0x00 ∷ []) (v.at + 2) b) ∙ same in
+        let marked-image : (marked b).image ≡ (named_drive v).image = ap (λ (x : Buffers). x.image) (host_bytes_stored (0x81 ∷ 0x00 ∷ []) (v.at + 2) b) ∙ same in
         let amount : (comes (asked_of v) (named_drive v)).sectors ≡ (progress_on (marked b).image t).sectors =
         ap (λ (i : List ℕ). (progress_on i t).sectors) (sym marked-image) in
-        ap (λ (x : Buffers). get_or x.host (t.host_byte k) 0) (performed_then_closed v b)
-        ∙ closing_keeps_host v (t.host_byte k) (after (performance v).stores b) outside
-        ∙ ap (λ (ss : List Store). get_or (after ss b).host (t.host_byte k) 0) stores_are
-        ∙ ap (λ (x : Buffers). get_or x.host (t.host_byte k) 0) (after_append (begun v.at) data-stores b)
-        ∙ ap (λ (i : List ℕ). get_or (after (data_on i t) (marked b)).host (t.host_byte k) 0) (sym marked-image)
-        ∙ host-has-byte (marked b) t reads k (rw amount at came) (omega (arith, lengths-stay (begun v.at) b))
+        ap (λ (x : Buffers). get_or x.host (t.host_at k) 0) (performed_then_closed v b)
+        ∙ closing_keeps_host v (t.host_at k) (after (performance v).stores b) outside
+        ∙ ap (λ (ss : List Store). get_or (after ss b).host (t.host_at k) 0) stores_are
+        ∙ ap (λ (x : Buffers). get_or x.host (t.host_at k) 0) (after_append (begun v.at) data-stores b)
+        ∙ ap (λ (i : List ℕ). get_or (after (data_on i t) (marked b)).host (t.host_at k) 0) (sym marked-image)
+        ∙ host_has_byte (marked b) t reads k (rw amount at came) (omega (arith, lengths_stay (begun v.at) b))
         (λ i later less. last i later (rw amount less))
         ∙ ap (λ (i : List ℕ). get_or i (disk_byte t.geometry t.place k) 0) marked-image
 
-    pub disk-byte-is-there :
-        get_or (world_left v).host (t.host_byte k) 0 ≡ get_or (named_drive v).image (disk_byte t.geometry t.place k) 0
-    disk-byte-is-there =
-        ap (λ (x : Buffers). get_or x.host (t.host_byte k) 0) (buffers_left v) ∙ data-there (buffers_of v.world (names v)) refl refl
+    pub disk_byte_is_there :
+        get_or (world_left v).host (t.host_at k) 0 ≡ get_or (named_drive v).image (disk_byte t.geometry t.place k) 0
+    disk_byte_is_there =
+        ap (λ (x : Buffers). get_or x.host (t.host_at k) 0) (buffers_left v) ∙ data_there (buffers_of v.world (names v)) refl refl

@@ -22,8 +22,8 @@ use Rattle.request.specs.declared.Task.{Task}
 use Rattle.transfer.specs.Data.{Transfer, data_on, disk_byte, progress_on}
 use Rattle.transfer.specs.Progress.{Progress}
 use Rattle.transfer.specs.Stores.{Buffers, Store, after}
-use Rattle.transfer.proofs.Earlier.{afterwards, image-has-all}
-use Rattle.transfer.proofs.Stays.{host-bytes-stored}
+use Rattle.transfer.proofs.Earlier.{afterwards, image_has_all}
+use Rattle.transfer.proofs.Stays.{host_bytes_stored}
 use Rattle.transfer.proofs.Stops.{whole_unheeding}
 use Rattle.transfer.proofs.Stores.{after_append}
 use Rattle.block.specs.Block.{Effect, begun, reported, transfer_of}
@@ -32,7 +32,7 @@ use Rattle.block.proofs.Effects.{reported_row}
 use Rattle.demands.specs.Footprint.{asked_of, moving_of, named_drive, names, transfer_by, verdict_of}
 use Rattle.unit.specs.Standing.{geometry}
 use Rattle.demands.specs.Visits.{Visit, block_of, effect_of, world_left}
-use Rattle.demands.proofs.Fits.{all-in-image}
+use Rattle.demands.proofs.Fits.{all_in_image}
 use Rattle.demands.proofs.Keeps.{buffers_left}
 use Rattle.demands.proofs.Written.{closing_keeps_image, effect_is, performance, performed_then_closed, sectors_come}
 use Rattle.board.specs.World.{buffers_of, drive_of}
@@ -80,16 +80,16 @@ module _ (v : Visit) (plan : Plan) (accepted : verdict_of v ≡ Do plan) (writes
       ∙ closing_keeps_image v (after (performance v).stores b)
       ∙ ap (λ (ss : List Store). (after ss b).image) performed-so
       ∙ ap (λ (m : Buffers). m.image)
-      (after_append early row b ∙ ap (λ (ss : List Store). after ss (after early b)) words.1.1 ∙ host-bytes-stored words.1.0 words.0 (after early b))
+      (after_append early row b ∙ ap (λ (ss : List Store). after ss (after early b)) words.1.1 ∙ host_bytes_stored words.1.0 words.0 (after early b))
       ∙ ap (λ (m : Buffers). m.image) (after_append (begun v.at) data-stores b)
-      ∙ ap (λ (m : Buffers). (after data-stores m).image) (host-bytes-stored (0x81 ∷ 0x00 ∷ []) (v.at + 2) b)
+      ∙ ap (λ (m : Buffers). (after data-stores m).image) (host_bytes_stored (0x81 ∷ 0x00 ∷ []) (v.at + 2) b)
 
-  pub disk-has-the-hosts-bytes :
+  pub disk_has_the_hosts_bytes :
       ((i j : ℕ) → i < t.count → j < t.count → t.place i ≡ t.place j → i ≡ j) →
       (k : ℕ) → k < t.count * B t.geometry →
-      get_or (drive_of (world_left v) (names v)).image (disk_byte t.geometry t.place k) 0 ≡ get_or (marked_host v) (t.host_byte k) 0
-  disk-has-the-hosts-bytes differ k less =
-      rw image_left (image-has-all marked t writes ignores (λ j j<. (all-in-image (asked_of v) j j<).0) differ k less)
+      get_or (drive_of (world_left v) (names v)).image (disk_byte t.geometry t.place k) 0 ≡ get_or (marked_host v) (t.host_at k) 0
+  disk_has_the_hosts_bytes differ k less =
+      rw image_left (image_has_all marked t writes ignores (λ j j<. (all_in_image (asked_of v) j j<).0) differ k less)
 
 -- ---- by command
 
@@ -128,9 +128,9 @@ module _ (v : Visit) (plan : Plan) (accepted : verdict_of v ≡ Do plan) where
   ended_with : (n : ℕ) → Writing n → ((effect_of v).answer ≡ Ended) × ((effect_of v).sectors ≡ n)
   ended_with n (out, all) = let ends = write_ends_whole v plan accepted out in (ends.0, ends.1 ∙ all)
 
-  pub accepted-write-is-whole :
+  pub accepted_write_is_whole :
       ((block_of v).command ≡ 0x82) ⊎ ((block_of v).command ≡ 0xa2) → ((effect_of v).answer ≡ Ended) × ((effect_of v).sectors ≡ (block_of v).count)
-  accepted-write-is-whole is = ended_with _ (by_82_or_A2 is)
+  accepted_write_is_whole is = ended_with _ (by_82_or_A2 is)
 
   -- "8C counts S" (01, One run)
   pub accepted_8C_counts_S : (block_of v).command ≡ 0x8c → ((effect_of v).answer ≡ Ended) × ((effect_of v).sectors ≡ S (geometry (named_drive v).unit))

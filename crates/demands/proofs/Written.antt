@@ -24,7 +24,7 @@ use Rattle.judge.specs.declared.Verdict.TheVariants.{Refused, Do}
 use Rattle.transfer.specs.Data.{Transfer, data_on, disk_byte, move_at, progress_on}
 use Rattle.transfer.specs.Progress.{progress}
 use Rattle.transfer.specs.Stores.{Buffers, ByteAt, Store, after, bytes_from, event_byte, host_byte, image_byte, up_to}
-use Rattle.transfer.proofs.Stays.{append_stored, bytes-stored, image_stays, stored_of_append, stored-of-bytes, stored-of-upTo, unstored_stays, up_to_stored}
+use Rattle.transfer.proofs.Stays.{append_stored, bytes_stored, image_stays, stored_of_append, stored_of_bytes, stored_of_up_to, unstored_stays, up_to_stored}
 use Rattle.transfer.proofs.Stores.{after_append}
 use Rattle.block.specs.Block.{Drive, Effect, begun, finish, reported, transfer_of}
 use Rattle.block.specs.Events.{entry}
@@ -58,25 +58,25 @@ module _ (c d : ByteAt) (same : c ≡ d) where
 
 -- Bytes in a row, of a cell of the same kind and of another.
 in_row : (cell : ℕ → ByteAt) (at : ℕ) (ns : List ℕ) (x : ℕ) → Among at (length ns) x → Stored (bytes_from cell at ns) (cell x)
-in_row cell at ns x among = bytes-stored cell at ns (cell x) (x, (among, refl))
+in_row cell at ns x among = bytes_stored cell at ns (cell x) (x, (among, refl))
 
 pub of_host_row : (at : ℕ) (ns : List ℕ) (x : ℕ) → Stored (bytes_from host_byte at ns) (host_byte x) → Among at (length ns) x
 unfolding index
 of_host_row at ns x there =
-    let y = stored-of-bytes host_byte at ns (host_byte x) there in
+    let y = stored_of_bytes host_byte at ns (host_byte x) there in
     let same = one_index (host_byte x) (host_byte y.0) y.1.1 in
     (omega (arith, y.1.0, same), omega (arith, y.1.0, same))
 
 of_event_row : (at : ℕ) (ns : List ℕ) (x : ℕ) → Stored (bytes_from event_byte at ns) (event_byte x) → Among at (length ns) x
 unfolding index
 of_event_row at ns x there =
-    let y = stored-of-bytes event_byte at ns (event_byte x) there in
+    let y = stored_of_bytes event_byte at ns (event_byte x) there in
     let same = one_index (event_byte x) (event_byte y.0) y.1.1 in
     (omega (arith, y.1.0, same), omega (arith, y.1.0, same))
 
 other_kind : (cell : ℕ → ByteAt) (at : ℕ) (ns : List ℕ) (c : ByteAt) → ((x : ℕ) → kind c ≡ kind (cell x) → ⊥) → Stored (bytes_from cell at ns) c → ⊥
 other_kind cell at ns c apart there =
-    let y = stored-of-bytes cell at ns c there in
+    let y = stored_of_bytes cell at ns c there in
     apart y.0 (one_kind c (cell y.0) y.1.1)
 
 -- ---- the words that are reported
@@ -105,30 +105,30 @@ module _ (image : List ℕ) (t : Transfer) where
   abbrev all : ℕ
   all = (progress_on image t).sectors * B t.geometry
 
-  host-data :
-      (x : ℕ) → Stored (data_on image t) (host_byte x) → (t.to_host ≡ true) × ((k : ℕ) × ((k < all) × (t.host_byte k ≡ x)))
+  host_data :
+      (x : ℕ) → Stored (data_on image t) (host_byte x) → (t.to_host ≡ true) × ((k : ℕ) × ((k < all) × (t.host_at k ≡ x)))
   unfolding data_on index kind
-  host-data x there =
-      let s = stored-of-upTo all (move_at t) (host_byte x) there in
+  host_data x there =
+      let s = stored_of_up_to all (move_at t) (host_byte x) there in
       by_way t.to_host refl s.0 s.1.0 s.1.1
     where
       by_way :
           (way : Bool) → t.to_host ≡ way → (k : ℕ) → k < all → (move_at t k).to ≡ host_byte x →
-          (t.to_host ≡ true) × ((k : ℕ) × ((k < all) × (t.host_byte k ≡ x)))
-      by_way true is k less same = (is, (k, (less, one_index (host_byte (t.host_byte k)) (host_byte x) (rw is at same))))
+          (t.to_host ≡ true) × ((k : ℕ) × ((k < all) × (t.host_at k ≡ x)))
+      by_way true is k less same = (is, (k, (less, one_index (host_byte (t.host_at k)) (host_byte x) (rw is at same))))
       by_way false is k less same =
           absurd (never (sym (one_kind (image_byte _) (host_byte x) (rw is at same))))
 
-  data_host : (x : ℕ) → t.to_host ≡ true → (k : ℕ) × ((k < all) × (t.host_byte k ≡ x)) → Stored (data_on image t) (host_byte x)
+  data_host : (x : ℕ) → t.to_host ≡ true → (k : ℕ) × ((k < all) × (t.host_at k ≡ x)) → Stored (data_on image t) (host_byte x)
   unfolding data_on
   data_host x to s = up_to_stored all (move_at t) (host_byte x) (s.0, (s.1.0, rw to (ap host_byte s.1.1)))
 
-  disk-data :
+  disk_data :
       (x : ℕ) → Stored (data_on image t) (image_byte x) →
       (t.to_host ≡ false) × ((k : ℕ) × ((k < all) × (disk_byte t.geometry t.place k ≡ x)))
   unfolding data_on index kind
-  disk-data x there =
-      let s = stored-of-upTo all (move_at t) (image_byte x) there in
+  disk_data x there =
+      let s = stored_of_up_to all (move_at t) (image_byte x) there in
       by_way t.to_host refl s.0 s.1.0 s.1.1
     where
       by_way :
@@ -138,16 +138,16 @@ module _ (image : List ℕ) (t : Transfer) where
           (is, (k, (less, one_index (image_byte (disk_byte t.geometry t.place k)) (image_byte x) (rw is at same))))
       by_way true is k less same = absurd (never (one_kind (host_byte _) (image_byte x) (rw is at same)))
 
-  pub data-disk :
+  pub data_disk :
       (x : ℕ) → t.to_host ≡ false → (k : ℕ) × ((k < all) × (disk_byte t.geometry t.place k ≡ x)) →
       Stored (data_on image t) (image_byte x)
   unfolding data_on
-  data-disk x from s = up_to_stored all (move_at t) (image_byte x) (s.0, (s.1.0, rw from (ap image_byte s.1.1)))
+  data_disk x from s = up_to_stored all (move_at t) (image_byte x) (s.0, (s.1.0, rw from (ap image_byte s.1.1)))
 
   no_event : (x : ℕ) → Stored (data_on image t) (event_byte x) → ⊥
   unfolding data_on kind
   no_event x there =
-      let s = stored-of-upTo all (move_at t) (event_byte x) there in
+      let s = stored_of_up_to all (move_at t) (event_byte x) there in
       by_way t.to_host refl s.0 s.1.1
     where
       by_way : (way : Bool) → t.to_host ≡ way → (k : ℕ) → (move_at t k).to ≡ event_byte x → ⊥
@@ -350,7 +350,7 @@ module _ (v : Visit) where
             (λ rest.
             ⊎_elim
             (λ d.
-            let k = host-data (named_drive v).image (transfer_by (asked_of v)) x d in
+            let k = host_data (named_drive v).image (transfer_by (asked_of v)) x d in
             moved (record { goes = k.0; byte = k.1.0; moved = k.1.1.0; here = k.1.1.1 }))
             report_counts rest)
             (performs_host v.world.host (named_drive v) v.at x (verdict_of v) early))
@@ -365,11 +365,11 @@ module _ (v : Visit) where
       λ d.
           performed_target (image_byte x)
           (image_data_performed v.world.host (named_drive v) v.at x (verdict_of v)
-          (data-disk (named_drive v).image (transfer_by (asked_of v)) x d.goes (d.byte, (d.moved, d.here)))),
+          (data_disk (named_drive v).image (transfer_by (asked_of v)) x d.goes (d.byte, (d.moved, d.here)))),
       λ there.
           ⊎_elim
           (λ early.
-          let k = disk-data (named_drive v).image (transfer_by (asked_of v)) x
+          let k = disk_data (named_drive v).image (transfer_by (asked_of v)) x
           (performs_image v.world.host (named_drive v) v.at x (verdict_of v) early) in
           record { goes = k.0; byte = k.1.0; moved = k.1.1.0; here = k.1.1.1 })
           (λ late. absurd (finish_image (block_of v) v.at v.index performance.answer performance.travel x late))

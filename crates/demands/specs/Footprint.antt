@@ -55,7 +55,7 @@ pub record HostData (a : Asked) (d : Drive) (to_host : Bool) (x : ℕ) : Type 0 
   pub goes : (transfer_by a).to_host ≡ to_host
   pub byte : ℕ
   pub moved : byte < (comes a d).sectors * B (transfer_by a).geometry
-  pub here : (transfer_by a).host_byte byte ≡ x
+  pub here : (transfer_by a).host_at byte ≡ x
 
 -- Byte x is among the words that a block at an address reports: "words 2 to 7 for 86", and for an accepted 8C the lower byte of word 3, and word 4
 -- (02, K1).
@@ -72,7 +72,7 @@ pub data HostRead (b : Block) (at : ℕ) (a : Asked) (d : Drive) (x : ℕ) : Typ
   its_uib : b.command ≡ 0x87 → Unanswered b.command (lines_before 13 (paper b a)) → Among b.address 18 x → HostRead b at a d x
   -- "a list of 1 to 64 elements that lies at an even address and in memory, once checks 10 to 17 are passed": of an A1 or A2 to which no line down to 17
   -- applies, that of 24 included. One that 18 then refuses, as for its sum, is read all the same.
-  its-list :
+  its_list :
       T (one_of b.command (0xa1 ∷ 0xa2 ∷ [])) → Unanswered b.command (lines_before 18 (paper b a)) →
       (1 ≤ b.elements) × (b.elements ≤ 64) → InMemory a.host b.address (8 * b.elements) →
       Among b.address (8 * b.elements) x → HostRead b at a d x

@@ -53,7 +53,7 @@ pub data NamesSector (a : Asked) : Address → Type 0 where
   by_number :
       (m : Move) → a.task ≡ Task.Move m → (n : ℕ) → start_number (geometry a.unit) m.target.volume m.target.start ≡ Number.Is n → (j : ℕ) → j < m.count →
       NamesSector a (address_of (geometry a.unit) m.target.volume (n + j))
-  on-its-track :
+  on_its_track :
       (k : Track) → a.task ≡ Task.Format k → (j : ℕ) → j < S (geometry a.unit) → NamesSector a (address k.cylinder k.head j)
 
 -- A byte of the image that a block may touch: of a sector of its transfer, or that sector's mark, whether a read stops before it or not.

@@ -1,7 +1,8 @@
 -- The blocks that a chain fetches, in their order, each with the world as it stood when it was fetched. The theorems about a run
 -- speak of these: which block was the last, what all of them read and wrote.
 use Rattle.std.specs.Prelude.{ℕ, zero, suc, ◌+◌, ◌-◌, ◌*◌, ◌≤◌, ◌<◌, Bool, true, false, List, [], ◌∷◌, ◌++◌, ◌≡◌, ℤ, length}
-use Rattle.std.proofs.Math.Logic.{ite, Dec·and}
+use Rattle.std.proofs.Math.Logic.{ite}
+use Rattle.std.proofs.Math.Logic.Dec.{and as dec_and}
 use Rattle.std.proofs.Math.Decide.{dec_le, map_dec}
 use Rattle.answers.specs.declared.BlockAnswer.{BlockAnswer}
 use Rattle.answers.specs.declared.BlockAnswer.TheVariants.{Ended, Failed}
@@ -71,8 +72,8 @@ pub passes? : (first allowance : ℕ) (w : World) → Dec (Passes first allowanc
 passes? first allowance w =
     map_dec (λ d. record { events = d.0; least = d.1.0; most = d.1.1.0; place = d.1.1.1 })
     (λ p. (p.events, (p.least, (p.most, p.place))))
-    (Dec·and (dec_le 512 (length w.events))
-    (Dec·and (dec_le 1 allowance) (Dec·and (dec_le allowance 64) (in_memory? w.host first 28))))
+    (dec_and (dec_le 512 (length w.events))
+    (dec_and (dec_le 1 allowance) (dec_and (dec_le allowance 64) (in_memory? w.host first 28))))
 
 -- The blocks that a run fetches: a refused run fetches none.
 unfoldable pub fetched_by : ℕ → ℕ → World → List Visit

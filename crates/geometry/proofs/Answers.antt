@@ -27,16 +27,16 @@ pub found_outside : (g : Geometry) (v : VolumeNumber) (n : ℕ) → volume_secto
 unfolding found
 found_outside g v n out = if_neg (dec_lt n (volume_sectors g v)) (λ in-it. omega arith) _ _
 
-pub numbered-inside :
+pub numbered_inside :
     (g : Geometry) (v : VolumeNumber) (c h s : ℕ) → InVolume g v c h s → numbered g v c h s ≡ Number.Is (number_of g v c h s)
 unfolding numbered
-numbered-inside g v c h s in-it =
+numbered_inside g v c h s in-it =
     if_pos (Dec.and (dec_lt c (C g)) (Dec.and (dec_lt h (N (volume g v))) (dec_lt s (S g)))) (in-it.cylinder, (in-it.head, in-it.sector)) _ _
 
-pub numbered-outside :
+pub numbered_outside :
     (g : Geometry) (v : VolumeNumber) (c h s : ℕ) → (InVolume g v c h s → ⊥) → numbered g v c h s ≡ Number.Outside
 unfolding numbered
-numbered-outside g v c h s out =
+numbered_outside g v c h s out =
     if_neg (Dec.and (dec_lt c (C g)) (Dec.and (dec_lt h (N (volume g v))) (dec_lt s (S g))))
     (λ in-it. out (record { cylinder = in-it.0; head = in-it.1.0; sector = in-it.1.1 })) _ _
 
@@ -58,10 +58,10 @@ unfolding sector_at
 sector_at_outside g p out = if_neg (dec_lt p (drive_sectors g)) (λ in-it. omega arith) _ _
 
 -- The other way: an answer tells which case it is.
-pub at-found :
+pub at_found :
     (g : Geometry) (v : VolumeNumber) (n : ℕ) (a : Address) →
     found g v n ≡ Found.At a → (n < volume_sectors g v) × (a ≡ address_of g v n)
-at-found g v n a is =
+at_found g v n a is =
     by_cases (dec_lt n (volume_sectors g v)) (λ in-it. (in-it, cc (found_inside g v n in-it)))
     (λ out. absurd (never (cc (found_outside g v n (omega arith)))))
 
@@ -77,10 +77,10 @@ at_placed g a p is =
 pub no_place : (g : Geometry) (a : Address) → placed g a ≡ Place.Outside → OnDrive g a → ⊥
 no_place g a is on = never (cc (placed_inside g a on))
 
-pub at-sector :
+pub at_sector :
     (g : Geometry) (p first mark : ℕ) →
     sector_at g p ≡ Sector.At first mark → (p < drive_sectors g) × ((first ≡ first_byte g p) × (mark ≡ mark_byte g p))
-at-sector g p first mark is =
+at_sector g p first mark is =
     by_cases (dec_lt p (drive_sectors g)) (λ in-it. (in-it, (cc (sector_at_inside g p in-it), cc (sector_at_inside g p in-it))))
     (λ out. absurd (never (cc (sector_at_outside g p (omega arith)))))
 

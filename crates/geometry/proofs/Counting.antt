@@ -32,12 +32,12 @@ module _ (H S : ℕ) where
   cylinder_back c h s h< s< = rw (← (div-div-eq-div-mul ((c * H + h) * S + s) S H), track_back c h s s<) (digits_div c h<)
 
   -- Two counts that are equal have equal digits.
-  pub counted-once :
+  pub counted_once :
       (c h s c' h' s' : ℕ) →
       h < H → s < S → h' < H → s' < S →
       (c * H + h) * S + s ≡ (c' * H + h') * S + s' →
       (c ≡ c') × ((h ≡ h') × (s ≡ s'))
-  counted-once c h s c' h' s' h< s< h'< s'< same = (
+  counted_once c h s c' h' s' h< s< h'< s'< same = (
     sym (cylinder_back c h s h< s<) ∙ ap (λ (n : ℕ). n / (S * H)) same ∙ cylinder_back c' h' s' h'< s'<,
     (
       sym (head_back c h s h< s<) ∙ ap (λ (n : ℕ). n / S % H) same ∙ head_back c' h' s' h'< s'<,

@@ -15,7 +15,7 @@ use Rattle.geometry.specs.Drive.{B, C, N, S, end, start, volume, volume_sectors}
 use Rattle.geometry.specs.Limits.{Present, SizesWithin, VolumesWithin, Within}
 use Rattle.geometry.specs.Sectors.{Covers}
 pub use Rattle.geometry.specs.Answers.{in_volume?, on_drive?}
-use Rattle.geometry.proofs.Ends.{low_of_within, not_aside, some_of_within, within-of-ends}
+use Rattle.geometry.proofs.Ends.{low_of_within, not_aside, some_of_within, within_of_ends}
 
 pub present? : (v : Volume) → Dec (Present v)
 unfolding Present
@@ -36,10 +36,10 @@ volumes? g =
     by_cases (Dec.and (dec_lt 0 e0) (Dec.and (dec_le e0 64) (dec_le e1 64)))
     (λ low.
     by_cases (dec_le e1 (start (volume g Zero)))
-    (λ aside. yes (within-of-ends g low.0 low.1.0 low.1.1 (inl aside)))
+    (λ aside. yes (within_of_ends g low.0 low.1.0 low.1.1 (inl aside)))
     (λ in1.
     by_cases (dec_le e0 (start (volume g One)))
-    (λ aside. yes (within-of-ends g low.0 low.1.0 low.1.1 (inr aside)))
+    (λ aside. yes (within_of_ends g low.0 low.1.0 low.1.1 (inr aside)))
     (λ in0. no (λ w. not_aside g w (omega arith) (omega arith)))))
     (λ high. no (λ w. high (some_of_within g w, (low_of_within g w Zero, low_of_within g w One))))
 

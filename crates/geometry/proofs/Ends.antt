@@ -42,10 +42,10 @@ module _ (g : Geometry) where
   abbrev v1 : Volume
   v1 = volume g One
 
-  pub within-of-ends :
+  pub within_of_ends :
       0 < end v0 → end v0 ≤ 64 → end v1 ≤ 64 → (end v1 ≤ start v0) ⊎ (end v0 ≤ start v1) → VolumesWithin g
   unfolding Present Has
-  within-of-ends some low0 low1 aside =
+  within_of_ends some low0 low1 aside =
       record {
         one_head = (ended v0 some).0;
         ends = λ v. elim v [ Zero ↦ λ p. omega (arith, ended v0 some) | One ↦ λ p. omega (arith, end_present v1 p) ];

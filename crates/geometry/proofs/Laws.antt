@@ -19,11 +19,11 @@ use Rattle.geometry.specs.Following.{next, InVolume}
 use Rattle.geometry.specs.Orders.{ordered}
 use Rattle.geometry.specs.SectorBytes.{SectorByte}
 use Rattle.geometry.specs.Sectors.{OnDrive, address, address_of, first_byte, mark_byte, number_of, place_of, tracks_each}
-use Rattle.geometry.specs.SectorBytes.SectorByte.{data_byte_lem, mark_byte}
+use Rattle.geometry.specs.SectorBytes.SectorByte.{data_at, mark_at}
 use Rattle.geometry.specs.Sectors.Inside.{address_of_is, first_byte_is, mark_byte_is, number_of_is, place_of_is}
-use Rattle.geometry.proofs.Counting.{Digits, counted_back, counted_below, counted-once, cylinder_back, digits_of, head_back, sector_back}
+use Rattle.geometry.proofs.Counting.{Digits, counted_back, counted_below, counted_once, cylinder_back, digits_of, head_back, sector_back}
 use Rattle.geometry.proofs.Ends.{end_present, end_reached, heads_of_within, heads_reached}
-use Rattle.geometry.proofs.Orders.{ordered_back, ordered-below, ordered_product}
+use Rattle.geometry.proofs.Orders.{ordered_back, ordered_below, ordered_product}
 
 -- ---- over the whole drive
 
@@ -38,7 +38,7 @@ module _ (g : Geometry) where
   pub places_differ : (a b : Address) → OnDrive g a → OnDrive g b → place_of g a ≡ place_of g b → a ≡ b
   places_differ a b on-a on-b same =
       let d =
-      counted-once (drive_heads g) (S g) a.cylinder a.head a.sector b.cylinder b.head b.sector
+      counted_once (drive_heads g) (S g) a.cylinder a.head a.sector b.cylinder b.head b.sector
       on-a.head on-a.sector on-b.head on-b.sector
       (sym (place_of_is g a) ∙ same ∙ place_of_is g b) in
       λ i. address (d.0 i) (d.1.0 i) (d.1.1 i)
@@ -52,9 +52,9 @@ module _ (g : Geometry) where
   mark_inside p inside = rw (mark_byte_is, need_is) (omega arith)
 
   -- So both lie inside an image that is long enough.
-  pub sector-in-image :
+  pub sector_in_image :
       (length p : ℕ) → need g ≤ length → p < drive_sectors g → (first_byte g p + B g ≤ length) × (mark_byte g p < length)
-  sector-in-image length p long inside = omega (arith, bytes_inside p inside, mark_inside p inside, need_is g)
+  sector_in_image length p long inside = omega (arith, bytes_inside p inside, mark_inside p inside, need_is g)
 
   -- The rest of a track is consecutive in the image.
   pub track_consecutive : (c h s k : ℕ) → place_of g (address c h (s + k)) ≡ place_of g (address c h s) + k
@@ -74,11 +74,11 @@ module _ (g : Geometry) where
 
   -- The same with their marks: two places of the drive that have a byte in common are one place.
   pub sectors_apart : (p q x : ℕ) → p < drive_sectors g → q < drive_sectors g → SectorByte g p x → SectorByte g q x → p ≡ q
-  sectors_apart p q x p-in q-in (data_byte_lem here) (data_byte_lem there) =
+  sectors_apart p q x p-in q-in (data_at here) (data_at there) =
       bytes_differ p q (x - first_byte g p) (x - first_byte g q) (omega arith) (omega arith) (omega arith)
-  sectors_apart p q x p-in q-in (data_byte_lem here) (mark_byte there) = absurd (omega (arith, bytes_inside p p-in, mark_inside q q-in))
-  sectors_apart p q x p-in q-in (mark_byte here) (data_byte_lem there) = absurd (omega (arith, bytes_inside q q-in, mark_inside p p-in))
-  sectors_apart p q x p-in q-in (mark_byte here) (mark_byte there) = omega (arith, mark_byte_is g p, mark_byte_is g q)
+  sectors_apart p q x p-in q-in (data_at here) (mark_at there) = absurd (omega (arith, bytes_inside p p-in, mark_inside q q-in))
+  sectors_apart p q x p-in q-in (mark_at here) (data_at there) = absurd (omega (arith, bytes_inside q q-in, mark_inside p p-in))
+  sectors_apart p q x p-in q-in (mark_at here) (mark_at there) = omega (arith, mark_byte_is g p, mark_byte_is g q)
 
 -- ---- the volumes
 
@@ -109,7 +109,7 @@ module _ (g : Geometry) (v : VolumeNumber) where
     steps = ordered (goes_by_head g) (c, h)
 
     below : (steps.0 < most) × (steps.1 < each)
-    below = ordered-below (goes_by_head g) (c, h) (C g, Nv) in-it.cylinder in-it.head
+    below = ordered_below (goes_by_head g) (c, h) (C g, Nv) in-it.cylinder in-it.head
 
     -- The number that a physical address has leads back to that address,
     pub number_leads_back : address_of g v (number_of g v c h s) ≡ address c (start (volume g v) + h) s
@@ -142,7 +142,7 @@ module _ (g : Geometry) (v : VolumeNumber) where
     pub in_volume : (its_track.0 < C g) × (its_track.1 < Nv)
     in_volume =
         rw (ordered_back (goes_by_head g) (C g, Nv)) at
-        (ordered-below (goes_by_head g) (slow, quick) (ordered (goes_by_head g) (C g, Nv)) digits.cylinder digits.head)
+        (ordered_below (goes_by_head g) (slow, quick) (ordered (goes_by_head g) (C g, Nv)) digits.cylinder digits.head)
 
     number_of_digits : number_of g v its_track.0 its_track.1 sec ≡ n
     number_of_digits =
@@ -161,15 +161,15 @@ module _ (g : Geometry) (v : VolumeNumber) where
     address_in_volume = rw address_of_is (omega (arith, in_volume))
 
     -- The address that a number leads to has that number.
-    pub address-leads-back :
+    pub address_leads_back :
         number_of g v (address_of g v n).cylinder ((address_of g v n).head - start (volume g v)) (address_of g v n).sector ≡ n
-    address-leads-back = rw (address_of_is, add-sub_cancel_left) number_of_digits
+    address_leads_back = rw (address_of_is, add-sub_cancel_left) number_of_digits
 
     -- After a track's last sector the quicker of cylinder and head goes on, and after the last of these the slower.
-    next-track :
+    next_track :
         (sec + 1 < S g → ⊥) →
         address_of g v (n + 1) ≡ counted (ite (dec_lt (quick + 1) each) (slow, quick + 1) (slow + 1, 0)) 0
-    next-track at-end =
+    next_track at-end =
         let more = dec_lt (quick + 1) each in
         by_cases more
         (λ q<.
@@ -191,14 +191,14 @@ module _ (g : Geometry) (v : VolumeNumber) where
         (λ s<.
         leads_to (n + 1) slow quick (sec + 1) digits.head s< (omega (arith, counted_back each (S g) n))
         ∙ sym (if_pos on-track s< _ _))
-        (λ at-end. next-track at-end ∙ sym (if_neg on-track at-end _ _)))
+        (λ at-end. next_track at-end ∙ sym (if_neg on-track at-end _ _)))
 
     -- The rest of a track is consecutive in the volume.
-    pub track-numbers :
+    pub track_numbers :
         (k : ℕ) → (address_of g v n).sector + k < S g →
         address_of g v (n + k) ≡
         address (address_of g v n).cylinder (address_of g v n).head ((address_of g v n).sector + k)
-    track-numbers k rest =
+    track_numbers k rest =
         let back = counted_back each (S g) n in
         rw (address_of_is g v n)
         (leads_to (n + k) slow quick (sec + k) digits.head (rw address_of_is at rest) (omega arith))
@@ -209,19 +209,19 @@ module _ (g : Geometry) (v : VolumeNumber) where
         let is : n + k ≡ (slow * each + quick) * S g + (sec + k) = omega (arith, counted_back each (S g) n) in
         rw (is, all_counted) (counted_below each (S g) most slow quick (sec + k) digits.cylinder digits.head more)
 
-    pub track-places :
+    pub track_places :
         (k : ℕ) → (address_of g v n).sector + k < S g → place_of g (address_of g v (n + k)) ≡ place_of g (address_of g v n) + k
-    track-places k rest = rw (track-numbers k rest) (track_consecutive g _ _ _ k)
+    track_places k rest = rw (track_numbers k rest) (track_consecutive g _ _ _ k)
 
   -- Two different numbers of a volume have two different places.
-  pub numbers-differ :
+  pub numbers_differ :
       (n m : ℕ) → n < volume_sectors g v → m < volume_sectors g v →
       place_of g (address_of g v n) ≡ place_of g (address_of g v m) → n ≡ m
-  numbers-differ n m n-in m-in same =
+  numbers_differ n m n-in m-in same =
       let a = places_differ g _ _ (address_on_drive n n-in) (address_on_drive m m-in) same in
-      sym (address-leads-back n n-in)
+      sym (address_leads_back n n-in)
       ∙ ap (λ (x : Address). number_of g v x.cylinder (x.head - start (volume g v)) x.sector) a
-      ∙ address-leads-back m m-in
+      ∙ address_leads_back m m-in
 
   -- A volume has no more sectors than the drive.
   pub volume_in_drive : volume_sectors g v ≤ drive_sectors g
@@ -230,24 +230,24 @@ module _ (g : Geometry) (v : VolumeNumber) where
       (mul-le-mul_right (S g) (mul-le-mul_left (C g) (heads_reached g v)))
 
 -- Sectors of two volumes have different places.
-pub volumes-differ :
+pub volumes_differ :
     (g : Geometry) → VolumesWithin g → (n m : ℕ) → n < volume_sectors g Zero → m < volume_sectors g One →
     place_of g (address_of g Zero n) ≡ place_of g (address_of g One m) → ⊥
 unfolding Has Present
-volumes-differ g w n m n-in m-in same =
+volumes_differ g w n m n-in m-in same =
     let a = places_differ g _ _ (address_on_drive g Zero n n-in) (address_on_drive g One m m-in) same in
     let in0 = address_in_volume g Zero n n-in in
     let in1 = rw (← a) at (address_in_volume g One m m-in) in
     w.apart (omega arith) (address_of g Zero n).head in0 in1
 
 -- So sectors of volumes that have one place are one: the same number of the same volume.
-pub sectors-of-volumes-differ :
+pub sectors_of_volumes_differ :
     (g : Geometry) → VolumesWithin g → (v w : VolumeNumber) (n m : ℕ) → n < volume_sectors g v → m < volume_sectors g w →
     place_of g (address_of g v n) ≡ place_of g (address_of g w m) → (v ≡ w) × (n ≡ m)
-sectors-of-volumes-differ g within Zero Zero n m n-in m-in same = (refl, numbers-differ g Zero n m n-in m-in same)
-sectors-of-volumes-differ g within One One n m n-in m-in same = (refl, numbers-differ g One n m n-in m-in same)
-sectors-of-volumes-differ g within Zero One n m n-in m-in same = absurd (volumes-differ g within n m n-in m-in same)
-sectors-of-volumes-differ g within One Zero n m n-in m-in same = absurd (volumes-differ g within m n m-in n-in (sym same))
+sectors_of_volumes_differ g within Zero Zero n m n-in m-in same = (refl, numbers_differ g Zero n m n-in m-in same)
+sectors_of_volumes_differ g within One One n m n-in m-in same = (refl, numbers_differ g One n m n-in m-in same)
+sectors_of_volumes_differ g within Zero One n m n-in m-in same = absurd (volumes_differ g within n m n-in m-in same)
+sectors_of_volumes_differ g within One Zero n m n-in m-in same = absurd (volumes_differ g within m n m-in n-in (sym same))
 
 -- ---- at the limits
 

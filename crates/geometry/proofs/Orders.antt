@@ -16,10 +16,10 @@ pub ordered_back : (o : Bool) (p : ℕ × ℕ) → ordered o (ordered o p) ≡ p
 ordered_back true p = refl
 ordered_back false p = refl
 
-pub ordered-below :
+pub ordered_below :
     (o : Bool) (p q : ℕ × ℕ) → p.0 < q.0 → p.1 < q.1 → ((ordered o p).0 < (ordered o q).0) × ((ordered o p).1 < (ordered o q).1)
-ordered-below true p q first second = (first, second)
-ordered-below false p q first second = (second, first)
+ordered_below true p q first second = (first, second)
+ordered_below false p q first second = (second, first)
 
 pub ordered_bounded : (o : Bool) (p : ℕ × ℕ) (m : ℕ) → p.0 < m → p.1 < m → ((ordered o p).0 < m) × ((ordered o p).1 < m)
 ordered_bounded true p m first second = (first, second)
@@ -35,13 +35,13 @@ module _ (g : Geometry) (v : VolumeNumber) where
   abbrev Nv : ℕ
   Nv = N (volume g v)
 
-  pub addresses-by-head :
+  pub addresses_by_head :
       goes_by_head g ≡ true → (n : ℕ) → address_of g v n ≡ address (n / (S g * Nv)) (start (volume g v) + (n / S g) % Nv) (n % S g)
-  addresses-by-head on n = rw (address_of_is, on)
+  addresses_by_head on n = rw (address_of_is, on)
 
-  pub addresses-by-cylinder :
+  pub addresses_by_cylinder :
       goes_by_head g ≡ false → (n : ℕ) → address_of g v n ≡ address ((n / S g) % C g) (start (volume g v) + n / (S g * C g)) (n % S g)
-  addresses-by-cylinder off n = rw (address_of_is, off)
+  addresses_by_cylinder off n = rw (address_of_is, off)
 
   pub numbers_by_head : goes_by_head g ≡ true → (c h s : ℕ) → number_of g v c h s ≡ (c * Nv + h) * S g + s
   numbers_by_head on c h s = rw (number_of_is, on)

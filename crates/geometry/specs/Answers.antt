@@ -1,6 +1,7 @@
 -- What the functions of a sector answer: what was asked for, or that it is outside.
 use Rattle.std.specs.Prelude.{ℕ}
-use Rattle.std.proofs.Math.Logic.{ite, Dec·and}
+use Rattle.std.proofs.Math.Logic.{ite}
+use Rattle.std.proofs.Math.Logic.Dec.{and as dec_and}
 use Rattle.std.proofs.Math.Decide.{dec_lt, map_dec}
 use Rattle.geometry.specs.declared.Address.{Address}
 use Rattle.geometry.specs.declared.Found.{Found}
@@ -20,12 +21,12 @@ found g v n = ite (dec_lt n (volume_sectors g v)) (Found.At (address_of g v n)) 
 pub on_drive? : (g : Geometry) (a : Address) → Dec (OnDrive g a)
 on_drive? g a =
     map_dec (λ d. record { cylinder = d.0; head = d.1.0; sector = d.1.1 }) (λ o. (o.cylinder, (o.head, o.sector)))
-    (Dec·and (dec_lt a.cylinder (C g)) (Dec·and (dec_lt a.head (drive_heads g)) (dec_lt a.sector (S g))))
+    (dec_and (dec_lt a.cylinder (C g)) (dec_and (dec_lt a.head (drive_heads g)) (dec_lt a.sector (S g))))
 
 pub in_volume? : (g : Geometry) (v : VolumeNumber) (c h s : ℕ) → Dec (InVolume g v c h s)
 in_volume? g v c h s =
     map_dec (λ d. record { cylinder = d.0; head = d.1.0; sector = d.1.1 }) (λ i. (i.cylinder, (i.head, i.sector)))
-    (Dec·and (dec_lt c (C g)) (Dec·and (dec_lt h (N (volume g v))) (dec_lt s (S g))))
+    (dec_and (dec_lt c (C g)) (dec_and (dec_lt h (N (volume g v))) (dec_lt s (S g))))
 
 -- A place by its address.
 unfoldable pub placed : Geometry → Address → Place

@@ -1,7 +1,8 @@
 -- Where each sector stands (01, Geometry; 02, K4): a number in a volume to an address on the drive, a physical address to a number, and an address to a
 -- place in the image. Shut, as the sizes of Drive are; only what the functions answer may be opened elsewhere.
 use Rattle.std.specs.Prelude.{ℕ, ◌+◌, ◌-◌, ◌*◌, ◌/◌, ◌%◌, ◌<◌}
-use Rattle.std.proofs.Math.Logic.{ite, Dec·and}
+use Rattle.std.proofs.Math.Logic.{ite}
+use Rattle.std.proofs.Math.Logic.Dec.{and as dec_and}
 use Rattle.std.proofs.Math.Decide.{dec_lt}
 use Rattle.geometry.specs.declared.Address.{Address}
 use Rattle.geometry.specs.declared.Geometry.{Geometry}
@@ -57,7 +58,7 @@ pub record OnDrive (g : Geometry) (a : Address) : Type 0 where
 -- the volume has no such sector.
 unfoldable pub numbered : Geometry → VolumeNumber → ℕ → ℕ → ℕ → Number
 numbered g v c h s =
-    ite (Dec·and (dec_lt c (C g)) (Dec·and (dec_lt h (N (volume g v))) (dec_lt s (S g)))) (Number.Is (number_of g v c h s)) Number.Outside
+    ite (dec_and (dec_lt c (C g)) (dec_and (dec_lt h (N (volume g v))) (dec_lt s (S g)))) (Number.Is (number_of g v c h s)) Number.Outside
 
 -- A volume covers a request for so many sectors from a number on: neither the first sector nor the last is outside it (check 16).
 abbrev pub Covers : Geometry → VolumeNumber → Number → ℕ → Type 0

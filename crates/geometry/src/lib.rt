@@ -1,6 +1,8 @@
 // The shape of a drive: its limits and its default, its sizes, and where each sector stands in an image.
 // Two steps are kept apart: a number in a volume to an address on the drive, and an address to a place in the image.
 // It holds no image and no unit, and its fields are its own: crates above use its functions and cite its laws.
+#![tactic(auto)]
+
 ghost use Rattle.std.specs.Prelude.{◌≡◌, ◌<◌};
 ghost use Rattle.geometry.specs.Default.{table11};
 ghost use Rattle.geometry.specs.Drive.{B, C, N, S, goes_by_head, end, geometry_of, start, volume, volume_of, with_increment};
@@ -12,14 +14,14 @@ mod sectors;
 mod sizes;
 
 // One of a unit's two volumes.
-#[derive(Drop)]
+#[derive(Clone, Copy)]
 pub enum VolumeNumber {
     Zero,
     One,
 }
 
 // A volume: the head that it starts at, counted over the whole drive, and how many heads it has. With none it is absent.
-#[derive(Drop)]
+#[derive(Clone, Copy)]
 pub struct Volume {
     start_head: u8,
     heads: u8,
@@ -27,7 +29,7 @@ pub struct Volume {
 
 // A geometry as it stands in a record or came out of a UIB: any numbers, inside the limits or not. Its tracks go by head, the next track having the next
 // head, or by cylinder.
-#[derive(Drop)]
+#[derive(Clone, Copy)]
 pub struct Geometry {
     cylinders: u16,
     sectors_a_track: u16,
@@ -38,7 +40,7 @@ pub struct Geometry {
 }
 
 // A sector of the drive. Its head is counted over the whole drive, since 8C and a spare track reach heads that no volume has.
-#[derive(Drop)]
+#[derive(Clone, Copy)]
 pub struct Address {
     pub cylinder: u16,
     pub head: u16,
@@ -46,28 +48,28 @@ pub struct Address {
 }
 
 // Where a number in a volume leads.
-#[derive(Drop)]
+#[derive(Clone, Copy)]
 pub enum Found {
     At(Address),
     Outside,
 }
 
 // The number in a volume that a physical address has.
-#[derive(Drop)]
+#[derive(Clone, Copy)]
 pub enum Number {
     Is(u64),
     Outside,
 }
 
 // The place in the image that an address has, counted in sectors.
-#[derive(Drop)]
+#[derive(Clone, Copy)]
 pub enum Place {
     At(u64),
     Outside,
 }
 
 // The sector at a place: its first byte in the image, and the byte that is its mark.
-#[derive(Drop)]
+#[derive(Clone, Copy)]
 pub enum Sector {
     At { first: u64, mark: u64 },
     Outside,

@@ -27,16 +27,16 @@ use Rattle.judge.specs.declared.Verdict.TheVariants.{Refused, Do}
 use Rattle.judge.specs.Given.{Asked, on}
 use Rattle.judge.specs.Reads.{InList, InUib}
 use Rattle.judge.specs.Verdict.{verdict}
-use Rattle.judge.proofs.LetThrough.{list-let-through}
+use Rattle.judge.proofs.LetThrough.{list_let_through}
 use Rattle.judge.proofs.Locality.{block_local}
-use Rattle.judge.proofs.Read.{list-by-the-table, uib-by-the-table}
+use Rattle.judge.proofs.Read.{list_by_the_table, uib_by_the_table}
 use Rattle.transfer.specs.Data.{Transfer, data_on, progress_on}
 use Rattle.transfer.proofs.Joined.{joined_same}
 use Rattle.block.specs.Block.{Drive, begun, data_byte, left_by, reported, transfer_of, travelled}
 use Rattle.block.specs.Steps.{acted_on, finished, transfer_with}
 use Rattle.unit.specs.Standing.{cylinder}
 use Rattle.demands.specs.Footprint.{HostRead, ReadsHost, asked_of, moving_of, named_drive, names, transfer_by, verdict_of}
-use Rattle.demands.specs.Footprint.HostRead.{block, its-list, its_uib, moved}
+use Rattle.demands.specs.Footprint.HostRead.{block, its_list, its_uib, moved}
 use Rattle.demands.specs.Visits.{Visit, block_of, effect_of}
 use Rattle.demands.proofs.Read.{read_list, read_uib}
 use Rattle.demands.proofs.Written.{effect_is}
@@ -72,24 +72,24 @@ block_same h k at alike =
 
 -- What is read by one that is judged is read by another that reads what the first reads of its UIB and of its list, and makes the same
 -- transfer.
-read-too :
+read_too :
     (b : Block) (at : ℕ) (p q : Asked) (d : Drive) → p.task ≡ task_of p.host b → q.task ≡ task_of q.host b →
     ((x : ℕ) → InUib p b.address 18 x → InUib q b.address 18 x) → ((x : ℕ) → InList p x → InList q x) →
     transfer_by p ≡ transfer_by q → (x : ℕ) → HostRead b at p d x → HostRead b at q d x
-read-too b at p q d asks asks-too uibs lists same x (block among) = block among
-read-too b at p q d asks asks-too uibs lists same x (its_uib code passed among) =
-    let it = (uib-by-the-table b q asks-too x).0 (uibs x ((uib-by-the-table b p asks x).1 (code, passed, among))) in
+read_too b at p q d asks asks-too uibs lists same x (block among) = block among
+read_too b at p q d asks asks-too uibs lists same x (its_uib code passed among) =
+    let it = (uib_by_the_table b q asks-too x).0 (uibs x ((uib_by_the_table b p asks x).1 (code, passed, among))) in
     its_uib it.0 it.1 it.2
-read-too b at p q d asks asks-too uibs lists same x (its-list code passed some place among) =
-    let it = (list-by-the-table b q asks-too x).0 (lists x ((list-by-the-table b p asks x).1 (code, passed, some, place, among))) in
-    its-list it.0 it.1 it.2 it.3 it.4
-read-too b at p q d asks asks-too uibs lists same x (moved m) =
+read_too b at p q d asks asks-too uibs lists same x (its_list code passed some place among) =
+    let it = (list_by_the_table b q asks-too x).0 (lists x ((list_by_the_table b p asks x).1 (code, passed, some, place, among))) in
+    its_list it.0 it.1 it.2 it.3 it.4
+read_too b at p q d asks asks-too uibs lists same x (moved m) =
     moved
     (record {
       goes = ap (λ t. t.to_host) (sym same) ∙ m.goes;
       byte = m.byte;
       moved = subst (λ t. m.byte < (progress_on d.image t).sectors * B t.geometry) same m.moved;
-      here = ap (λ t. t.host_byte m.byte) (sym same) ∙ m.here;
+      here = ap (λ t. t.host_at m.byte) (sym same) ∙ m.here;
     })
 
 module _
@@ -138,7 +138,7 @@ module _
         of_buffer_lem j moves (Piece at) here y = refl
         of_buffer_lem j moves (Elements at n) here y =
             let same : (i : ℕ) → i < n → element_of h at i ≡ element_of k.host at i =
-            element_same h k.host at n (λ x among. alike x (read_list v x (list-let-through (asked_of v) p j at n x is moves here among))) in
+            element_same h k.host at n (λ x among. alike x (read_list v x (list_let_through (asked_of v) p j at n x is moves here among))) in
             joined_same (λ i. (element_of h at i).bytes) (λ i. (element_of k.host at i).bytes) (λ i. (element_of h at i).address)
             (λ i. (element_of k.host at i).address) n 0 y
             (λ t less. rw zero-add (ap (λ e. e.bytes) (same t less), ap (λ e. e.address) (same t less)))
@@ -149,10 +149,10 @@ module _
         by_moving (Sectors j) moves = ap (transfer_with (named_drive v).unit (Sectors j)) (fun_ext (of_buffer_lem j moves j.buffer refl))
 
     -- So what is done is the same.
-    performed-alike :
+    performed_alike :
         (verd : Verdict) → verdict_of v ≡ verd → acted_on h (named_drive v) v.at verd ≡ acted_on k.host (named_drive v) v.at verd
-    performed-alike (Refused r) is = refl
-    performed-alike (Do p) is =
+    performed_alike (Refused r) is = refl
+    performed_alike (Do p) is =
         let d = named_drive v in
         ap
         (λ (t : Transfer).
@@ -170,7 +170,7 @@ module _
     pub effect_alike : effect_of v ≡ effect_of there
     effect_alike =
         effect_is v
-        ∙ ap (finished v.world.controller (block_of v) v.at v.index (verdict_of v)) (performed-alike (verdict_of v) refl)
+        ∙ ap (finished v.world.controller (block_of v) v.at v.index (verdict_of v)) (performed_alike (verdict_of v) refl)
         ∙ (λ i. finished (run_by i) (block_alike i) v.at v.index (verdict_alike i) (acted_on k.host (drive_alike i) v.at (verdict_alike i)))
         ∙ sym (effect_is there)
 
@@ -189,9 +189,9 @@ module _
         HostRead (block_alike i) v.at
         (on (run_by i) (drive_alike i).unit (length (drive_alike i).image) (task_of k.host (block_alike i)) k.host) (drive_alike i) x in
         Iff.trans (
-          read-too b v.at (asked_of v) (judged_there b d) d refl refl (uib_read_alike c h k.host long d.unit (length d.image) b)
+          read_too b v.at (asked_of v) (judged_there b d) d refl refl (uib_read_alike c h k.host long d.unit (length d.image) b)
               (list_read_alike c h k.host long d.unit (length d.image) b) transfer_there x,
-          read-too b v.at (judged_there b d) (asked_of v) d refl refl (uib_read_alike c k.host h (sym long) d.unit (length d.image) b)
+          read_too b v.at (judged_there b d) (asked_of v) d refl refl (uib_read_alike c k.host h (sym long) d.unit (length d.image) b)
               (list_read_alike c k.host h (sym long) d.unit (length d.image) b) (sym transfer_there) x,
         )
         (transport moved-along, transport⁻¹ moved-along)

@@ -70,12 +70,12 @@ long_seen : (t : Which) (c : Controller) (s s' : Both) → both.shape s ≡ both
 long_seen t FirstController s s' long = λ i. (FirstController, (long i).0)
 long_seen t SecondController s s' long = λ i. (SecondController, (long i).1)
 
-long-back :
+long_back :
     (t : Which) (c : Controller) (s : Both) (w : World) → worlds.shape (world_for t c s) ≡ worlds.shape w → both.shape s ≡ both.shape (leaving t c s w)
-long-back First FirstController s w long = λ i. ((long i).1, length s.host2)
-long-back Second FirstController s w long = λ i. ((long i).1, length s.host2)
-long-back First SecondController s w long = λ i. (length s.host1, (long i).1)
-long-back Second SecondController s w long = λ i. (length s.host1, (long i).1)
+long_back First FirstController s w long = λ i. ((long i).1, length s.host2)
+long_back Second FirstController s w long = λ i. ((long i).1, length s.host2)
+long_back First SecondController s w long = λ i. (length s.host1, (long i).1)
+long_back Second SecondController s w long = λ i. (length s.host1, (long i).1)
 
 seen :
     (t : Which) (c : Controller) (P : worlds.Cell → Type 0) (s s' : Both) → ((d : BothCell) → cells_of t c P d → holds s d ≡ holds s' d) →
@@ -124,7 +124,7 @@ faithful t c =
     record {
       same = same t c;
       shape_seen = long_seen t c;
-      shape_back = long-back t c;
+      shape_back = long_back t c;
       seen = seen t c;
       back = back t c;
       kept = kept t c;

@@ -32,11 +32,11 @@ module _ (K : Kind) {A : Type 0} where
         }
 
   -- A step that is one local step where a statement holds, and another where it does not.
-  pub branch-local :
+  pub branch_local :
       (P : K.State → Type 0) (P? : (s : K.State) → Dec (P s)) (U S T : Step K A) →
       ((s u : K.State) → AgreeOn K (U.Reads s) s u → P s ↔ P u) → Local K S → Local K T →
       ((s : K.State) → P s → SameAt U S s) → ((s : K.State) → (P s → ⊥) → SameAt U T s) → Local K U
-  branch-local P P? U S T settled one two there else =
+  branch_local P P? U S T settled one two there else =
       record {
         shape = λ s. by_cases (P? s) (λ p. shape_at U S one s (there s p)) (λ n. shape_at U T two s (else s n));
         frame = λ s c none.
@@ -50,9 +50,9 @@ module _ (K : Kind) {A : Type 0} where
   abbrev pub still : (K.Cell → Type 0) → (K.State → A) → Step K A
   still P out = record { out = out; left = λ s. s; Reads = λ s. P; Writes = λ s. P }
 
-  pub still-local :
+  pub still_local :
       (P : K.Cell → Type 0) (out : K.State → A) → ((s u : K.State) → AgreeOn K P s u → out s ≡ out u) → Local K (still P out)
-  still-local P out settled =
+  still_local P out settled =
       record {
         shape = λ s. refl;
         frame = λ s c none. refl;

@@ -44,8 +44,8 @@ use Rattle.unit.specs.declared.UnitNumber.{UnitNumber}
 use Rattle.unit.specs.declared.UnitNumber.TheVariants.{Zero, One}
 use Rattle.independence.specs.TwoChains.{come, drive_on, drive_with}
 use Rattle.independence.proofs.Demand3.{second_same}
-use Rattle.independence.proofs.OneBlock.{RangesApart, In, done, failed, no_data, no_words, none_in_both, of_block, reads_in, writes-in}
-use Rattle.independence.proofs.Tiny.{carried_on, move-passes, move_of, read_of_one, read-stopped, unit, write_of_one}
+use Rattle.independence.proofs.OneBlock.{RangesApart, In, done, failed, no_data, no_words, none_in_both, of_block, reads_in, writes_in}
+use Rattle.independence.proofs.Tiny.{carried_on, move_passes, move_of, read_of_one, read_stopped, unit, write_of_one}
 use Rattle.board.specs.World.{World}
 
 pub passes_at :
@@ -122,7 +122,7 @@ module _ (w : World) (at : ℕ) (passes : Passes at 1 w) where
         record {
           names_it = λ n. of_block at _ passes (λ v. names v ≡ n);
           reads_there = λ x r. reads_in v rs x (judged x) (from x) (of_block at _ passes (λ v. ReadsHost v x) r);
-          writes_there = λ x w. writes-in v ws x (reported x) (to x) (of_block at _ passes (λ v. WritesHost v x) w);
+          writes_there = λ x w. writes_in v ws x (reported x) (to x) (of_block at _ passes (λ v. WritesHost v x) w);
         }
 
   -- Of a verdict that moves nothing.
@@ -171,21 +171,21 @@ initialized w at passes verd is moves says uib here no_move =
     (still w at passes verd is moves true)
 
 -- A block that is accepted and moves nothing ends 80 and moves no sectors.
-pub comes-still :
+pub comes_still :
     (v : Visit) (p : Plan) → verdict_of v ≡ Verdict.Do p → p.moving ≡ Moving.Nothing → ((effect_of v).sectors ≡ 0) × ((effect_of v).answer ≡ Ended)
 unfolding progress
-comes-still v p is moves = (
+comes_still v p is moves = (
   ap (λ e. e.sectors) (effect_is v) ∙ rw (is, moves),
   ap (λ e. e.answer) (effect_is v) ∙ rw (is, moves),
 )
 
 -- What a chain comes to that moves nothing: one that is done, and one that is refused.
 module _ (w : World) (at : ℕ) (passes : Passes at 1 w) where
-  pub comes-done :
+  pub comes_done :
       (block_of (v w at passes)).options.link ≡ false → (p : Plan) → verdict_of (v w at passes) ≡ Verdict.Do p → p.moving ≡ Moving.Nothing →
       end_of (ran at 1 w) ≡ come RunAnswer.Done 0 0
-  comes-done unlinked p is moves =
-      let e = comes-still (v w at passes) p is moves in
+  comes_done unlinked p is moves =
+      let e = comes_still (v w at passes) p is moves in
       ap end_of (done at w passes unlinked 0 e.1 e.0)
 
   pub comes_refused : (r : Refusal) → verdict_of (v w at passes) ≡ Verdict.Refused r → end_of (ran at 1 w) ≡ come RunAnswer.BlockFailed (refusal_number r) 0
@@ -194,10 +194,10 @@ module _ (w : World) (at : ℕ) (passes : Passes at 1 w) where
       ap end_of (failed at w passes r 0 e.1 e.0)
 
 -- The orders differ where the second fails otherwise after the first than it does alone.
-pub fails-otherwise :
+pub fails_otherwise :
     (k l : Chain) (s then : Both) (after_it alone-it : End) → (run_of First k).left s ≡ then → (run_of Second l).out then ≡ after_it →
     (run_of Second l).out s ≡ alone-it → (after_it.failed ≡ alone-it.failed → ⊥) → EitherWay k l s → ⊥
-fails-otherwise k l s then after_it alone-it left comes comes-alone differs e =
+fails_otherwise k l s then after_it alone-it left comes comes-alone differs e =
     differs (ap (λ t. t.failed) (sym comes ∙ ap (run_of Second l).out (sym left) ∙ second_same k l s e ∙ comes-alone))
 
 -- ---- a transfer of the pairs
@@ -230,7 +230,7 @@ module _
     b = v w at passes
 
     judged_so : verdict_of b ≡ carries to_host count buffer
-    judged_so = rw (task, same, long) (move-passes w.controller w.host 0 (omega arith) to_host 0 count buffer some (omega arith) held)
+    judged_so = rw (task, same, long) (move_passes w.controller w.host 0 (omega arith) to_host 0 count buffer some (omega arith) held)
 
     judged_alone : (x : ℕ) → InUib (asked_of b) (block_of b).address 18 x ⊎ InList (asked_of b) x → ⊥
     judged_alone x (inl uib) = no_uib (asked_of b) _ _ x (λ s is. impossible (cc (task, is))) uib
@@ -246,7 +246,7 @@ module _
       there way x here =
           let less : here.byte < n * 64 = rw (sectors_come b, moved, drives_geometry (asked_of b), same) at here.moved in
           let lies : buffer + here.byte ≡ x =
-          subst (λ (verd : Verdict). (transfer_of w.host (named_drive b).unit (moving_of verd)).host_byte here.byte ≡ x) judged_so here.here in
+          subst (λ (verd : Verdict). (transfer_of w.host (named_drive b).unit (moving_of verd)).host_at here.byte ≡ x) judged_so here.here in
           (omega arith, omega arith)
 
       ranged : (w way : Bool) (x : ℕ) → (w ≡ way → Among buffer (n * 64) x) → w ≡ way → In (going (cond way w (not w)) (buffer, n * 64)) x
@@ -278,24 +278,24 @@ module _
     (w : World) (at : ℕ) (passes : Passes at 1 w) {to_host : Bool} {buffer count n : ℕ} {a : BlockAnswer}
     (c : Carried w at to_host buffer count n a)
   where
-    pub host_byte_is : (k : ℕ) → (transfer_by (asked_of (v w at passes))).host_byte k ≡ buffer + k
+    pub host_byte_is : (k : ℕ) → (transfer_by (asked_of (v w at passes))).host_at k ≡ buffer + k
     host_byte_is k = rw c.verdict
 
     pub came : (k : ℕ) → k < n * 64 → k < (comes (asked_of (v w at passes)) (named_drive (v w at passes))).sectors * B (transfer_by (asked_of (v w at passes))).geometry
     came k less = rw (sectors_come (v w at passes), c.sectors, drives_geometry (asked_of (v w at passes)), c.unit_is) less
 
-    pub data_byte_lem : (k : ℕ) → k < n * 64 → HostData (asked_of (v w at passes)) (named_drive (v w at passes)) to_host (buffer + k)
-    data_byte_lem k less = record { goes = rw c.verdict; byte = k; moved = came k less; here = host_byte_is k }
+    pub data_at : (k : ℕ) → k < n * 64 → HostData (asked_of (v w at passes)) (named_drive (v w at passes)) to_host (buffer + k)
+    data_at k less = record { goes = rw c.verdict; byte = k; moved = came k less; here = host_byte_is k }
 
 -- The transfers of one sector, and the read of two that a mark stops.
 module _ (w : World) (at : ℕ) (passes : Passes at 1 w) (buffer : ℕ) where
   abbrev Asks : Bool → ℕ → Type 0
   Asks to_host count = task_of w.host (block_of (v w at passes)) ≡ Task.Move (move_of to_host 0 count buffer)
 
-  pub read-carried-from :
+  pub read_carried_from :
       (image : List ℕ) → named_drive (v w at passes) ≡ drive_on image → length image ≡ 130 → get_or image 128 0 ≡ 0 → Asks true 1 →
       InMemory w.host buffer 64 → Carried w at true buffer 1 1 Ended
-  read-carried-from image same long good task held =
+  read_carried_from image same long good task held =
       carried w at passes image long same true buffer 1 task (omega arith) (omega arith) held 1 Ended (read_of_one image long buffer good)
 
 module _
@@ -303,14 +303,14 @@ module _
     (same : named_drive (v w at passes) ≡ drive_with byte mark) (buffer : ℕ)
   where
     pub read_carried : Asks w at passes buffer true 1 → InMemory w.host buffer 64 → Carried w at true buffer 1 1 Ended
-    read_carried = read-carried-from w at passes buffer (drive_with byte mark).image same refl refl
+    read_carried = read_carried_from w at passes buffer (drive_with byte mark).image same refl refl
 
     pub write_carried : Asks w at passes buffer false 1 → InMemory w.host buffer 64 → Carried w at false buffer 1 1 Ended
     write_carried task held =
         carried w at passes (drive_with byte mark).image refl same false buffer 1 task (omega arith) (omega arith) held 1 Ended (write_of_one _ refl buffer)
 
-    pub read-stopped-carried :
+    pub read_stopped_carried :
         mark ≡ 1 → Asks w at passes buffer true 2 → InMemory w.host buffer 128 → Carried w at true buffer 2 1 (Failed Refusal.Unreadable)
-    read-stopped-carried bad task held =
+    read_stopped_carried bad task held =
         carried w at passes (drive_with byte mark).image refl same true buffer 2 task (omega arith) (omega arith) held 1 _
-        (read-stopped _ refl buffer refl bad)
+        (read_stopped _ refl buffer refl bad)

@@ -7,7 +7,7 @@ use Rattle.board.specs.Ends.{end_of}
 use Rattle.board.specs.Chain.{ran}
 use Rattle.demands.specs.Visits.{fetched_by}
 use Rattle.demands.proofs.HeldDrives.{block_keeps_controller}
-use Rattle.demands.proofs.Keeps.{run-keeps, some_none}
+use Rattle.demands.proofs.Keeps.{run_keeps, some_none}
 use Rattle.independence.specs.Chains.{Both, Chain, First, Second, Which, events_of, host_of, leaving, run_of, world_for}
 use Rattle.independence.specs.Controllers.{EachForItself}
 use Rattle.board.specs.World.{World}
@@ -44,7 +44,7 @@ module _ (t : Which) (k : Chain) where
   own_world s =
       let w = world_for t k.controller s in
       found_again t k.controller s (left s)
-      (run-keeps (λ x. x.controller) k.first k.allowance w (λ v. ⊥) (λ v out. block_keeps_controller v) (some_none (fetched_by k.first k.allowance w)))
+      (run_keeps (λ x. x.controller) k.first k.allowance w (λ v. ⊥) (λ v out. block_keeps_controller v) (some_none (fetched_by k.first k.allowance w)))
 
 pub each_for_itself : EachForItself
 each_for_itself t k s = (

@@ -10,7 +10,7 @@ use Rattle.independence.specs.Local.{Undisturbed, EitherOrder, Local, Step}
 use Rattle.independence.proofs.Both.{both_extensional, both_stable, faithful, no_chain_is_both}
 use Rattle.independence.proofs.Places.{placed_local}
 use Rattle.independence.proofs.Runs.{run_is_local}
-use Rattle.independence.proofs.Steps.{either_order, none-in-common, one_state}
+use Rattle.independence.proofs.Steps.{either_order, none_in_common, one_state}
 
 pub run_local : (t : Which) (chain : Chain) → Local both (run_of t chain)
 run_local t chain = placed_local (place_of t chain.controller) (faithful t chain.controller) (run_on chain) (run_is_local chain)
@@ -23,7 +23,7 @@ module _ (first second : Chain) (s : Both) where
   two = run_of Second second
 
   apart : Independent first second s → Undisturbed both one two s
-  apart i = record { written = none-in-common both one two s written_once; unread_by_second = by_second; unread_by_first = by_first }
+  apart i = record { written = none_in_common both one two s written_once; unread_by_second = by_second; unread_by_first = by_first }
     where
       written_once : (c : BothCell) → one.Writes s c → two.Writes s c → ⊥
       written_once (memory_byte c x) w v = i.written (w.0 ∙ sym v.0) x w.1 v.1

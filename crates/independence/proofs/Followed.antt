@@ -20,12 +20,12 @@ use Rattle.board.specs.Chain.{counted, fetched, follows}
 use Rattle.board.proofs.Chains.{fetched_bad}
 use Rattle.demands.specs.Footprint.{ReadsHost, Some, WritesHost, names}
 use Rattle.demands.specs.Visits.{Visit, onwards, visits}
-use Rattle.demands.proofs.Endings.{fetched_step, visits-step}
+use Rattle.demands.proofs.Endings.{fetched_step, visits_step}
 use Rattle.independence.specs.Local.{Local, Step, then}
 use Rattle.independence.specs.Worlds.{WorldCell, Touches, byte, disk, events, worlds}
 use Rattle.independence.proofs.Blocks.{Next, block, block_is_local}
-use Rattle.independence.proofs.Branches.{SameAt, branch-local, still, still-local}
-use Rattle.independence.proofs.Steps.{then-local}
+use Rattle.independence.proofs.Branches.{SameAt, branch_local, still, still_local}
+use Rattle.independence.proofs.Steps.{then_local}
 use Rattle.independence.proofs.Worlds.{worlds_stable}
 use Rattle.independence.proofs.Works.{working}
 use Rattle.board.specs.World.{World, world_after}
@@ -68,7 +68,7 @@ abbrev idle : End → Step worlds End
 idle o = still worlds NoBlock (λ w. o)
 
 idle_local : (o : End) → Local worlds (idle o)
-idle_local o = still-local worlds NoBlock (λ w. o) (λ w u agree. refl)
+idle_local o = still_local worlds NoBlock (λ w. o) (λ w u agree. refl)
 
 -- What follows a block that ended so.
 abbrev following : ℕ → BlockAnswer → Bool → Count → ℕ → Step worlds End
@@ -80,12 +80,12 @@ following k a linked tally at =
       Writes = λ w. Of WritesHost (onwards a linked (visits k tally.blocks at w));
     }
 
-following-local :
+following_local :
     (k : ℕ) (a : BlockAnswer) (linked : Bool) (tally : Count) (at : ℕ) → Local worlds (chain_on k tally at) →
     Local worlds (following k a linked tally at)
-following-local k (Failed r) linked tally at rest = idle_local _
-following-local k Ended false tally at rest = idle_local _
-following-local k Ended true tally at rest = rest
+following_local k (Failed r) linked tally at rest = idle_local _
+following_local k Ended false tally at rest = idle_local _
+following_local k Ended true tally at rest = rest
 
 -- A chain whose address is good is its block and then what follows.
 module _ (k : ℕ) (tally : Count) (at : ℕ) where
@@ -99,7 +99,7 @@ module _ (k : ℕ) (tally : Count) (at : ℕ) where
   unfolding world_after
   goes_on w good =
       let is = fetched_step k tally at w good in
-      let all = visits-step k tally at w good in
+      let all = visits_step k tally at w good in
       record { out = ap end_of is; left = ap (λ e. e.world) is; reads = one_more ReadsHost all; writes = one_more WritesHost all }
 
   bad_address : End
@@ -119,14 +119,14 @@ spent_local tally at = idle_local _
 pub chain_local : (left : ℕ) (tally : Count) (at : ℕ) → Local worlds (chain_on left tally at)
 chain_local zero tally at = spent_local tally at
 chain_local (suc k) tally at =
-    branch-local worlds (λ w. InMemory w.host at 28) (λ w. in_memory? w.host at 28) (chain_on (suc k) tally at)
+    branch_local worlds (λ w. InMemory w.host at 28) (λ w. in_memory? w.host at 28) (chain_on (suc k) tally at)
     (then (first k tally at) (then_on k tally at)) (idle (bad_address k tally at))
     (λ w u agree. (
       λ good. range_same w.host u.host at 28 (ap (λ p. p.1) agree.shape) good,
       λ good. range_same u.host w.host at 28 (sym (ap (λ p. p.1) agree.shape)) good,
     ))
-    (then-local worlds worlds_stable (first k tally at) (then_on k tally at) (block_is_local at tally.blocks)
+    (then_local worlds worlds_stable (first k tally at) (then_on k tally at) (block_is_local at tally.blocks)
     (λ o.
-    following-local k o.answer o.linked (counted tally o.sectors) o.link
+    following_local k o.answer o.linked (counted tally o.sectors) o.link
     (chain_local k (counted tally o.sectors) o.link)))
     (idle_local (bad_address k tally at)) (goes_on k tally at) (stops k tally at)

@@ -9,7 +9,7 @@ use Rattle.wire.specs.Among.{Among}
 use Rattle.answers.specs.declared.BlockAnswer.{BlockAnswer}
 use Rattle.answers.specs.declared.Refusal.{Refusal}
 use Rattle.judge.specs.Asks.{checks_of}
-use Rattle.judge.proofs.Locality.{read-uib-placed}
+use Rattle.judge.proofs.Locality.{read_uib_placed}
 use Rattle.judge.specs.Given.{Asked}
 use Rattle.judge.specs.Reads.{InList, InUib}
 use Rattle.request.specs.declared.Task.{Task}
@@ -17,7 +17,7 @@ use Rattle.unit.specs.Holding.{held_by_other}
 use Rattle.unit.specs.Standing.{holder}
 use Rattle.demands.specs.Footprint.{ReadsHost, asked_of}
 use Rattle.demands.specs.Visits.{Visit, effect_of}
-use Rattle.demands.proofs.BlockLaws.{answer-24-exactly, refusal_moves_nothing, refused_exactly}
+use Rattle.demands.proofs.BlockLaws.{answer_24_exactly, refusal_moves_nothing, refused_exactly}
 use Rattle.demands.proofs.Read.{ReadJudged, reads_judged}
 use Rattle.demands.proofs.Read.ReadJudged.{list, own, taken, uib}
 use Rattle.demands.proofs.Written.{sectors_come}
@@ -25,7 +25,7 @@ use Rattle.judge.specs.Passed.{None, before}
 
 module _ (a : Asked) (held : T (held_by_other a.controller (holder a.unit))) where
   no_uib : (at bytes x : ℕ) → InUib a at bytes x → ⊥
-  no_uib at bytes x u = (read-uib-placed a at bytes x u).1 held
+  no_uib at bytes x u = (read_uib_placed a at bytes x u).1 held
 
   no_list : (x : ℕ) → InList a x → ⊥
   unfolding None
@@ -39,8 +39,8 @@ module _ (v : Visit) (refused : (effect_of v).answer ≡ BlockAnswer.Failed Refu
     where
       own_alone : ReadJudged v x → Among v.at 28 x
       own_alone (own among) = among
-      own_alone (uib u) = absurd (no_uib (asked_of v) ((answer-24-exactly v).0 refused).1 _ _ x u)
-      own_alone (list l) = absurd (no_list (asked_of v) ((answer-24-exactly v).0 refused).1 x l)
+      own_alone (uib u) = absurd (no_uib (asked_of v) ((answer_24_exactly v).0 refused).1 _ _ x u)
+      own_alone (list l) = absurd (no_list (asked_of v) ((answer_24_exactly v).0 refused).1 x l)
       own_alone (taken d) =
           let nothing = (refusal_moves_nothing v Refusal.DriveHeld ((refused_exactly v Refusal.DriveHeld (λ is. omega arith)).0 refused)).0 in
           let none = rw (sectors_come v, nothing, zero-mul) at d.moved in

@@ -21,7 +21,7 @@ use Rattle.iopb.specs.Ask.{shape_at, task_of}
 use Rattle.iopb.proofs.Answers.{shape_at_inside, shape_at_outside}
 use Rattle.iopb.proofs.Locality.{asked_by_87, task_apart}
 use Rattle.judge.specs.Given.{Asked, on}
-use Rattle.judge.proofs.Locality.{placed-uib-read, read-uib-placed}
+use Rattle.judge.proofs.Locality.{placed_uib_read, read_uib_placed}
 use Rattle.geometry.specs.declared.Geometry.{Geometry}
 use Rattle.iopb.specs.Layout.{uib_at}
 use Rattle.judge.specs.Reads.{InList, InUib}
@@ -34,10 +34,10 @@ no_shape_moves e = never cc
 
 module _ (by : Controller) (h k : List ℕ) (long : length h ≡ length k) (u : UnitRecord) (image : ℕ) where
   -- The checks before 18, of the same task.
-  before-list-alike :
+  before_list_alike :
       (t : Task) (m : Move) (at n : ℕ) → t ≡ Moves m → m.buffer ≡ Elements at n → None (before ListBad (checks (on by u image t h))) →
       None (before ListBad (checks (on by u image t k)))
-  before-list-alike t m at n asks buffer passed = rw (asks, buffer) (rw (asks, buffer) at passed)
+  before_list_alike t m at n asks buffer passed = rw (asks, buffer) (rw (asks, buffer) at passed)
 
   -- A UIB that is where it can be read in one memory is so in the other.
   placed_alike : (at : ℕ) (g : Geometry) → shape_at h at ≡ Shape.Given g → shape_at k at ≡ Shape.Given (uib_at k at)
@@ -63,7 +63,7 @@ module _ (by : Controller) (h k : List ℕ) (long : length h ≡ length k) (u : 
           buffer = l.buffer;
           passed =
               subst (λ t. None (before ListBad (checks (on by u image t k)))) same
-              (before-list-alike (task_of h b) l.move l.at l.elements l.asks l.buffer l.passed);
+              (before_list_alike (task_of h b) l.move l.at l.elements l.asks l.buffer l.passed);
           some = l.some;
           most = l.most;
           place = range_same h k l.at (8 * l.elements) long l.place;
@@ -72,10 +72,10 @@ module _ (by : Controller) (h k : List ℕ) (long : length h ≡ length k) (u : 
 
     pub uib_read_alike : (x : ℕ) → InUib in_h b.address 18 x → InUib in_k b.address 18 x
     uib_read_alike x uib =
-        let read = read-uib-placed in_h b.address 18 x uib in
+        let read = read_uib_placed in_h b.address 18 x uib in
         by_cases (ℕ_discrete b.command 0x87)
         (λ is.
         let given : shape_at h b.address ≡ Shape.Given read.0.0 = cc (asked_by_87 h b is, read.0.1) in
-        placed-uib-read in_k b.address 18 x _ _ (asked_by_87 k b is) (placed_alike b.address _ given) read.1 uib.among)
+        placed_uib_read in_k b.address 18 x _ _ (asked_by_87 k b is) (placed_alike b.address _ given) read.1 uib.among)
         (λ other.
-        placed-uib-read in_k b.address 18 x _ _ (sym (task_apart h k b other) ∙ read.0.1) refl read.1 uib.among)
+        placed_uib_read in_k b.address 18 x _ _ (sym (task_apart h k b other) ∙ read.0.1) refl read.1 uib.among)

@@ -13,7 +13,7 @@ use Rattle.board.specs.Chain.{ends, nothing, ran}
 use Rattle.board.proofs.Runs.{ran_chain}
 use Rattle.demands.specs.Footprint.{ReadsHost, RunNames, RunReads, RunWrites, Some, WritesHost, names}
 use Rattle.demands.specs.Visits.{Passes, Visit, block_of, effect_of, fetched_by, passes?, visits, world_left}
-use Rattle.demands.proofs.Endings.{fetched_step, visits-step}
+use Rattle.demands.proofs.Endings.{fetched_step, visits_step}
 use Rattle.demands.proofs.Written.{effect_is}
 use Rattle.independence.proofs.Carried.{Alone, Lies}
 use Rattle.independence.proofs.OneBlock.{In, by_block, none_onwards}
@@ -31,10 +31,10 @@ in_second (r ∷ rs) qs x there = inr (in_second rs qs x there)
 abbrev pub visit : World → (at i : ℕ) → Visit
 visit w at i = record { at = at; index = i; world = w }
 
-ends-alike :
+ends_alike :
     (w : World) (at i : ℕ) →
     ((effect_of (visit w at i)).answer ≡ (effect_of (visit w at 0)).answer) × ((effect_of (visit w at i)).sectors ≡ (effect_of (visit w at 0)).sectors)
-ends-alike w at i = (
+ends_alike w at i = (
   ap (λ e. e.answer) (effect_is (visit w at i)) ∙ sym (ap (λ e. e.answer) (effect_is (visit w at 0))),
   ap (λ e. e.sectors) (effect_is (visit w at i)) ∙ sym (ap (λ e. e.sectors) (effect_is (visit w at 0))),
 )
@@ -55,10 +55,10 @@ module _ {at : ℕ} {w : World} {next : ℕ} {then : World} (l : Leads at w next
   fetches_two : fetched_by at 2 w ≡ visit w at 0 ∷ visit then next 1 ∷ []
   unfolding fetched_by visits
   fetches_two =
-      if_pos (passes? at 2 w) passes _ _ ∙ visits-step 1 nothing at w l.first.place ∙
+      if_pos (passes? at 2 w) passes _ _ ∙ visits_step 1 nothing at w l.first.place ∙
       rw (l.ended, l.linked, l.goes, l.left)
       (ap (λ vs. visit w at 0 ∷ vs)
-      (visits-step 0 (record { blocks = 1; sectors = 0 }) next then l.second.place ∙
+      (visits_step 0 (record { blocks = 1; sectors = 0 }) next then l.second.place ∙
       ap (λ vs. visit then next 1 ∷ vs) (none_onwards (effect_of (visit then next 1)).answer (block_of (visit then next 1)).options.link)))
 
   -- What the run does, one of the two does, and the other way round.
@@ -74,22 +74,22 @@ module _ {at : ℕ} {w : World} {next : ℕ} {then : World} (l : Leads at w next
   by_second P p = subst (Some P) (sym fetches_two) (inr (inl p))
 
   -- Where the second ends 80 and has no link, the run is done.
-  pub done-both :
+  pub done_both :
       (m n : ℕ) → (effect_of (visit w at 0)).sectors ≡ m → (effect_of (visit then next 0)).sectors ≡ n →
       (effect_of (visit then next 0)).answer ≡ Ended → (block_of (visit then next 0)).options.link ≡ false →
       ran at 2 w ≡ ends RunAnswer.Done 0 (record { blocks = 2; sectors = 0 + m + n }) (world_left (visit then next 1))
-  done-both m n moved moved-too ended-too unlinked =
-      let alike = ends-alike then next 1 in
+  done_both m n moved moved-too ended-too unlinked =
+      let alike = ends_alike then next 1 in
       ran_chain at 2 w passes.events (passes.least, passes.most) passes.place ∙ fetched_step 1 nothing at w passes.place ∙
       rw (l.ended, l.linked, l.goes, moved, l.left)
       (fetched_step 0 (record { blocks = 1; sectors = 0 + m }) next then l.second.place ∙
       rw (alike.0 ∙ ended-too, unlinked, alike.1 ∙ moved-too))
 
   -- What both name, read and write.
-  pub lies-in-both :
+  pub lies_in_both :
       {u : UnitNumber} {rs ws qs vs : List (ℕ × ℕ)} → Alone at w u rs ws → Alone next then u qs vs →
       Lies (RunNames at 2 w) (RunReads at 2 w) (RunWrites at 2 w) u (rs ++ qs) (ws ++ vs)
-  lies-in-both {u} {rs} {ws} {qs} {vs} f g =
+  lies_in_both {u} {rs} {ws} {qs} {vs} f g =
       record {
         names_it =
             λ n a.

@@ -24,18 +24,18 @@ pub record Meet (P : ℕ → Type 0) (m n : Buffers) : Type 0 where
 
 -- ---- one store
 
-set-meets :
+set_meets :
     (h k : List ℕ) (y a x : ℕ) → length h ≡ length k → (y ≡ x) ⊎ (get_or h x 0 ≡ get_or k x 0) → get_or (set h y a) x 0 ≡ get_or (set k y a) x 0
-set-meets [] [] y a x long alike = refl
-set-meets [] (d ∷ k) y a x long alike = absurd (omega (arith, long))
-set-meets (b ∷ h) [] y a x long alike = absurd (omega (arith, long))
-set-meets (b ∷ h) (d ∷ k) zero a zero long alike = refl
-set-meets (b ∷ h) (d ∷ k) zero a (suc x) long (inl e) = absurd (omega (arith, e))
-set-meets (b ∷ h) (d ∷ k) zero a (suc x) long (inr e) = e
-set-meets (b ∷ h) (d ∷ k) (suc y) a zero long (inl e) = absurd (omega (arith, e))
-set-meets (b ∷ h) (d ∷ k) (suc y) a zero long (inr e) = e
-set-meets (b ∷ h) (d ∷ k) (suc y) a (suc x) long (inl e) = set-meets h k y a x (omega (arith, long)) (inl (omega (arith, e)))
-set-meets (b ∷ h) (d ∷ k) (suc y) a (suc x) long (inr e) = set-meets h k y a x (omega (arith, long)) (inr e)
+set_meets [] [] y a x long alike = refl
+set_meets [] (d ∷ k) y a x long alike = absurd (omega (arith, long))
+set_meets (b ∷ h) [] y a x long alike = absurd (omega (arith, long))
+set_meets (b ∷ h) (d ∷ k) zero a zero long alike = refl
+set_meets (b ∷ h) (d ∷ k) zero a (suc x) long (inl e) = absurd (omega (arith, e))
+set_meets (b ∷ h) (d ∷ k) zero a (suc x) long (inr e) = e
+set_meets (b ∷ h) (d ∷ k) (suc y) a zero long (inl e) = absurd (omega (arith, e))
+set_meets (b ∷ h) (d ∷ k) (suc y) a zero long (inr e) = e
+set_meets (b ∷ h) (d ∷ k) (suc y) a (suc x) long (inl e) = set_meets h k y a x (omega (arith, long)) (inl (omega (arith, e)))
+set_meets (b ∷ h) (d ∷ k) (suc y) a (suc x) long (inr e) = set_meets h k y a x (omega (arith, long)) (inr e)
 
 worth_meets : (P : ℕ → Type 0) (m n : Buffers) → Meet P m n → (v : Value) → ((x : ℕ) → v ≡ copy_of (host_byte x) → P x) → worth m v ≡ worth n v
 worth_meets P m n meet (number a) from = refl
@@ -43,27 +43,27 @@ worth_meets P m n meet (copy_of (host_byte x)) from = meet.host x (from x refl)
 worth_meets P m n meet (copy_of (image_byte x)) from = ap (λ b. get_or b x 0) meet.image
 worth_meets P m n meet (copy_of (event_byte x)) from = ap (λ b. get_or b x 0) meet.events
 
-with-meets :
+with_meets :
     (P : ℕ → Type 0) (m n : Buffers) → Meet P m n → (c : ByteAt) (a b : ℕ) → a ≡ b →
     Meet (λ x. P x ⊎ (c ≡ host_byte x)) (with m c a) (with n c b)
-with-meets P m n meet (host_byte y) a b same =
+with_meets P m n meet (host_byte y) a b same =
     record {
       long = length-set m.host y a ∙ meet.long ∙ sym (length-set n.host y b);
       host = λ x known.
           ap (λ v. get_or (set m.host y v) x 0) same ∙
-          set-meets m.host n.host y b x meet.long
+          set_meets m.host n.host y b x meet.long
           (⊎_elim (λ p. inr (meet.host x p)) (λ e. inl cc) known);
       image = meet.image;
       events = meet.events;
     }
-with-meets P m n meet (image_byte y) a b same =
+with_meets P m n meet (image_byte y) a b same =
     record {
       long = meet.long;
       host = λ x known. ⊎_elim (λ p. meet.host x p) (λ e. absurd (never cc)) known;
       image = λ i. set (meet.image i) y (same i);
       events = meet.events;
     }
-with-meets P m n meet (event_byte y) a b same =
+with_meets P m n meet (event_byte y) a b same =
     record {
       long = meet.long;
       host = λ x known. ⊎_elim (λ p. meet.host x p) (λ e. absurd (never cc)) known;
@@ -73,21 +73,21 @@ with-meets P m n meet (event_byte y) a b same =
 
 -- ---- all stores
 
-pub stores-meet :
+pub stores_meet :
     (ss : List Store) (P : ℕ → Type 0) (m n : Buffers) → Meet P m n → ((x : ℕ) → Sourced ss x → P x) →
     Meet (λ x. P x ⊎ Stored ss (host_byte x)) (after ss m) (after ss n)
 unfolding after Sourced Stored
-stores-meet [] P m n meet from =
+stores_meet [] P m n meet from =
     record {
       long = meet.long;
       host = λ x known. ⊎_elim (λ p. meet.host x p) (λ none. absurd none) known;
       image = meet.image;
       events = meet.events;
     }
-stores-meet (s ∷ ss) P m n meet from =
+stores_meet (s ∷ ss) P m n meet from =
     let same = worth_meets P m n meet s.value (λ x is. from x (inl is)) in
-    let one = with-meets P m n meet s.to (worth m s.value) (worth n s.value) same in
-    let rest = stores-meet ss (λ x. P x ⊎ (s.to ≡ host_byte x)) _ _ one (λ x later. inl (from x (inr later))) in
+    let one = with_meets P m n meet s.to (worth m s.value) (worth n s.value) same in
+    let rest = stores_meet ss (λ x. P x ⊎ (s.to ≡ host_byte x)) _ _ one (λ x later. inl (from x (inr later))) in
     record {
       long = rest.long;
       host = λ x known.

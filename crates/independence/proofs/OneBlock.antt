@@ -26,7 +26,7 @@ use Rattle.board.proofs.Runs.{ran_chain}
 use Rattle.demands.specs.Footprint.{HostData, InReport, ReadsHost, Some, WritesHost, asked_of, moving_of, named_drive, report_of, verdict_of}
 use Rattle.demands.specs.Footprint.HostWritten.{moved as given, report, status_word}
 use Rattle.demands.specs.Visits.{Passes, Visit, block_of, effect_of, fetched_by, onwards, passes?, visits, world_left}
-use Rattle.demands.proofs.Endings.{fetched_step, visits-step}
+use Rattle.demands.proofs.Endings.{fetched_step, visits_step}
 use Rattle.demands.proofs.Read.{ReadJudged, reads_judged}
 use Rattle.demands.proofs.Read.ReadJudged.{list, own, taken, uib}
 use Rattle.unit.specs.Standing.{geometry}
@@ -48,7 +48,7 @@ module _ (at : ℕ) (w : World) (passes : Passes at 1 w) where
   pub fetches_one : fetched_by at 1 w ≡ v ∷ []
   unfolding fetched_by visits
   fetches_one =
-      if_pos (passes? at 1 w) passes _ _ ∙ visits-step 0 nothing at w passes.place ∙
+      if_pos (passes? at 1 w) passes _ _ ∙ visits_step 0 nothing at w passes.place ∙
       ap (λ vs. v ∷ vs) (none_onwards (effect_of v).answer (block_of v).options.link)
 
   -- What the run does, the block does, and the other way round.
@@ -84,10 +84,10 @@ module _ (at : ℕ) (w : World) (passes : Passes at 1 w) where
       fetched_step 0 nothing at w passes.place ∙ rw (ended, moved)
 
 -- A run that is refused fetches no block.
-pub none-fetched :
+pub none_fetched :
     (first allowance : ℕ) (w : World) (P : Visit → Type 0) → Some P (fetched_by first allowance w) → (Passes first allowance w → ⊥) → ⊥
 unfolding fetched_by
-none-fetched first allowance w P does refused = subst (Some P) (if_neg (passes? first allowance w) refused _ _) does
+none_fetched first allowance w P does refused = subst (Some P) (if_neg (passes? first allowance w) refused _ _) does
 
 -- ---- what a block reads and writes
 
@@ -98,12 +98,12 @@ In (r ∷ rs) x = Among r.0 r.1 x ⊎ In rs x
 
 module _ (v : Visit) (rs : List (ℕ × ℕ)) (x : ℕ) where
   -- Beside word 1 a block writes what it reports and the data that it moves to host memory.
-  pub writes-in :
+  pub writes_in :
       (InReport v.at (report_of (verdict_of v)) x → In rs x) →
       (HostData (asked_of v) (named_drive v) true x → In rs x) → WritesHost v x → In ((v.at + 2, 2) ∷ rs) x
-  writes-in reported carried (status_word word) = inl word
-  writes-in reported carried (report among) = inr (reported among)
-  writes-in reported carried (given here) = inr (carried here)
+  writes_in reported carried (status_word word) = inl word
+  writes_in reported carried (report among) = inr (reported among)
+  writes_in reported carried (given here) = inr (carried here)
 
   -- Beside its own 28 bytes it reads those that it is judged by and the data that it moves to the disk.
   pub reads_in :

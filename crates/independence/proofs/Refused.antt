@@ -34,9 +34,9 @@ use Rattle.demands.specs.Footprint.{RunWrites, WritesHost, asked_of, named_drive
 use Rattle.demands.specs.Footprint.HostWritten.{status_word}
 use Rattle.demands.specs.Visits.{Passes, Visit, block_of}
 use Rattle.independence.specs.TwoChains.{come, drive_with}
-use Rattle.independence.proofs.Carried.{Alone, alone, comes-done, comes_refused, idle, no_list, no_uib, silent, still, v}
+use Rattle.independence.proofs.Carried.{Alone, alone, comes_done, comes_refused, idle, no_list, no_uib, silent, still, v}
 use Rattle.independence.proofs.OneBlock.{by_block}
-use Rattle.independence.proofs.Tiny.{counts, free, long-list-refused, move_by, unit}
+use Rattle.independence.proofs.Tiny.{counts, free, long_list_refused, move_by, unit}
 use Rattle.board.specs.World.{World, unit_at}
 use Rattle.judge.specs.Passed.{None, before}
 
@@ -53,10 +53,10 @@ module _ (w : World) (at : ℕ) (passes : Passes at 1 w) where
   abbrev TurnedAway : Refusal → Type 0
   TurnedAway r = Bare w at (come RunAnswer.BlockFailed (refusal_number r) 0)
 
-  pub turned-away :
+  pub turned_away :
       (r : Refusal) → verdict_of b ≡ Verdict.Refused r → ((x : ℕ) → InUib (asked_of b) (block_of b).address 18 x → ⊥) →
       ((x : ℕ) → InList (asked_of b) x → ⊥) → TurnedAway r
-  turned-away r is no-u no-l =
+  turned_away r is no-u no-l =
       record {
         footprint =
             alone w at passes [] [] (λ x j. ⊎_elim (no-u x) (no-l x) j) (still w at passes _ is refl false) (silent w at passes _ is refl)
@@ -65,32 +65,32 @@ module _ (w : World) (at : ℕ) (passes : Passes at 1 w) where
       }
 
   -- A transfer through a list of more than 64 elements.
-  pub over-64-unread :
+  pub over_64_unread :
       (byte mark : ℕ) → named_drive b ≡ drive_with byte mark → (to_host : Bool) (list elements : ℕ) →
       task_of w.host (block_of b) ≡ Task.Move (move_by to_host 0 1 (Buffer.List list elements)) → 64 < elements → TurnedAway Refusal.ListBad
-  over-64-unread byte mark same to_host list elements task over =
-      turned-away Refusal.ListBad
-      (rw (task, same) (long-list-refused w.controller w.host 0 (omega arith) to_host 0 1 list elements (omega arith) (omega arith) over))
+  over_64_unread byte mark same to_host list elements task over =
+      turned_away Refusal.ListBad
+      (rw (task, same) (long_list_refused w.controller w.host 0 (omega arith) to_host 0 1 list elements (omega arith) (omega arith) over))
       (λ x u. no_uib _ _ _ x (λ s is. impossible (cc (task, is))) u)
       (λ x l. let as_many : elements ≡ l.elements = cc (task, l.asks, l.buffer) in omega arith)
 
   module _ (nobody : held_by_other w.controller (holder (named_drive b).unit) ≡ false) where
     -- An initialize whose UIB is at an odd address or not wholly in memory.
-    pub misplaced-unread :
+    pub misplaced_unread :
         (uib : ℕ) → task_of w.host (block_of b) ≡ Task.Initialize (shape_at w.host uib) → (InMemory w.host uib 18 → ⊥) →
         TurnedAway Refusal.UibMisplaced
-    misplaced-unread uib task bad =
+    misplaced_unread uib task bad =
         let misplaced : task_of w.host (block_of b) ≡ Task.Initialize Shape.Misplaced =
         task ∙ ap Task.Initialize (shape_at_outside w.host uib bad) in
-        turned-away Refusal.UibMisplaced (rw misplaced (own _ _ _ _ _ tt nobody ∙ shape_misplaced _ _ _ _)) (λ x u. misplaced_uib_unread _ _ _ x misplaced u)
+        turned_away Refusal.UibMisplaced (rw misplaced (own _ _ _ _ _ tt nobody ∙ shape_misplaced _ _ _ _)) (λ x u. misplaced_uib_unread _ _ _ x misplaced u)
         (λ x l. no_list _ x (λ m is. impossible (cc (misplaced, is))) l)
 
     -- A transfer of a unit that is not initialized, in one piece or through a list.
-    pub unready-unread :
+    pub unready_unread :
         (m : Move) → task_of w.host (block_of b) ≡ Task.Move m → (CountsAsInitialized (named_drive b).unit → ⊥) → TurnedAway Refusal.NotInitialized
     unfolding None
-    unready-unread m task unready =
-        turned-away Refusal.NotInitialized (rw task (own _ _ _ _ _ tt nobody ∙ move_11 _ _ _ _ m unready))
+    unready_unread m task unready =
+        turned_away Refusal.NotInitialized (rw task (own _ _ _ _ _ tt nobody ∙ move_11 _ _ _ _ m unready))
         (λ x u. no_uib _ _ _ x (λ s is. impossible (cc (task, is))) u)
         (λ x l.
         let a = asked_of b in
@@ -108,7 +108,7 @@ module _ (w : World) (at : ℕ) (passes : Passes at 1 w) where
       restore_done w.controller (unit 0) 130 w.host (counts 0 (omega arith))) in
       record {
         footprint = idle w at passes _ judged refl refl (λ s is. impossible (cc (task, is))) (λ m is. impossible (cc (task, is)));
-        comes = comes-done w at passes unlinked _ judged refl;
+        comes = comes_done w at passes unlinked _ judged refl;
       }
 
   -- Every block writes its word 1.

@@ -13,14 +13,14 @@ use Rattle.wire.proofs.Memory.{range_same}
 use Rattle.answers.specs.declared.RunAnswer.{RunAnswer}
 use Rattle.board.specs.Ends.{end_of, ended_of}
 use Rattle.board.specs.Chain.{nothing, ran}
-use Rattle.board.proofs.Runs.{ran-allowance-bad, ran_chain, ran_events_short, ran_first_bad}
+use Rattle.board.proofs.Runs.{ran_allowance_bad, ran_chain, ran_events_short, ran_first_bad}
 use Rattle.demands.specs.Footprint.{ReadsHost, WritesHost}
 use Rattle.demands.specs.Visits.{Passes, fetched_by, passes?, visits}
 use Rattle.demands.proofs.RunAnswers.{not_passed}
 use Rattle.independence.specs.Chains.{Chain, run_on}
 use Rattle.independence.specs.Local.{Local, Step}
 use Rattle.independence.specs.Worlds.{events, worlds}
-use Rattle.independence.proofs.Branches.{SameAt, branch-local, still, still-local}
+use Rattle.independence.proofs.Branches.{SameAt, branch_local, still, still_local}
 use Rattle.independence.proofs.Followed.{NoBlock, chain_local, chain_on, of_same}
 use Rattle.board.specs.World.{World}
 
@@ -65,7 +65,7 @@ module _ (chain : Chain) where
       (λ place. refused (record { events = omega (arith, long); least = good.0; most = good.1; place = place }))) ∙
       sym (no_short ∙ if_neg (Dec.not (Dec.and (dec_le 1 allowance) (dec_le allowance 64))) (λ bad. bad good) _ _))
       (λ bad.
-      ap end_of (ran-allowance-bad first allowance w (omega (arith, long)) bad) ∙
+      ap end_of (ran_allowance_bad first allowance w (omega (arith, long)) bad) ∙
       sym (no_short ∙ if_pos (Dec.not (Dec.and (dec_le 1 allowance) (dec_le allowance 64))) bad _ _)))
 
   as_refusal : (w : World) → (Passes first allowance w → ⊥) → SameAt worlds (run_on chain) refusal w
@@ -79,10 +79,10 @@ module _ (chain : Chain) where
         writes = of_same WritesHost none;
       }
 
-  passes-alike :
+  passes_alike :
       (w u : World) → length w.host ≡ length u.host → length w.events ≡ length u.events → Passes first allowance w →
       Passes first allowance u
-  passes-alike w u long room p =
+  passes_alike w u long room p =
       record {
         events = omega (arith, room, p.events);
         least = p.least;
@@ -92,12 +92,12 @@ module _ (chain : Chain) where
 
   pub run_is_local : Local worlds (run_on chain)
   run_is_local =
-      branch-local worlds (Passes first allowance) (passes? first allowance) (run_on chain) (chain_on allowance nothing first) refusal
+      branch_local worlds (Passes first allowance) (passes? first allowance) (run_on chain) (chain_on allowance nothing first) refusal
       (λ w u agree.
       let long = ap length (agree.cells events tt) in
       let memory = ap (λ p. p.1) agree.shape in
-      (passes-alike w u memory long, passes-alike u w (sym memory) (sym long)))
+      (passes_alike w u memory long, passes_alike u w (sym memory) (sym long)))
       (chain_local allowance nothing first)
-      (still-local worlds NoBlock (λ w. answer_for (length w.events))
+      (still_local worlds NoBlock (λ w. answer_for (length w.events))
       (λ w u agree. ap (λ e. answer_for (length e)) (agree.cells events tt)))
       as_chain as_refusal

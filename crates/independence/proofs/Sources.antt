@@ -42,13 +42,13 @@ of_append (s ∷ ss) ts x there =
     ⊎_elim (λ here. inl (inl here))
     (λ later. ⊎_elim (λ one. inl (inr one)) (λ other. inr other) (of_append ss ts x later)) there
 
-of-upTo :
+of_up_to :
     (n : ℕ) (f : ℕ → Store) (x : ℕ) → Sourced (up_to n f) x → (k : ℕ) × ((k < n) × ((f k).value ≡ copy_of (host_byte x)))
 unfolding Sourced up_to
-of-upTo zero f x there = absurd there
-of-upTo (suc n) f x there =
+of_up_to zero f x there = absurd there
+of_up_to (suc n) f x there =
     ⊎_elim
-    (λ earlier. let r = of-upTo n f x earlier in (r.0, (omega (arith, r.1.0), r.1.1)))
+    (λ earlier. let r = of_up_to n f x earlier in (r.0, (omega (arith, r.1.0), r.1.1)))
     (λ last. ⊎_elim (λ is. (n, (omega arith, is))) (λ none. absurd none) last)
     (of_append (up_to n f) (f n ∷ []) x there)
 
@@ -60,37 +60,37 @@ same_byte e = cc
 not_from_the_image : {x y : ℕ} → copy_of (image_byte x) ≡ copy_of (host_byte y) → ⊥
 not_from_the_image e = never cc
 
-data-sources :
+data_sources :
     (image : List ℕ) (t : Transfer) (x : ℕ) → Sourced (data_on image t) x →
-    (t.to_host ≡ false) × ((k : ℕ) × ((k < (progress_on image t).sectors * B t.geometry) × (t.host_byte k ≡ x)))
+    (t.to_host ≡ false) × ((k : ℕ) × ((k < (progress_on image t).sectors * B t.geometry) × (t.host_at k ≡ x)))
 unfolding data_on
-data-sources image t x there =
-    let s = of-upTo ((progress_on image t).sectors * B t.geometry) (move_at t) x there in
+data_sources image t x there =
+    let s = of_up_to ((progress_on image t).sectors * B t.geometry) (move_at t) x there in
     by_way t.to_host refl s.0 s.1.0 s.1.1
   where
     by_way :
         (way : Bool) → t.to_host ≡ way → (k : ℕ) → k < (progress_on image t).sectors * B t.geometry →
         (move_at t k).value ≡ copy_of (host_byte x) →
-        (t.to_host ≡ false) × ((k : ℕ) × ((k < (progress_on image t).sectors * B t.geometry) × (t.host_byte k ≡ x)))
+        (t.to_host ≡ false) × ((k : ℕ) × ((k < (progress_on image t).sectors * B t.geometry) × (t.host_at k ≡ x)))
     by_way false is k less same = (is, (k, (less, same_byte (rw is at same))))
     by_way true is k less same = absurd (not_from_the_image (rw is at same))
 
 -- ---- a block
 
-finish-has-none :
+finish_has_none :
     (b : Block) (at i : ℕ) (answer : BlockAnswer) (travel : ℤ) (x : ℕ) → Sourced (finish b at i answer travel) x → ⊥
-finish-has-none b at i answer travel x there =
+finish_has_none b at i answer travel x there =
     ⊎_elim (λ word. numbers_have_none host_byte (at + 2) (status_of answer ∷ error_byte answer ∷ []) x word)
     (λ event. numbers_have_none event_byte (8 * i) (entry b answer travel) x event)
     (of_append (bytes_from host_byte (at + 2) (status_of answer ∷ error_byte answer ∷ [])) (bytes_from event_byte (8 * i) (entry b answer travel)) x there)
 
 -- Of what performing stores only the data has a source.
-performed-sources :
+performed_sources :
     (host : List ℕ) (d : Drive) (at : ℕ) (verd : Verdict) (x : ℕ) → Sourced (acted_on host d at verd).stores x →
     Sourced (data_on d.image (transfer_of host d.unit (moving_of verd))) x
 unfolding Sourced
-performed-sources host d at (Refused r) x there = absurd there
-performed-sources host d at (Do p) x there =
+performed_sources host d at (Refused r) x there = absurd there
+performed_sources host d at (Do p) x there =
     ⊎_elim
     (λ earlier.
     ⊎_elim (λ mark. absurd (numbers_have_none host_byte (at + 2) (0x81 ∷ 0x00 ∷ []) x mark)) (λ middle. middle)
@@ -106,9 +106,9 @@ module _ (v : Visit) (x : ℕ) where
       let p = performance v in
       ⊎_elim
       (λ early.
-      let s = data-sources (named_drive v).image (transfer_by (asked_of v)) x
-      (performed-sources v.world.host (named_drive v) v.at (verdict_of v) x early) in
+      let s = data_sources (named_drive v).image (transfer_by (asked_of v)) x
+      (performed_sources v.world.host (named_drive v) v.at (verdict_of v) x early) in
       moved (record { goes = s.0; byte = s.1.0; moved = s.1.1.0; here = s.1.1.1 }))
-      (λ late. absurd (finish-has-none (block_of v) v.at v.index p.answer p.travel x late))
+      (λ late. absurd (finish_has_none (block_of v) v.at v.index p.answer p.travel x late))
       (of_append p.stores (finish (block_of v) v.at v.index p.answer p.travel) x
       (subst (λ (e : Effect). Sourced e.stores x) (effect_is v) there))

@@ -19,10 +19,10 @@ module _ (K : Kind) where
       (record { shape = two.shape s; cells = λ c r. sym (two.frame s c (λ w. unread c w r)) })
 
   -- Two steps that write no cell in common store the same where both write.
-  pub none-in-common :
+  pub none_in_common :
       {A B : Type 0} (S : Step K A) (T : Step K B) (s : K.State) → ((c : K.Cell) → S.Writes s c → T.Writes s c → ⊥) →
       (c : K.Cell) → S.Writes s c → T.Writes s c → K.get (S.left s) c ≡ K.get (T.left s) c
-  none-in-common S T s none c w v = absurd (none c w v)
+  none_in_common S T s none c w v = absurd (none c w v)
 
   -- Where the cells make the state, steps in either order leave one state.
   pub one_state :
@@ -77,9 +77,9 @@ module _ (K : Kind) (values : Stable K) where
             ap (λ a. K.get ((T a).left (S.left t)) c) same;
       }
 
-  pub then-local :
+  pub then_local :
       {A B : Type 0} (S : Step K A) (T : A → Step K B) → Local K S → ((a : A) → Local K (T a)) → Local K (then S T)
-  then-local S T one two =
+  then_local S T one two =
       record {
         shape = λ s. one.shape s ∙ (two (S.out s)).shape (S.left s);
         frame = λ s c none.

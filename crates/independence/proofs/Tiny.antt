@@ -24,7 +24,7 @@ use Rattle.judge.specs.declared.Verdict.{Verdict}
 use Rattle.judge.specs.Given.{on}
 use Rattle.judge.specs.Plans.{carrying, job_of, plan_of}
 use Rattle.judge.specs.Verdict.{verdict}
-use Rattle.judge.proofs.Tasks.{data_done, format_on, list_18, move_on, own, piece-done, span-covers, span_on}
+use Rattle.judge.proofs.Tasks.{data_done, format_on, list_18, move_on, own, piece_done, span_covers, span_on}
 use Rattle.request.specs.declared.Buffer.{Buffer}
 use Rattle.request.specs.declared.Move.{Move}
 use Rattle.request.specs.declared.Start.{Start}
@@ -138,19 +138,19 @@ module _ (k : Controller) (host : List ℕ) (c : ℕ) (heads : c < 2) where
       let m = move_by to_host n count b in
       own k (unit c) 130 host _ tt (free k c) ∙
       move_on k (unit c) 130 host m (counts c heads) present (λ none. omega arith) ∙
-      span_on k (unit c) 130 host m (span-covers k (unit c) 130 host m n refl some (omega (arith, sectors_2))) (omega (arith, need_130))
+      span_on k (unit c) 130 host m (span_covers k (unit c) 130 host m n refl some (omega (arith, sectors_2))) (omega (arith, need_130))
 
-  pub move-passes :
+  pub move_passes :
       (to_host : Bool) (n count at : ℕ) → 0 < count → n + count ≤ 2 → InMemory host at (count * 64) →
       verdict (on k (unit c) 130 (Task.Move (move_of to_host n count at)) host) ≡
       Verdict.Do (carrying (job_of (move_of to_host n count at) n))
-  move-passes to_host n count at some fits held =
-      by_its_buffer to_host n count (Buffer.Piece at) some fits ∙ piece-done k (unit c) 130 host (move_of to_host n count at) at refl n refl held
+  move_passes to_host n count at some fits held =
+      by_its_buffer to_host n count (Buffer.Piece at) some fits ∙ piece_done k (unit c) 130 host (move_of to_host n count at) at refl n refl held
 
-  pub long-list-refused :
+  pub long_list_refused :
       (to_host : Bool) (n count at elements : ℕ) → 0 < count → n + count ≤ 2 → 64 < elements →
       verdict (on k (unit c) 130 (Task.Move (move_by to_host n count (Buffer.List at elements))) host) ≡ Verdict.Refused Refusal.ListBad
-  long-list-refused to_host n count at elements some fits over =
+  long_list_refused to_host n count at elements some fits over =
       let b = Buffer.List at elements in
       by_its_buffer to_host n count b some fits ∙
       list_18 k (unit c) 130 host (move_by to_host n count b) at elements refl (λ good. omega (arith, good.most))
@@ -163,12 +163,12 @@ track buffer = record { cylinder = 0; head = 0; buffer = buffer }
 pub heads_there : (track_of (unit 0) 0 0).cylinder ≡ 0
 heads_there = rw (track_of_is, no_pairs_lands_there (unit 0) refl, spot_at_is)
 
-pub format-passes :
+pub format_passes :
     (k : Controller) (host : List ℕ) (cylinders sectors buffer : ℕ) → SizesWithin (shaped cylinders sectors) → cylinders * sectors ≡ 2 →
     InMemory host buffer 64 →
     let u = fresh (shaped cylinders sectors) in
     verdict (on k u 130 (Task.Format (track buffer)) host) ≡ Verdict.Do (plan_of u (Task.Format (track buffer)))
-format-passes k host cylinders sectors buffer sizes two held =
+format_passes k host cylinders sectors buffer sizes two held =
     let u = fresh (shaped cylinders sectors) in
     own k u 130 host _ tt (nobody k (shaped cylinders sectors)) ∙
     format_on k u 130 host (track buffer) (counts_of cylinders sectors sizes 0 (omega (arith, sizes.cylinders)))
@@ -215,8 +215,8 @@ module _ (image : List ℕ) (long : length image ≡ 130) (at : ℕ) where
         rw read_of_one
         (up_to_same 64 _ _ (λ i less. ap (λ (x : ℕ). record { to = host_byte (at + i); value = copy_of (image_byte x) }) (rw (place_is 0 (0 + i / 64), starts_at (0 + i / 64)) (omega arith))))
 
-    pub read-stopped :
+    pub read_stopped :
         get_or image 129 0 ≡ 1 → carried_on true 2 ≡ record { sectors = 1; answer = BlockAnswer.Failed Refusal.Unreadable }
     unfolding progress
-    read-stopped bad =
+    read_stopped bad =
         rw (place_is 0 0, place_is 0 1, heeded image 0, heeded image 1, good, bad)

@@ -24,7 +24,7 @@ use Rattle.judge.specs.declared.Report.{Report}
 use Rattle.judge.specs.declared.Verdict.{Verdict}
 use Rattle.judge.specs.Plans.{only, plan, plan_of}
 use Rattle.judge.proofs.First.{no_more}
-use Rattle.judge.proofs.Locality.{placed-uib-read}
+use Rattle.judge.proofs.Locality.{placed_uib_read}
 use Rattle.wire.proofs.Promises.{never as impossible}
 use Rattle.judge.proofs.Tasks.{format_11, handshake, own, restore_done, restore_refused, shape_given, shape_outside}
 use Rattle.unit.specs.declared.Controller.TheVariants.{First as FirstController}
@@ -42,7 +42,7 @@ use Rattle.demands.specs.Footprint.HostWritten.{moved as given, report, status_w
 use Rattle.demands.specs.Visits.{Passes, Visit, world_left}
 use Rattle.demands.proofs.Read.{read_uib}
 use Rattle.demands.proofs.Reports.{FormatTold}
-use Rattle.demands.proofs.VersionTwo.{disk-byte-is-there}
+use Rattle.demands.proofs.VersionTwo.{disk_byte_is_there}
 use Rattle.demands.proofs.Written.{effect_is}
 use Rattle.independence.specs.Chains.{Both, BothCell, First, HostReads, HostWrites, Second, both, drive, event_buffer, memory_byte, leaving, run_of}
 use Rattle.independence.specs.Demand3.{EitherWay, Independent, NoUnitInCommon, NoByteReadByOther, NoByteWrittenByBoth}
@@ -53,11 +53,11 @@ use Rattle.independence.proofs.Steps.{unnoticed}
 use Rattle.request.specs.declared.Task.{Task}
 use Rattle.unit.specs.declared.UnitNumber.TheVariants.{Zero, One}
 use Rattle.independence.specs.TwoChains.{adjacent, beside_format, come, drive_with, first_in, format_read, new_drive, of_first, of_second, one, read_by_other, refused_data, refused_format, second_in, shared_unit, stopped_read, tiny, two, written_twice, Met, Fails}
-use Rattle.independence.proofs.Carried.{Alone, Carried, alone, came, comes-done, comes_refused, data_byte_lem, differ, fails-otherwise, host_byte_is, idle, initialized, met, no_list, no_uib, no_unit, no_way, none_read, none_twice, passes_at, read_carried, read-stopped-carried, still, v, write_carried, writing}
+use Rattle.independence.proofs.Carried.{Alone, Carried, alone, came, comes_done, comes_refused, data_at, differ, fails_otherwise, host_byte_is, idle, initialized, met, no_list, no_uib, no_unit, no_way, none_read, none_twice, passes_at, read_carried, read_stopped_carried, still, v, write_carried, writing}
 use Rattle.independence.proofs.Formats.{format_alone, format_comes, format_wrote}
 use Rattle.independence.proofs.OneBlock.{In, by_block, done, failed, leaves}
-use Rattle.independence.proofs.Refused.{Bare, unready-unread}
-use Rattle.independence.proofs.Tiny.{counts, format-passes, heads_there, move_of, place_is, starts_at, track, unit}
+use Rattle.independence.proofs.Refused.{Bare, unready_unread}
+use Rattle.independence.proofs.Tiny.{counts, format_passes, heads_there, move_of, place_is, starts_at, track, unit}
 use Rattle.board.specs.World.{World, buffers_of, changed, world_after}
 use Rattle.judge.specs.Passed.{None}
 
@@ -68,16 +68,16 @@ abbrev second_of : Both → Visit
 second_of s = record { at = 28; index = 0; world = second_in s }
 
 -- Both chains of a pair pass checks 1, 2 and 3.
-pub both-pass :
+pub both_pass :
     (s : Both) → length s.events1 ≡ 512 → length s.events2 ≡ 512 → 56 ≤ length s.host1 →
     Passes 0 1 (first_in s) × Passes 28 1 (second_in s)
-both-pass s events1 events2 long =
+both_pass s events1 events2 long =
     (passes_at (first_in s) 0 events1 refl (omega arith), passes_at (second_in s) 28 events2 refl long)
 
 -- ---- adjacent buffers
 
 adjacent_pass : Passes 0 1 (first_in adjacent) × Passes 28 1 (second_in adjacent)
-adjacent_pass = both-pass adjacent refl refl (omega arith)
+adjacent_pass = both_pass adjacent refl refl (omega arith)
 
 adjacent_read : Carried (first_in adjacent) 0 true 56 1 1 Ended
 unfolding word task_of
@@ -102,11 +102,11 @@ not_ready : CountsAsInitialized new_drive.unit → ⊥
 not_ready counts = no_way (sym counts.said)
 
 refused_pass : Passes 0 1 (first_in refused_data) × Passes 28 1 (second_in refused_data)
-refused_pass = both-pass refused_data refl refl (omega arith)
+refused_pass = both_pass refused_data refl refl (omega arith)
 
 refused_first : Bare (first_in refused_data) 0 (come RunAnswer.BlockFailed 11 0)
 unfolding word task_of
-refused_first = unready-unread (first_in refused_data) 0 refused_pass.0 refl (move_of false 0 1 28) refl not_ready
+refused_first = unready_unread (first_in refused_data) 0 refused_pass.0 refl (move_of false 0 1 28) refl not_ready
 
 refused_read : Carried (second_in refused_data) 28 true 56 1 1 Ended
 unfolding word task_of
@@ -130,11 +130,11 @@ one_of_two p q x (inr (inl here)) = inr here
 one_of_two p q x (inr (inr none)) = absurd none
 
 stopped_pass : Passes 0 1 (first_in stopped_read) × Passes 28 1 (second_in stopped_read)
-stopped_pass = both-pass stopped_read refl refl (omega arith)
+stopped_pass = both_pass stopped_read refl refl (omega arith)
 
 stopped_read_lem : Carried (first_in stopped_read) 0 true 56 2 1 (Failed Refusal.Unreadable)
 unfolding word task_of
-stopped_read_lem = read-stopped-carried (first_in stopped_read) 0 stopped_pass.0 7 1 refl 56 refl refl (omega arith)
+stopped_read_lem = read_stopped_carried (first_in stopped_read) 0 stopped_pass.0 7 1 refl 56 refl refl (omega arith)
 
 stopped_write : Carried (second_in stopped_read) 28 false 120 1 1 Ended
 unfolding word task_of
@@ -146,7 +146,7 @@ stopped_met = met one two stopped_read stopped_read_lem.footprint stopped_write.
 stopped_writes : (x : ℕ) → HostWrites one (first_in stopped_read) x → In ((2, 2) ∷ (56, 64) ∷ []) x
 unfolding word task_of
 stopped_writes x w =
-    writing 0 x _ w (passes_at _ 0 refl refl (omega arith)) (λ p. (read-stopped-carried _ 0 p 7 1 refl 56 refl refl (omega arith)).footprint)
+    writing 0 x _ w (passes_at _ 0 refl refl (omega arith)) (λ p. (read_stopped_carried _ 0 p 7 1 refl 56 refl refl (omega arith)).footprint)
 
 rest_not_written :
     (of_first stopped_read ≡ come RunAnswer.BlockFailed 20 1) × (Among 56 128 120 × HostReads two (second_in stopped_read) 120)
@@ -155,18 +155,18 @@ rest_not_written = (
   (
     omega arith,
     by_block 28 _ stopped_pass.1 (λ v. ReadsHost v 120)
-        (taken (data_byte_lem (second_in stopped_read) 28 stopped_pass.1 stopped_write 0 (omega arith))),
+        (taken (data_at (second_in stopped_read) 28 stopped_pass.1 stopped_write 0 (omega arith))),
   ),
 )
 
 -- ---- beside what a format reports
 
 beside_pass : Passes 0 1 (first_in beside_format) × Passes 28 1 (second_in beside_format)
-beside_pass = both-pass beside_format refl refl (omega arith)
+beside_pass = both_pass beside_format refl refl (omega arith)
 
 beside_judged : verdict_of (first_of beside_format) ≡ Verdict.Do (plan_of (unit 0) (Task.Format (track 256)))
 unfolding word task_of
-beside_judged = format-passes FirstController beside_format.host1 2 1 256 (omega arith) refl (omega arith)
+beside_judged = format_passes FirstController beside_format.host1 2 1 256 (omega arith) refl (omega arith)
 
 beside_first : Alone 0 (first_in beside_format) Zero ((0, 28) ∷ (256, 64) ∷ []) ((2, 2) ∷ (7, 3) ∷ [])
 unfolding word task_of
@@ -183,12 +183,12 @@ beside_second = write_carried (second_in beside_format) 28 beside_pass.1 9 0 ref
 beside_met : Independent one two beside_format
 beside_met = met one two beside_format beside_first beside_second.footprint differ (omega arith) (omega arith) (omega arith)
 
-three-bytes-written :
+three_bytes_written :
     (of_first beside_format ≡ come RunAnswer.Done 0 1) ×
     (((x : ℕ) → HostWrites one (first_in beside_format) x ↔ (Among 2 2 x ⊎ Among 7 3 x)) ×
     HostReads two (second_in beside_format) 10)
 unfolding word task_of
-three-bytes-written = (
+three_bytes_written = (
   ap end_of (done 0 _ beside_pass.0 refl 1 beside_told.ended beside_told.counted),
   (
     λ x. (
@@ -198,14 +198,14 @@ three-bytes-written = (
           (format_wrote (first_in beside_format) beside_pass.0 256 refl refl beside_judged x) lies,
     ),
     by_block 28 _ beside_pass.1 (λ v. ReadsHost v 10)
-        (taken (data_byte_lem (second_in beside_format) 28 beside_pass.1 beside_second 0 (omega arith))),
+        (taken (data_at (second_in beside_format) 28 beside_pass.1 beside_second 0 (omega arith))),
   ),
 )
 
 -- ---- what a refused format would have reported
 
 refused_format_pass : Passes 0 1 (first_in refused_format) × Passes 28 1 (second_in refused_format)
-refused_format_pass = both-pass refused_format refl refl (omega arith)
+refused_format_pass = both_pass refused_format refl refl (omega arith)
 
 refused_format_lem : verdict_of (first_of refused_format) ≡ Verdict.Refused Refusal.NotInitialized
 unfolding word task_of
@@ -222,14 +222,14 @@ refused_format_second = write_carried (second_in refused_format) 28 refused_form
 refused_format_met : Independent one two refused_format
 refused_format_met = met one two refused_format refused_format_first refused_format_second.footprint differ (omega arith) (omega arith) (omega arith)
 
-words-not-written :
+words_not_written :
     (of_first refused_format ≡ come RunAnswer.BlockFailed 11 0) × ((x : ℕ) → Among 7 3 x → HostReads two (second_in refused_format) x)
-words-not-written = (
+words_not_written = (
   comes_refused (first_in refused_format) 0 refused_format_pass.0 _ refused_format_lem,
   λ x among.
       let here : 6 + (x - 6) ≡ x = omega arith in
       by_block 28 _ refused_format_pass.1 (λ v. ReadsHost v x)
-      (taken (rw here at (data_byte_lem (second_in refused_format) 28 refused_format_pass.1 refused_format_second (x - 6) (omega arith)))),
+      (taken (rw here at (data_at (second_in refused_format) 28 refused_format_pass.1 refused_format_second (x - 6) (omega arith)))),
 )
 
 pub met_pairs : Met
@@ -242,16 +242,16 @@ met_pairs =
       stopped_read_lem = stopped_met;
       sector_written = λ x w. one_of_two (2, 2) (56, 64) x (stopped_writes x w);
       rest_not_written = rest_not_written;
-      beside_format = beside_met;
-      three-bytes-written = three-bytes-written;
+      beside_format_lem = beside_met;
+      three_bytes_written = three_bytes_written;
       refused_format_lem = refused_format_met;
-      words-not-written = words-not-written;
+      words_not_written = words_not_written;
     }
 
 -- ---- a byte that both write
 
 twice_pass : Passes 0 1 (first_in written_twice) × Passes 28 1 (second_in written_twice)
-twice_pass = both-pass written_twice refl refl (omega arith)
+twice_pass = both_pass written_twice refl refl (omega arith)
 
 twice_first : Carried (first_in written_twice) 0 true 56 1 1 Ended
 unfolding word task_of
@@ -267,16 +267,16 @@ module _ (w : World) (at : ℕ) (passes : Passes at 1 w) (c : Carried w at true 
   u = v w at passes
 
   pub wrote_56 : RunWrites at 1 w 56
-  wrote_56 = by_block at _ passes (λ v. WritesHost v 56) (given (data_byte_lem w at passes c 0 (omega arith)))
+  wrote_56 = by_block at _ passes (λ v. WritesHost v 56) (given (data_at w at passes c 0 (omega arith)))
 
-  left-56 :
+  left_56 :
       (byte mark : ℕ) → named_drive u ≡ drive_with byte mark → (Among (at + 2) 2 56 → ⊥) → 56 < length w.host →
       get_or (world_left u).host 56 0 ≡ byte
-  left-56 byte mark same clear room =
+  left_56 byte mark same clear room =
       let lies = host_byte_is w at passes c in
       let reads : (transfer_by (asked_of u)).to_host ≡ true = rw c.verdict in
       ap (λ (n : ℕ). get_or (world_left u).host n 0) (sym (lies 0)) ∙
-      disk-byte-is-there u reads 0 (came w at passes c 0 (omega arith)) (omega (arith, lies 0))
+      disk_byte_is_there u reads 0 (came w at passes c 0 (omega arith)) (omega (arith, lies 0))
       (λ i later less again. omega (arith, lies i, lies 0, again)) (λ among. clear (omega (arith, lies 0, among))) ∙
       rw (c.verdict, same, place_is 0 0, starts_at 0)
 
@@ -315,10 +315,10 @@ twice_differs e =
     let s = written_twice in
     let by_one : get_or ((run_of First one).left s).host1 56 0 ≡ 7 =
     ap (λ w. get_or w.host 56 0) (leaves 0 (first_in s) twice_pass.0 refl) ∙
-    left-56 (first_in s) 0 twice_pass.0 twice_first 7 0 refl (λ among. omega arith) (omega arith) in
+    left_56 (first_in s) 0 twice_pass.0 twice_first 7 0 refl (λ among. omega arith) (omega arith) in
     let by_two : get_or ((run_of Second two).left s).host1 56 0 ≡ 9 =
     ap (λ w. get_or w.host 56 0) (leaves 28 (second_in s) twice_pass.1 refl) ∙
-    left-56 (second_in s) 28 twice_pass.1 twice_second 9 0 refl (λ among. omega arith) (omega arith) in
+    left_56 (second_in s) 28 twice_pass.1 twice_second 9 0 refl (λ among. omega arith) (omega arith) in
     omega (
       arith,
       by_one,
@@ -334,7 +334,7 @@ within_tiny : Within tiny
 within_tiny = (counts 0 (omega arith)).within
 
 shared_pass : Passes 0 1 (first_in shared_unit) × Passes 28 1 (second_in shared_unit)
-shared_pass = both-pass shared_unit refl refl (omega arith)
+shared_pass = both_pass shared_unit refl refl (omega arith)
 
 shared_initialize : verdict_of (first_of shared_unit) ≡ Verdict.Do (only (Leaving.Fresh tiny))
 unfolding word task_of
@@ -379,17 +379,17 @@ then_restore = own _ _ _ _ _ tt refl ∙ restore_done FirstController (unit 0) 0
 
 then_comes : of_second then_shared ≡ come RunAnswer.Done 0 0
 unfolding after bytes_from
-then_comes = comes-done (second_in then_shared) 28 then_passes refl _ then_restore refl
+then_comes = comes_done (second_in then_shared) 28 then_passes refl _ then_restore refl
 
 shared_differs : EitherWay one two shared_unit → ⊥
 shared_differs =
-    fails-otherwise one two shared_unit then_shared _ _ initialize_leaves then_comes (comes_refused (second_in shared_unit) 28 shared_pass.1 _ shared_restore)
+    fails_otherwise one two shared_unit then_shared _ _ initialize_leaves then_comes (comes_refused (second_in shared_unit) 28 shared_pass.1 _ shared_restore)
     (λ same. omega arith)
 
-shared-unit :
+shared_unit_lem :
     (NoUnitInCommon one two shared_unit → ⊥) ×
     (NoByteWrittenByBoth one two shared_unit × (NoByteReadByOther one two shared_unit × (EitherWay one two shared_unit → ⊥)))
-shared-unit = (
+shared_unit_lem = (
   λ none. none Zero (by_block 0 _ shared_pass.0 (λ v. names v ≡ Zero) refl) (by_block 28 _ shared_pass.1 (λ v. names v ≡ Zero) refl),
   (
     none_twice one two shared_unit shared_first shared_second (omega arith),
@@ -400,7 +400,7 @@ shared-unit = (
 -- ---- a written byte that the other reads
 
 read_pass : Passes 0 1 (first_in read_by_other) × Passes 28 1 (second_in read_by_other)
-read_pass = both-pass read_by_other refl refl (omega arith)
+read_pass = both_pass read_by_other refl refl (omega arith)
 
 read_report : verdict_of (first_of read_by_other) ≡ Verdict.Do (plan Moving.Nothing Report.Identity Leaving.AsItWas)
 unfolding word task_of
@@ -453,30 +453,30 @@ then_outside =
 
 read_differs : EitherWay one two read_by_other → ⊥
 read_differs =
-    fails-otherwise one two read_by_other then_read _ _ report_leaves (comes_refused (second_in then_read) 28 then_read_passes _ then_outside)
-    (comes-done (second_in read_by_other) 28 read_pass.1 refl _ read_initialize refl) (λ same. omega arith)
+    fails_otherwise one two read_by_other then_read _ _ report_leaves (comes_refused (second_in then_read) 28 then_read_passes _ then_outside)
+    (comes_done (second_in read_by_other) 28 read_pass.1 refl _ read_initialize refl) (λ same. omega arith)
 
-read-by-other :
+read_by_other_lem :
     (NoByteReadByOther one two read_by_other → ⊥) ×
     (NoUnitInCommon one two read_by_other × (NoByteWrittenByBoth one two read_by_other × (EitherWay one two read_by_other → ⊥)))
 unfolding word task_of None
-read-by-other = (
+read_by_other_lem = (
   λ none.
       (none refl 4).0 (by_block 0 _ read_pass.0 (λ v. WritesHost v 4) (report (rw read_report (omega arith, omega arith))))
       (by_block 28 _ read_pass.1 (λ v. ReadsHost v 4)
       (read_uib (second_of read_by_other) 4
-      (placed-uib-read _ _ _ _ _ _ refl (shape_at_inside read_by_other.host1 4 (omega arith)) no_more (omega arith)))),
+      (placed_uib_read _ _ _ _ _ _ refl (shape_at_inside read_by_other.host1 4 (omega arith)) no_more (omega arith)))),
   (no_unit one two read_by_other read_first read_second differ, (none_twice one two read_by_other read_first read_second (omega arith), read_differs)),
 )
 
 -- ---- what a format reports, read by the other
 
 format_pass : Passes 0 1 (first_in format_read) × Passes 28 1 (second_in format_read)
-format_pass = both-pass format_read refl refl (omega arith)
+format_pass = both_pass format_read refl refl (omega arith)
 
 format_accepted : verdict_of (first_of format_read) ≡ Verdict.Do (plan_of (unit 0) (Task.Format (track 256)))
 unfolding word task_of
-format_accepted = format-passes FirstController format_read.host1 2 1 256 (omega arith) refl (omega arith)
+format_accepted = format_passes FirstController format_read.host1 2 1 256 (omega arith) refl (omega arith)
 
 format_first : Alone 0 (first_in format_read) Zero ((0, 28) ∷ (256, 64) ∷ []) ((2, 2) ∷ (7, 3) ∷ [])
 unfolding word task_of
@@ -528,11 +528,11 @@ then_within =
 
 then_format_comes : of_second then_format ≡ come RunAnswer.Done 0 0
 unfolding after bytes_from data_on progress up_to stops_at
-then_format_comes = comes-done (second_in then_format) 28 then_format_passes refl _ then_within refl
+then_format_comes = comes_done (second_in then_format) 28 then_format_passes refl _ then_within refl
 
 format_differs : EitherWay one two format_read → ⊥
 format_differs =
-    fails-otherwise one two format_read then_format _ _ format_leaves then_format_comes (comes_refused (second_in format_read) 28 format_pass.1 _ format_outside)
+    fails_otherwise one two format_read then_format _ _ format_leaves then_format_comes (comes_refused (second_in format_read) 28 format_pass.1 _ format_outside)
     (λ same. omega arith)
 
 format_read_lem :
@@ -544,15 +544,15 @@ format_read_lem = (
       (none refl 9).0 (format_wrote (first_in format_read) format_pass.0 256 refl refl format_accepted 9 (omega arith))
       (by_block 28 _ format_pass.1 (λ v. ReadsHost v 9)
       (read_uib (second_of format_read) 9
-      (placed-uib-read _ _ _ _ _ _ refl (shape_at_inside format_read.host1 8 (omega arith)) no_more (omega arith)))),
+      (placed_uib_read _ _ _ _ _ _ refl (shape_at_inside format_read.host1 8 (omega arith)) no_more (omega arith)))),
   (no_unit one two format_read format_first format_second differ, (none_twice one two format_read format_first format_second (omega arith), format_differs)),
 )
 
 pub failing_pairs : Fails
 failing_pairs =
     record {
-      shared-unit = shared-unit;
-      read-by-other = read-by-other;
+      shared_unit_lem = shared_unit_lem;
+      read_by_other_lem = read_by_other_lem;
       format_read_lem = format_read_lem;
       written_twice_lem =
           (λ none. none refl 56 wrote_first wrote_second, (units_apart, (reads_apart, twice_differs)));

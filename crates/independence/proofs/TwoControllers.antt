@@ -39,17 +39,17 @@ use Rattle.independence.specs.Demand3.{Independent}
 use Rattle.independence.proofs.Held.{reads_its_28_bytes_alone}
 use Rattle.independence.specs.TwoChains.{come, first_in, one, second_in, two}
 use Rattle.independence.specs.TwoControllers.{FailsByTwo, MetByTwo, held_drive, held_list, held_uib, of_other, other, other_in, same_bytes, shared_drive}
-use Rattle.independence.proofs.Carried.{Alone, Carried, comes-done, comes_refused, data_byte_lem, differ, fails-otherwise, met, no_unit, passes_at, read_carried, silent, still, v}
-use Rattle.independence.proofs.OneBlock.{by_block, done, leaves, of_block, writes-in}
+use Rattle.independence.proofs.Carried.{Alone, Carried, comes_done, comes_refused, data_at, differ, fails_otherwise, met, no_unit, passes_at, read_carried, silent, still, v}
+use Rattle.independence.proofs.OneBlock.{by_block, done, leaves, of_block, writes_in}
 use Rattle.independence.proofs.Tiny.{counts, unit}
-use Rattle.independence.proofs.TwoChains.{both-pass, wrote_56}
+use Rattle.independence.proofs.TwoChains.{both_pass, wrote_56}
 use Rattle.board.specs.World.{World, buffers_of, changed, world_after}
 
 -- A block that is refused by 24 reads its 28 bytes and writes its word 1, whatever it asked for.
-held-alone :
+held_alone :
     (w : World) (at : ℕ) (passes : Passes at 1 w) → verdict_of (v w at passes) ≡ Verdict.Refused Refusal.DriveHeld →
     Alone at w (names (v w at passes)) ((at, 28) ∷ []) ((at + 2, 2) ∷ [])
-held-alone w at passes is =
+held_alone w at passes is =
     record {
       names_it = λ n. of_block at w passes (λ v. names v ≡ n);
       reads_there =
@@ -59,14 +59,14 @@ held-alone w at passes is =
           (of_block at w passes (λ v. ReadsHost v x) r));
       writes_there =
           λ x r.
-          writes-in (v w at passes) [] x (silent w at passes _ is refl x) (still w at passes _ is refl true x)
+          writes_in (v w at passes) [] x (silent w at passes _ is refl x) (still w at passes _ is refl true x)
           (of_block at w passes (λ v. WritesHost v x) r);
     }
 
 -- ---- a UIB that is not read
 
 uib_pass : Passes 0 1 (first_in held_uib) × Passes 28 1 (second_in held_uib)
-uib_pass = both-pass held_uib refl refl (omega arith)
+uib_pass = both_pass held_uib refl refl (omega arith)
 
 uib_first : Carried (first_in held_uib) 0 true 56 1 1 Ended
 unfolding word task_of
@@ -78,12 +78,12 @@ uib_held = held_24 FirstController held_drive.unit _ _ (Task.Initialize _) tt re
 
 uib_second : Alone 28 (second_in held_uib) One ((28, 28) ∷ []) ((30, 2) ∷ [])
 unfolding word
-uib_second = held-alone (second_in held_uib) 28 uib_pass.1 uib_held
+uib_second = held_alone (second_in held_uib) 28 uib_pass.1 uib_held
 
 -- ---- a list that is not read
 
 list_pass : Passes 0 1 (first_in held_list) × Passes 28 1 (second_in held_list)
-list_pass = both-pass held_list refl refl (omega arith)
+list_pass = both_pass held_list refl refl (omega arith)
 
 list_first : Carried (first_in held_list) 0 true 56 1 1 Ended
 unfolding word task_of
@@ -95,7 +95,7 @@ list_held = held_24 FirstController held_drive.unit _ _ (Task.Move _) tt refl
 
 list_second : Alone 28 (second_in held_list) One ((28, 28) ∷ []) ((30, 2) ∷ [])
 unfolding word
-list_second = held-alone (second_in held_list) 28 list_pass.1 list_held
+list_second = held_alone (second_in held_list) 28 list_pass.1 list_held
 
 -- ---- on two controllers
 
@@ -126,12 +126,12 @@ pub met_by_two : MetByTwo
 unfolding word
 met_by_two =
     record {
-      held_uib = met one two held_uib uib_first.footprint uib_second differ (omega arith) (omega arith) (omega arith);
+      held_uib_lem = met one two held_uib uib_first.footprint uib_second differ (omega arith) (omega arith) (omega arith);
       uib_not_read = (
         comes_refused (second_in held_uib) 28 uib_pass.1 _ uib_held,
         (omega arith, wrote_56 (first_in held_uib) 0 uib_pass.0 uib_first),
       );
-      held_list = met one two held_list list_first.footprint list_second differ (omega arith) (omega arith) (omega arith);
+      held_list_lem = met one two held_list list_first.footprint list_second differ (omega arith) (omega arith) (omega arith);
       list_not_read = (
         comes_refused (second_in held_list) 28 list_pass.1 _ list_held,
         (omega arith, wrote_56 (first_in held_list) 0 list_pass.0 list_first),
@@ -141,9 +141,9 @@ met_by_two =
         ap end_of (done 0 _ same_pass.0 refl 1 same_first.answer same_first.sectors),
         ap end_of (done 28 _ same_pass.1 refl 1 same_second.answer same_second.sectors),
       );
-      byte-30 = (
+      byte_30 = (
         by_block 0 _ same_pass.0 (λ v. WritesHost v 30)
-            (given (data_byte_lem (first_in same_bytes) 0 same_pass.0 same_first 2 (omega arith))),
+            (given (data_at (first_in same_bytes) 0 same_pass.0 same_first 2 (omega arith))),
         (
           by_block 28 _ same_pass.1 (λ v. WritesHost v 30) (status_word (omega arith)),
           by_block 28 _ same_pass.1 (λ v. ReadsHost v 30) (block (omega arith)),
@@ -165,7 +165,7 @@ unfolding word task_of
 other_restores = own _ _ _ _ _ tt refl ∙ restore_done SecondController (unit 0) 130 shared_drive.host2 (counts 0 (omega arith))
 
 alone_done : of_other shared_drive ≡ come RunAnswer.Done 0 0
-alone_done = comes-done (other_in shared_drive) 28 shared_pass.1 refl _ other_restores refl
+alone_done = comes_done (other_in shared_drive) 28 shared_pass.1 refl _ other_restores refl
 
 -- What the first leaves: the drive is its own, and the second finds it so.
 abbrev taken_world : World
@@ -199,13 +199,13 @@ fails_by_two =
     record {
       alone = alone_done;
       after_the_first = ap of_other takes ∙ then_refused;
-      shared-drive = (
+      shared_drive_lem = (
         λ none. none Zero (by_block 0 _ shared_pass.0 (λ v. names v ≡ Zero) refl) (by_block 28 _ shared_pass.1 (λ v. names v ≡ Zero) refl),
         (
           λ same. absurd (two_controllers same),
           (
             λ same. absurd (two_controllers same),
-            fails-otherwise one other shared_drive then _ _ takes then_refused alone_done (λ same. omega arith),
+            fails_otherwise one other shared_drive then _ _ takes then_refused alone_done (λ same. omega arith),
           ),
         ),
       );

@@ -9,11 +9,11 @@ use lib.ListN.{get_or, length}
 use Rattle.unit.specs.declared.UnitNumber.{UnitNumber}
 use Rattle.unit.specs.declared.UnitNumber.TheVariants.{Zero, One}
 use Rattle.transfer.specs.Stores.{Buffers, after, byte_in, host_byte}
-use Rattle.transfer.proofs.Stays.{lengths-stay, unstored_stays}
+use Rattle.transfer.proofs.Stays.{lengths_stay, unstored_stays}
 use Rattle.block.specs.Block.{Effect}
 use Rattle.independence.specs.Local.{AgreeOn, LeadsAlike, Local, Step}
 use Rattle.independence.specs.Worlds.{WorldCell, Touches, byte, disk, events, holds, worlds}
-use Rattle.independence.proofs.Meets.{Meet, Sourced, stores-meet}
+use Rattle.independence.proofs.Meets.{Meet, Sourced, stores_meet}
 use Rattle.unit.specs.Standing.{UnitRecord}
 use Rattle.board.specs.World.{World, buffers_of, changed, drive_of}
 use Rattle.transfer.specs.Targets.{Stored}
@@ -88,12 +88,12 @@ module _ (P : ℕ → Type 0) (w u : World) (m n : Buffers) (meet : Meet P m n) 
 
 -- ---- the work
 
-touched-alike :
+touched_alike :
     {P Q : ℕ → Type 0} {M N : UnitNumber → Type 0} → ((x : ℕ) → P x ↔ Q x) → ((n : UnitNumber) → M n ↔ N n) → (c : WorldCell) →
     Touches P M c ↔ Touches Q N c
-touched-alike bytes units (byte x) = bytes x
-touched-alike bytes units (disk n) = units n
-touched-alike bytes units events = Iff.rfl
+touched_alike bytes units (byte x) = bytes x
+touched_alike bytes units (disk n) = units n
+touched_alike bytes units events = Iff.rfl
 
 module _ {Out : Type 0} (k : Work Out) (by : ByWhatItReads k) where
   frame : (w : World) (c : WorldCell) → ((working k).Writes w c → ⊥) → holds (leaves k w) c ≡ holds w c
@@ -129,18 +129,18 @@ module _ {Out : Type 0} (k : Work Out) (by : ByWhatItReads k) where
           events = agree.cells events tt;
         }
 
-    left-met :
+    left_met :
         Meet (λ x. k.Reads w x ⊎ Stored e.stores (host_byte x)) (after e.stores (buffers_of w n))
         (after e.stores (buffers_of u n))
-    left-met = stores-meet e.stores (k.Reads w) _ _ met (by.sources w)
+    left_met = stores_meet e.stores (k.Reads w) _ _ met (by.sources w)
 
     stored : (c : WorldCell) → (working k).Writes w c → holds (leaves k w) c ≡ holds (leaves k u) c
     stored (byte x) written =
-        host_changed _ w u _ _ left-met e.unit n x (inr ((by.written w x).0 written)) ∙ ap (λ s. get_or s.host x 0) (sym left_there)
+        host_changed _ w u _ _ left_met e.unit n x (inr ((by.written w x).0 written)) ∙ ap (λ s. get_or s.host x 0) (sym left_there)
     stored (disk m) named =
         subst (λ m. drive_of (leaves k w) m ≡ drive_of (leaves k u) m) named
-        (drive_changed _ w u _ _ left-met e.unit n ∙ ap (λ s. drive_of s n) (sym left_there))
-    stored events always = events_changed _ w u _ _ left-met e.unit n ∙ ap (λ s. s.events) (sym left_there)
+        (drive_changed _ w u _ _ left_met e.unit n ∙ ap (λ s. drive_of s n) (sym left_there))
+    stored events always = events_changed _ w u _ _ left_met e.unit n ∙ ap (λ s. s.events) (sym left_there)
 
     named : (m : UnitNumber) → (k.names w ≡ m) ↔ (k.names u ≡ m)
     named m = (λ is. sym same.names ∙ is, λ is. same.names ∙ is)
@@ -153,14 +153,14 @@ module _ {Out : Type 0} (k : Work Out) (by : ByWhatItReads k) where
 
     leads : LeadsAlike worlds (working k) w u
     leads =
-        record { outcome = same.out; read = touched-alike same.reads named; written = touched-alike written named; stored = stored }
+        record { outcome = same.out; read = touched_alike same.reads named; written = touched_alike written named; stored = stored }
 
   pub work_local : Local worlds (working k)
   work_local =
       record {
         shape = λ w.
             let long : length w.host ≡ length (leaves k w).host =
-            sym (lengths-stay (k.effect w).stores (buffers_of w (k.names w))).0
+            sym (lengths_stay (k.effect w).stores (buffers_of w (k.names w))).0
             ∙ ap (λ b. length b.host) (sym (buffers_changed w _ _ (k.names w))) in
             λ i. (run_by_changed w (after (k.effect w).stores (buffers_of w (k.names w))) (k.effect w).unit (k.names w) i, long i);
         frame = frame;

@@ -43,12 +43,12 @@ pub record FromDisk : Type 0 where
   -- byte 120 is written by the block from the disk, and not by the read
   pub written_by_it : HostWrites linked (first_in from_disk) 120 × (HostWrites one (first_in from_disk) 120 → ⊥)
   -- byte 184, which the block that stood there before would write, is not written, and the other chain reads it
-  pub not-by-the-earlier :
+  pub not_by_the_earlier :
       HostWrites earlier (first_in from_disk) 184 ×
       ((HostWrites linked (first_in from_disk) 184 → ⊥) × HostReads two (second_in from_disk) 184)
   -- beside the initialize one part of the condition fails, and the orders differ; were the allowance 1, so that the block from the disk is not
   -- fetched, none would
-  pub uib-from-disk :
+  pub uib_from_disk :
       (NoByteReadByOther linked initialize from_disk → ⊥) ×
       (NoUnitInCommon linked initialize from_disk × (NoByteWrittenByBoth linked initialize from_disk × (EitherWay linked initialize from_disk → ⊥)))
   pub not_by_the_read : Independent one initialize from_disk

@@ -50,31 +50,31 @@ abbrev pub spent : Chain
 spent = record { controller = FirstController; first = 28; allowance = 0 }
 
 pub record NotCounted : Type 0 where
-  pub long_list : Independent one two long_list
+  pub long_list_lem : Independent one two long_list
   pub long_list_comes : (of_first long_list ≡ come RunAnswer.BlockFailed 18 0) × (of_second long_list ≡ come RunAnswer.Done 0 0)
   -- byte 30, which the second writes, lies in the list, which lies in memory; the first reads its 28 bytes
-  pub long-list-unread :
+  pub long_list_unread :
       ((x : ℕ) → HostReads one (first_in long_list) x → Among 0 28 x) ×
       ((InMemory long_list.host1 28 520 × Among 28 520 30) × HostWrites two (second_in long_list) 30)
-  pub odd_uib : Independent one two odd_uib
+  pub odd_uib_lem : Independent one two odd_uib
   pub odd_uib_comes : (of_first odd_uib ≡ come RunAnswer.BlockFailed 12 0) × (of_second odd_uib ≡ come RunAnswer.Done 0 0)
   -- byte 30 lies in the UIB
-  pub odd-uib-unread :
+  pub odd_uib_unread :
       ((x : ℕ) → HostReads one (first_in odd_uib) x → Among 0 28 x) × (Among 29 18 30 × HostWrites two (second_in odd_uib) 30)
-  pub refused_list : Independent one two refused_list
+  pub refused_list_lem : Independent one two refused_list
   pub refused_list_comes : (of_first refused_list ≡ come RunAnswer.BlockFailed 11 0) × (of_second refused_list ≡ come RunAnswer.Done 0 0)
   -- byte 30 lies in the list
-  pub refused-list-unread :
+  pub refused_list_unread :
       ((x : ℕ) → HostReads one (first_in refused_list) x → Among 0 28 x) × (Among 28 8 30 × HostWrites two (second_in refused_list) 30)
-  pub format_data : Independent one two format_data
+  pub format_data_lem : Independent one two format_data
   pub format_data_comes : (of_first format_data ≡ come RunAnswer.Done 0 2) × (of_second format_data ≡ come RunAnswer.Done 0 1)
   -- the first reads byte 119, and not byte 120, which the second writes
-  pub format-data-read :
+  pub format_data_read :
       HostReads one (first_in format_data) 119 × ((HostReads one (first_in format_data) 120 → ⊥) × HostWrites two (second_in format_data) 120)
-  pub refused_run : Independent one spent refused_run
-  pub refused-run-comes :
+  pub refused_run_lem : Independent one spent refused_run
+  pub refused_run_comes :
       (of_first refused_run ≡ come RunAnswer.Done 0 1) × ((run_of Second spent).out refused_run ≡ come_by 0 RunAnswer.AllowanceBad 0 0)
   -- with an allowance of 1 the second would name unit 0 too, and both would write byte 56
-  pub refused-run-would :
+  pub refused_run_would :
       (Names one (first_in refused_run) Zero × Names two (second_in refused_run) Zero) ×
       (HostWrites one (first_in refused_run) 56 × HostWrites two (second_in refused_run) 56)

@@ -140,15 +140,15 @@ pub record Met : Type 0 where
   pub sector_written : (x : ℕ) → HostWrites one (first_in stopped_read) x → Among 2 2 x ⊎ Among 56 64 x
   -- byte 120, which the second reads, lies in the buffer that it asked for
   pub rest_not_written : (of_first stopped_read ≡ come RunAnswer.BlockFailed 20 1) × (Among 56 128 120 × HostReads two (second_in stopped_read) 120)
-  pub beside_format : Independent one two beside_format
+  pub beside_format_lem : Independent one two beside_format
   -- beside word 1 the format writes bytes 7 to 9 and no other: not byte 6, its head, nor byte 10, which the second reads
-  pub three-bytes-written :
+  pub three_bytes_written :
       (of_first beside_format ≡ come RunAnswer.Done 0 1) ×
       (((x : ℕ) → HostWrites one (first_in beside_format) x ↔ (Among 2 2 x ⊎ Among 7 3 x)) ×
       HostReads two (second_in beside_format) 10)
   pub refused_format_lem : Independent one two refused_format
   -- bytes 7 to 9, which an accepted format writes, are among those that the second reads
-  pub words-not-written :
+  pub words_not_written :
       (of_first refused_format ≡ come RunAnswer.BlockFailed 11 0) × ((x : ℕ) → Among 7 3 x → HostReads two (second_in refused_format) x)
 
 -- ---- one part of it fails, and the orders differ
@@ -170,10 +170,10 @@ abbrev pub written_twice : Both
 written_twice = starting (block 0x81 0x10 0 1 56) (block 0x81 0x90 0 1 56) (drive_with 7 0) (drive_with 9 0)
 
 pub record Fails : Type 0 where
-  pub shared-unit :
+  pub shared_unit_lem :
       (NoUnitInCommon one two shared_unit → ⊥) ×
       (NoByteWrittenByBoth one two shared_unit × (NoByteReadByOther one two shared_unit × (EitherWay one two shared_unit → ⊥)))
-  pub read-by-other :
+  pub read_by_other_lem :
       (NoByteReadByOther one two read_by_other → ⊥) ×
       (NoUnitInCommon one two read_by_other × (NoByteWrittenByBoth one two read_by_other × (EitherWay one two read_by_other → ⊥)))
   pub format_read_lem :

@@ -62,21 +62,21 @@ shared_drive = on_two (block 0x89 0x08 0 0 0) (block 0x89 0x00 0 0 0)
 
 pub record MetByTwo : Type 0 where
   -- byte 56, which the first writes, is one of the UIB that the second asked for
-  pub held_uib : Independent one two held_uib
+  pub held_uib_lem : Independent one two held_uib
   pub uib_not_read : (of_second held_uib ≡ come RunAnswer.BlockFailed 24 0) × (Among 56 18 56 × HostWrites one (first_in held_uib) 56)
   -- and of the list
-  pub held_list : Independent one two held_list
+  pub held_list_lem : Independent one two held_list
   pub list_not_read : (of_second held_list ≡ come RunAnswer.BlockFailed 24 0) × (Among 56 8 56 × HostWrites one (first_in held_list) 56)
   -- byte 30 is written by both, each in its own memory, and read by the second
   pub same_bytes_lem : Independent one other same_bytes
   pub both_move : (of_first same_bytes ≡ come RunAnswer.Done 0 1) × (of_other same_bytes ≡ come RunAnswer.Done 0 1)
-  pub byte-30 :
+  pub byte_30 :
       HostWrites one (first_in same_bytes) 30 × (HostWrites other (other_in same_bytes) 30 × HostReads other (other_in same_bytes) 30)
 
 -- The second is done alone, and refused once the first has taken the drive.
 pub record FailsByTwo : Type 0 where
   pub alone : of_other shared_drive ≡ come RunAnswer.Done 0 0
   pub after_the_first : of_other ((run_of First one).left shared_drive) ≡ come RunAnswer.BlockFailed 24 0
-  pub shared-drive :
+  pub shared_drive_lem :
       (NoUnitInCommon one other shared_drive → ⊥) ×
       (NoByteWrittenByBoth one other shared_drive × (NoByteReadByOther one other shared_drive × (EitherWay one other shared_drive → ⊥)))

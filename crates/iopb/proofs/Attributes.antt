@@ -11,10 +11,10 @@ use Rattle.wire.specs.Words.{word}
 use Rattle.iopb.specs.Layout.{uib_at}
 
 -- Table 11 of source document 000 makes the default, its attributes 05 called "increment by head, and reseek".
-pub table-11-is-by-head :
+pub table_11_is_by_head :
     uib_at (0 ∷ 10 ∷ 0 ∷ 0 ∷ 64 ∷ 0 ∷ 2 ∷ 0 ∷ 0x10 ∷ 0x20 ∷ 1 ∷ 3 ∷ 2 ∷ 0x84 ∷ 0x05 ∷ 0 ∷ 1 ∷ 0xFF ∷ []) 0 ≡ table11
 unfolding word
-table-11-is-by-head = refl
+table_11_is_by_head = refl
 
 -- The small drive of 01, with any attributes.
 abbrev uib : ℕ → List ℕ

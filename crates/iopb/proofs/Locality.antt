@@ -32,9 +32,9 @@ module _ (h k : List ℕ) (long : length h ≡ length k) where
       (geometry_of (high i) (byte 4 (omega arith) i) (low i) (volume_of (first i) (byte 1 (omega arith) i))
       (volume_of (byte 2 (omega arith) i) (byte 3 (omega arith) i)))
 
-  pub shape-local :
+  pub shape_local :
       (at : ℕ) → (InMemory h at 18 → (x : ℕ) → Among at 18 x → get_or h x 0 ≡ get_or k x 0) → shape_at h at ≡ shape_at k at
-  shape-local at alike =
+  shape_local at alike =
       by_cases (in_memory? h at 18)
       (λ place.
       shape_at_inside h at place

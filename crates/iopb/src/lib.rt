@@ -14,7 +14,7 @@ mod ask;
 pub use ask::{task, unit_at};
 
 // The options byte, bit 7 down.
-#[derive(Drop)]
+#[derive(Clone, Copy)]
 pub struct Options {
     pub unit: bool,
     pub volume: bool,
@@ -27,7 +27,7 @@ pub struct Options {
 }
 
 // The block's 28 bytes by what they mean. `number` is the logical sector number, in the bytes of cylinder, head and sector.
-#[derive(Drop)]
+#[derive(Clone, Copy)]
 pub struct Block {
     pub command: u8,
     pub options: Options,
@@ -113,7 +113,7 @@ pub fn uib(host: &[u8], at: usize) -> Geometry
 }
 
 // An answer's number, and its error byte.
-#[derive(Drop)]
+#[derive(Clone, Copy)]
 pub(crate) struct ErrorLine {
     number: u8,
     error: u8,

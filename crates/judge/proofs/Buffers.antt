@@ -31,9 +31,9 @@ use Rattle.judge.specs.Passed.{None, before, checks}
 -- ---- two lists of checks
 
 -- The same checks, and then what gives the same where none of those is given.
-pub after-the-same :
+pub after_the_same :
     (ks ls ms : List Check) (p : Plan) → (None ks → first ls p ≡ first ms p) → first (ks ++ ls) p ≡ first (ks ++ ms) p
-after-the-same ks ls ms p same =
+after_the_same ks ls ms p same =
     by_cases (none? ks) (λ none. pass ks ls p none ∙ same none ∙ sym (pass ks ms p none)) (λ some. early ks ls ms p p some)
 
 -- Two checks with one answer that are given in the same cases.
@@ -48,10 +48,10 @@ alike_then k l ks ls p answer same rest =
 -- ---- a buffer
 
 -- What comes before check 18 of a transfer through a list.
-pub before-list :
+pub before_list :
     (a : Asked) (m : Move) (at n : ℕ) → a.task ≡ Moves m → m.buffer ≡ Elements at n →
     None (before_buffer a m) → None (before Refusal.ListBad (checks a))
-before-list a m at n asks buffer none =
+before_list a m at n asks buffer none =
     subst (λ (t : Task). None (before Refusal.ListBad (checks_of a t))) (sym asks)
     (subst (λ (b : Buffer). None (before Refusal.ListBad (before_buffer a m ++ of_buffer a b (bytes_of a m)))) (sym buffer) none)
 
@@ -66,10 +66,10 @@ module _ (c : Controller) (u : UnitRecord) (image : ℕ) (h k : List ℕ) (long 
 
   module _ (m : Move) (alike : (i : ℕ) → InList (on c u image (Moves m) h) i → get_or h i 0 ≡ get_or k i 0) (passed : None (before_buffer (on c u image (Moves m) h) m)) where
     -- The elements of a list that can be read are the same in both.
-    same-elements :
+    same_elements :
         (at n bytes : ℕ) → m.buffer ≡ Elements at n → (host : List ℕ) → length host ≡ length h → ListGood host at n bytes →
         (i : ℕ) → Among at (8 * n) i → get_or h i 0 ≡ get_or k i 0
-    same-elements at n bytes is host same l i among =
+    same_elements at n bytes is host same l i among =
         alike i
         (record {
           move = m;
@@ -77,25 +77,25 @@ module _ (c : Controller) (u : UnitRecord) (image : ℕ) (h k : List ℕ) (long 
           at = at;
           elements = n;
           buffer = is;
-          passed = before-list (on c u image (Moves m) h) m at n refl is passed;
+          passed = before_list (on c u image (Moves m) h) m at n refl is passed;
           some = l.some;
           most = l.most;
           place = range_same host h at (8 * n) same l.place;
           among = among;
         })
 
-    pub same-buffer :
+    pub same_buffer :
         (b : Buffer) → m.buffer ≡ b → (bytes : ℕ) (p : Plan) →
         first (of_buffer (on c u image (Moves m) h) b bytes) p ≡ first (of_buffer (on c u image (Moves m) k) b bytes) p
-    same-buffer (Piece at) is bytes p = same_range (Moves m) at bytes p
-    same-buffer (Elements at n) is bytes p =
+    same_buffer (Piece at) is bytes p = same_range (Moves m) at bytes p
+    same_buffer (Elements at n) is bytes p =
         alike_then _ _ _ _ p refl (
-          λ bad l. bad (list_same k h at n (λ i x. sym (same-elements at n bytes is k (sym long) l i x)) bytes (sym long) l),
-          λ bad l. bad (list_same h k at n (λ i x. same-elements at n bytes is h refl l i x) bytes long l),
+          λ bad l. bad (list_same k h at n (λ i x. sym (same_elements at n bytes is k (sym long) l i x)) bytes (sym long) l),
+          λ bad l. bad (list_same h k at n (λ i x. same_elements at n bytes is h refl l i x) bytes long l),
         )
         (λ good.
         let l : ListGood h at n bytes = by_cases (list_good? h at n bytes) (λ l. l) (λ bad. absurd (good bad)) in
-        let same = same-elements at n bytes is h refl l in
+        let same = same_elements at n bytes is h refl l in
         alike_then _ _ _ _ p refl (
           λ out r. out (ranges_same k h at n (λ i among. sym (same i among)) (sym long) r),
           λ out r. out (ranges_same h k at n same long r),

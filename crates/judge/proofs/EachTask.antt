@@ -45,7 +45,7 @@ use Rattle.judge.specs.Reads.{InList}
 use Rattle.judge.specs.Table.{one_of}
 use Rattle.judge.specs.Verdict.{verdict}
 use Rattle.judge.proofs.Known.{Accepted, covered, good_buffer, has_number, heads_only, seek_inside, so}
-use Rattle.judge.proofs.Buffers.{after-the-same, alike_then, before-list, same-buffer, same_range}
+use Rattle.judge.proofs.Buffers.{after_the_same, alike_then, before_list, same_buffer, same_range}
 use Rattle.judge.proofs.First.{numbers_of, skip, stop}
 use Rattle.judge.specs.Passed.{None}
 
@@ -69,10 +69,10 @@ unfolding verdict by_its_own
 on_its_own a asks free = ap (λ ks. first ks (plan_of a.unit a.task)) (asked_first a a.task asks) ∙ skip _ _ _ free
 
 -- and refused where that holds it.
-pub stopped-by-holder :
+pub stopped_by_holder :
     (a : Asked) → T (asks_holder a.task) → T (held_by_other a.controller (holder a.unit)) → verdict a ≡ Verdict.Refused DriveHeld
 unfolding verdict
-stopped-by-holder a asks held = ap (λ ks. first ks (plan_of a.unit a.task)) (asked_first a a.task asks) ∙ stop _ _ _ held
+stopped_by_holder a asks held = ap (λ ks. first ks (plan_of a.unit a.task)) (asked_first a a.task asks) ∙ stop _ _ _ held
 
 -- No task is asked a check with 20, which is the answer of a transfer that is stopped.
 pub never_asked_20 : (a : Asked) (t : Task) → T (one_of 20 (numbers_of (checks_of a t))) → ⊥
@@ -98,9 +98,9 @@ module _ (c : Controller) (u : UnitRecord) (image : ℕ) (h k : List ℕ) (long 
   verdict_local Unknown alike = refl
   verdict_local (Moves m) alike =
       let a = on c u image (Moves m) h in
-      after-the-same (before_buffer a m) (of_buffer a m.buffer (bytes_of a m))
+      after_the_same (before_buffer a m) (of_buffer a m.buffer (bytes_of a m))
       (of_buffer (on c u image (Moves m) k) m.buffer (bytes_of a m)) (plan_of u (Moves m))
-      (λ passed. same-buffer c u image h k long m alike passed m.buffer refl (bytes_of a m) (plan_of u (Moves m)))
+      (λ passed. same_buffer c u image h k long m alike passed m.buffer refl (bytes_of a m) (plan_of u (Moves m)))
   verdict_local Handshake alike = refl
   verdict_local (Initialize Misplaced) alike = refl
   verdict_local (Initialize (Uib g)) alike = refl
@@ -108,7 +108,7 @@ module _ (c : Controller) (u : UnitRecord) (image : ℕ) (h k : List ℕ) (long 
   verdict_local (Seek t) alike = refl
   verdict_local (Format x) alike =
       let a = on c u image (Format x) h in
-      after-the-same (drive_held a ∷ not_initialized a ∷ track_outside a x ∷ image_short a ∷ []) _ _ (plan_of u (Format x))
+      after_the_same (drive_held a ∷ not_initialized a ∷ track_outside a x ∷ image_short a ∷ []) _ _ (plan_of u (Format x))
       (λ passed. same_range c u image h k long (Format x) x.buffer (B (geometry u)) (plan_of u (Format x)))
   verdict_local (Map x) alike = refl
 
@@ -145,11 +145,11 @@ module _
     plan_alike (Map k) = refl
 
     -- Both units count as initialized, or neither does.
-    held-and-initialized :
+    held_and_initialized :
         (t : Task) (ks ls : List Check) (p : Plan) → first ks p ≡ first ls p →
         first (drive_held (this t) ∷ not_initialized (this t) ∷ ks) p ≡ first (drive_held (other t) ∷ not_initialized (other t) ∷ ls) p
-    held-and-initialized t ks ls p rest =
-        after-the-same (drive_held (this t) ∷ []) (not_initialized (this t) ∷ ks) (not_initialized (other t) ∷ ls) p
+    held_and_initialized t ks ls p rest =
+        after_the_same (drive_held (this t) ∷ []) (not_initialized (this t) ∷ ks) (not_initialized (other t) ∷ ls) p
         (λ passed.
         alike_then (not_initialized (this t)) (not_initialized (other t)) ks ls p refl (
           λ out counts. out (counts_alike (by_value u) ts (table u) (sym same) long counts),
@@ -159,16 +159,16 @@ module _
 
     checks_alike : (t : Task) (p : Plan) → first (checks_of (this t) t) p ≡ first (checks_of (other t) t) p
     checks_alike Unknown p = refl
-    checks_alike (Moves m) p = held-and-initialized (Moves m) _ _ p refl
+    checks_alike (Moves m) p = held_and_initialized (Moves m) _ _ p refl
     checks_alike Handshake p = refl
     checks_alike (Initialize Misplaced) p = refl
     checks_alike (Initialize (Uib g)) p = refl
-    checks_alike Restore p = held-and-initialized Restore [] [] p refl
-    checks_alike (Seek t) p = held-and-initialized (Seek t) _ _ p refl
-    checks_alike (Format k) p = held-and-initialized (Format k) _ _ p refl
+    checks_alike Restore p = held_and_initialized Restore [] [] p refl
+    checks_alike (Seek t) p = held_and_initialized (Seek t) _ _ p refl
+    checks_alike (Format k) p = held_and_initialized (Format k) _ _ p refl
     checks_alike (Map k) p =
-        held-and-initialized (Map k) _ _ p
-        (after-the-same (tracks_outside (this (Map k)) k ∷ []) _ _ p
+        held_and_initialized (Map k) _ _ p
+        (after_the_same (tracks_outside (this (Map k)) k ∷ []) _ _ p
         (λ passed.
         alike_then (tracks_taken (this (Map k)) k) (tracks_taken (other (Map k)) k) _ _ p refl (
           λ out free. out (free_alike (pairs u) ts (table u) (sym same) (bad_number k) (spare_number k) free),
@@ -215,7 +215,7 @@ module _ (c : Controller) (u : UnitRecord) (image : ℕ) (host : List ℕ) where
               elements = n;
               buffer = is;
               passed =
-                  before-list a m at n refl is (free, (initialized, (present, (some-sectors, (inside, (long, tt))))));
+                  before_list a m at n refl is (free, (initialized, (present, (some-sectors, (inside, (long, tt))))));
               some = l.some;
               most = l.most;
               place = l.place;

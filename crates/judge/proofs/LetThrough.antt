@@ -47,10 +47,10 @@ pub mover_let_through : (a : Asked) (p : Plan) → verdict a ≡ Verdict.Do p �
 mover_let_through a p e = (let_through a p e).mover
 
 -- The list of a transfer that was let through is among what is read.
-pub list-let-through :
+pub list_let_through :
     (a : Asked) (p : Plan) (j : Job) (at n x : ℕ) → verdict a ≡ Verdict.Do p → p.moving ≡ Sectors j → j.buffer ≡ Elements at n →
     Among at (8 * n) x → InList a x
-list-let-through a p j at n x e moves is among =
+list_let_through a p j at n x e moves is among =
     (subst (ListKnown a) moves (let_through a p e).list) at n x is among
 
 -- One that moves sectors reports nothing.
@@ -61,12 +61,12 @@ quiet_let_through a p j e moves = subst (λ (m : Moving). Quiet m p.report) move
 pub report_let_through : (a : Asked) (p : Plan) → verdict a ≡ Verdict.Do p → ReportKnown a p.report
 report_let_through a p e = (let_through a p e).report
 
-pub handshake-reports :
+pub handshake_reports :
     (a : Asked) → a.task ≡ Handshake → verdict a ≡ Verdict.Do (plan Moving.Nothing Report.Identity Leaving.AsItWas)
-handshake-reports a is =
+handshake_reports a is =
     subst (λ (t : Task). verdict (on a.controller a.unit a.image t a.host) ≡ Verdict.Do (plan Moving.Nothing Report.Identity Leaving.AsItWas)) (sym is)
     (handshake a.controller a.unit a.image a.host)
 
-pub format-reports :
+pub format_reports :
     (a : Asked) (k : Track) (p : Plan) → a.task ≡ Format k → verdict a ≡ Verdict.Do p → p.report ≡ Formatted (S (geometry a.unit))
-format-reports a k p is e = ap (λ p. p.report) (own_plan a p e ∙ ap (plan_of a.unit) is)
+format_reports a k p is e = ap (λ p. p.report) (own_plan a p e ∙ ap (plan_of a.unit) is)

@@ -11,7 +11,7 @@ use Rattle.answers.specs.declared.Refusal.{Refusal}
 use Rattle.iopb.specs.declared.Block.{Block}
 use Rattle.iopb.specs.Ask.{shape_at, task_of}
 use Rattle.iopb.proofs.Answers.{shape_at_inside}
-use Rattle.iopb.proofs.Locality.{asked_by_87, shape-local, task_apart}
+use Rattle.iopb.proofs.Locality.{asked_by_87, shape_local, task_apart}
 use Rattle.memory.specs.Readable.{ListPlace}
 use Rattle.request.specs.declared.Buffer.TheVariants.{List as Elements}
 use Rattle.request.specs.declared.Move.{Move}
@@ -29,7 +29,7 @@ use Rattle.judge.specs.Verdict.{verdict}
 use Rattle.unit.specs.declared.Controller.{Controller}
 use Rattle.unit.specs.Holding.{held_by_other}
 use Rattle.unit.specs.Standing.{UnitRecord, holder}
-use Rattle.judge.proofs.EachTask.{stopped-by-holder, verdict_local}
+use Rattle.judge.proofs.EachTask.{stopped_by_holder, verdict_local}
 use Rattle.judge.specs.Passed.{None, before, checks}
 
 module _ (c : Controller) (u : UnitRecord) (image : ℕ) (h k : List ℕ) (long : length h ≡ length k) where
@@ -53,13 +53,13 @@ module _ (c : Controller) (u : UnitRecord) (image : ℕ) (h k : List ℕ) (long 
           let in_k = asked_by_87 k b is in
           let a = on c u image (Initialize (shape_at h b.address)) h in
           by_cases (test? (held_by_other c (holder u)))
-          (λ held. ap (λ (t : Task). verdict (on c u image t h)) in_h ∙ stopped-by-holder a tt held
-          ∙ sym (ap (λ (t : Task). verdict (on c u image t k)) in_k ∙ stopped-by-holder (on c u image (Initialize (shape_at k b.address)) k) tt held))
+          (λ held. ap (λ (t : Task). verdict (on c u image t h)) in_h ∙ stopped_by_holder a tt held
+          ∙ sym (ap (λ (t : Task). verdict (on c u image t k)) in_k ∙ stopped_by_holder (on c u image (Initialize (shape_at k b.address)) k) tt held))
           (λ free.
           same_task
           (in_h
           ∙ ap Initialize
-          (shape-local h k long b.address
+          (shape_local h k long b.address
           (λ place x among.
           uib x
           (record {
@@ -79,11 +79,11 @@ module _ (c : Controller) (u : UnitRecord) (image : ℕ) (h k : List ℕ) (long 
 -- ---- what is read, and what is not
 
 -- A UIB that lies in memory is read by an 87 on a drive that the other controller does not hold.
-pub placed-uib-read :
+pub placed_uib_read :
     (a : Asked) (at bytes x : ℕ) (s : Shape) (g : Geometry) → a.task ≡ Initialize s → s ≡ Shape.Given g →
     (T (held_by_other a.controller (holder a.unit)) → ⊥) → Among at bytes x → InUib a at bytes x
 unfolding None
-placed-uib-read a at bytes x s g is given free among =
+placed_uib_read a at bytes x s g is given free among =
     record {
       shape = s;
       asks = is;
@@ -92,11 +92,11 @@ placed-uib-read a at bytes x s g is given free among =
     }
 
 -- And one that is read lies in memory, on such a drive: a UIB that failed check 12 is not read.
-pub read-uib-placed :
+pub read_uib_placed :
     (a : Asked) (at bytes x : ℕ) → InUib a at bytes x →
     ((g : Geometry) × (a.task ≡ Initialize (Shape.Given g))) × (T (held_by_other a.controller (holder a.unit)) → ⊥)
 unfolding None
-read-uib-placed a at bytes x uib =
+read_uib_placed a at bytes x uib =
     by_shape uib.shape uib.asks (subst (λ (t : Task). None (before Refusal.UibOutsideLimits (checks_of a t))) uib.asks uib.passed)
   where
     by_shape :
@@ -106,13 +106,13 @@ read-uib-placed a at bytes x uib =
     by_shape (Shape.Given g) is passed = ((g, is), passed.0)
 
 pub misplaced_uib_unread : (a : Asked) (at bytes x : ℕ) → a.task ≡ Initialize Shape.Misplaced → InUib a at bytes x → ⊥
-misplaced_uib_unread a at bytes x is uib = let read = read-uib-placed a at bytes x uib in never (cc (is, read.0.1))
+misplaced_uib_unread a at bytes x is uib = let read = read_uib_placed a at bytes x uib in never (cc (is, read.0.1))
 
 -- A list is read wherever it can be and no check before 18 refuses the block, whatever is then found in it.
-pub refused-list-read :
+pub refused_list_read :
     (a : Asked) (m : Move) (at n x : ℕ) → a.task ≡ Moves m → m.buffer ≡ Elements at n →
     None (before Refusal.ListBad (checks a)) → 1 ≤ n → ListPlace a.host at n → Among at (8 * n) x → InList a x
-refused-list-read a m at n x asks buffer passed some list among =
+refused_list_read a m at n x asks buffer passed some list among =
     record {
       move = m;
       asks = asks;

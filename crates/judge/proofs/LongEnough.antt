@@ -21,13 +21,13 @@ use Rattle.judge.specs.Verdict.{verdict}
 use Rattle.judge.proofs.First.{skip, stop}
 
 -- One of two checks of which neither is given, with the same before it and after it.
-either-passed :
+either_passed :
     (before : List Check) (k l : Check) (after : List Check) (p : Plan) → (k.Given → ⊥) → (l.Given → ⊥) →
     first (before ++ k ∷ after) p ≡ first (before ++ l ∷ after) p
-either-passed [] k l after p no-k no-l = skip k after p no-k ∙ sym (skip l after p no-l)
-either-passed (x ∷ xs) k l after p no-k no-l =
+either_passed [] k l after p no-k no-l = skip k after p no-k ∙ sym (skip l after p no-l)
+either_passed (x ∷ xs) k l after p no-k no-l =
     by_cases x.given? (λ given. stop x _ p given ∙ sym (stop x _ p given))
-    (λ out. skip x _ p out ∙ either-passed xs k l after p no-k no-l ∙ sym (skip x _ p out))
+    (λ out. skip x _ p out ∙ either_passed xs k l after p no-k no-l ∙ sym (skip x _ p out))
 
 module _ (c : Controller) (u : UnitRecord) (image other : ℕ) (host : List ℕ) (long : need (geometry u) ≤ image) (other_long : need (geometry u) ≤ other) where
   pub long_enough_alike : (t : Task) → verdict (on c u image t host) ≡ verdict (on c u other t host)
@@ -36,7 +36,7 @@ module _ (c : Controller) (u : UnitRecord) (image other : ℕ) (host : List ℕ)
   long_enough_alike (Moves m) =
       let a = on c u image (Moves m) host in
       let b = on c u other (Moves m) host in
-      either-passed (drive_held a ∷ of_unit a m ++ sector_outside a m.target m.count ∷ []) (image_short a) (image_short b)
+      either_passed (drive_held a ∷ of_unit a m ++ sector_outside a m.target m.count ∷ []) (image_short a) (image_short b)
       (of_buffer a m.buffer (bytes_of a m)) (plan_of u (Moves m)) (λ short. omega arith) (λ short. omega arith)
   long_enough_alike Handshake = refl
   long_enough_alike (Initialize Misplaced) = refl
@@ -46,6 +46,6 @@ module _ (c : Controller) (u : UnitRecord) (image other : ℕ) (host : List ℕ)
   long_enough_alike (Format k) =
       let a = on c u image (Format k) host in
       let b = on c u other (Format k) host in
-      either-passed (drive_held a ∷ not_initialized a ∷ track_outside a k ∷ []) (image_short a) (image_short b)
+      either_passed (drive_held a ∷ not_initialized a ∷ track_outside a k ∷ []) (image_short a) (image_short b)
       (data_misplaced a k.buffer (B (geometry u)) ∷ []) (plan_of u (Format k)) (λ short. omega arith) (λ short. omega arith)
   long_enough_alike (Map k) = refl

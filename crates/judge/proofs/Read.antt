@@ -30,7 +30,7 @@ use Rattle.judge.specs.Passed.{None, before, checks}
 use Rattle.judge.specs.Reads.{InList, InUib}
 use Rattle.judge.specs.Table.{Unanswered, lines_before, listed, one_of, paper}
 use Rattle.judge.proofs.Known.{so}
-use Rattle.judge.proofs.Locality.{placed-uib-read, read-uib-placed}
+use Rattle.judge.proofs.Locality.{placed_uib_read, read_uib_placed}
 use Rattle.judge.proofs.Table.{by_code, lines, no_task, one_of_lem, outside}
 
 -- ---- lines and checks, of which none is given
@@ -103,11 +103,11 @@ module _ (b : Block) (a : Asked) where
 
 module _ (b : Block) (a : Asked) (is : a.task ≡ task_of a.host b) (x : ℕ) where
   -- "a UIB that passed check 12"
-  pub uib-by-the-table :
+  pub uib_by_the_table :
       InUib a b.address 18 x ↔ ((b.command ≡ 0x87) × Unanswered b.command (lines_before 13 (paper b a)) × Among b.address 18 x)
-  uib-by-the-table = (
+  uib_by_the_table = (
     λ uib.
-        let read = read-uib-placed a b.address 18 x uib in
+        let read = read_uib_placed a b.address 18 x uib in
         let code : b.command ≡ 0x87 = subst (Tells b a b.command) (sym is ∙ read.0.1) (tells b a) in
         let asks : Initialize (shape_at a.host b.address) ≡ Initialize (Uib read.0.0) = sym (asked_by_87 a.host b code) ∙ sym is ∙ read.0.1 in
         let place : InMemory a.host b.address 18 =
@@ -115,7 +115,7 @@ module _ (b : Block) (a : Asked) (is : a.task ≡ task_of a.host b) (x : ℕ) wh
         (code, subst (Passes b a 13) (sym code) ((of_87 b a).1 (read.1, place)), uib.among),
     λ it.
         let passed = (of_87 b a).0 (subst (Passes b a 13) it.0 it.1) in
-        placed-uib-read a b.address 18 x (shape_at a.host b.address) (uib_at a.host b.address) (is ∙ asked_by_87 a.host b it.0)
+        placed_uib_read a b.address 18 x (shape_at a.host b.address) (uib_at a.host b.address) (is ∙ asked_by_87 a.host b it.0)
         (shape_at_inside a.host b.address passed.1) passed.0 it.2,
   )
 
@@ -137,14 +137,14 @@ module _ (b : Block) (a : Asked) (is : a.task ≡ task_of a.host b) (x : ℕ) wh
         ((move_of b true (Elements b.address b.elements), refl, refl), ((move_of b false (Elements b.address b.elements), refl, refl), tt)) one
 
   -- "a list of 1 to 64 elements that lies at an even address and in memory, once checks 10 to 17 are passed"
-  pub list-by-the-table :
+  pub list_by_the_table :
       InList a x ↔
       (T (one_of b.command (0xa1 ∷ 0xa2 ∷ [])) ×
       Unanswered b.command (lines_before 18 (paper b a)) ×
       ((1 ≤ b.elements) × (b.elements ≤ 64)) ×
       InMemory a.host b.address (8 * b.elements) ×
       Among b.address (8 * b.elements) x)
-  list-by-the-table = (
+  list_by_the_table = (
     λ list.
         let its : Lists b a b.command (Elements list.at list.elements) =
         subst (Lists b a b.command) list.buffer (subst (Tells b a b.command) (sym is ∙ list.asks) (tells b a)) in

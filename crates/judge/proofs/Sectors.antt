@@ -11,7 +11,7 @@ use Rattle.geometry.specs.declared.Number.TheVariants.{Is, Outside}
 use Rattle.geometry.specs.declared.VolumeNumber.{VolumeNumber}
 use Rattle.geometry.specs.Drive.{B, volume_sectors}
 use Rattle.geometry.specs.Sectors.{Covers, first_byte, mark_byte}
-use Rattle.geometry.proofs.Laws.{sector-in-image}
+use Rattle.geometry.proofs.Laws.{sector_in_image}
 use Rattle.unit.specs.Landing.{spot_of}
 use Rattle.unit.proofs.Laws.{spot_inside}
 use Rattle.unit.specs.Standing.{UnitRecord, geometry, unit_of}
@@ -37,11 +37,11 @@ module _ (m : Move) (s : Standing) (ts host : List ℕ) where
   abbrev begin : Number
   begin = begins_at u m.target
 
-  pub sectors-reachable :
+  pub sectors_reachable :
       None (before_buffer (asked (Task.Move m) s ts host) m) →
       (n : ℕ) × ((begin ≡ Is n) × ((j : ℕ) → j < m.count → Reachable u s.image v (n + j)))
   unfolding None
-  sectors-reachable (free, (initialized, (present, (some, (inside, (long, rest)))))) =
+  sectors_reachable (free, (initialized, (present, (some, (inside, (long, rest)))))) =
       by_number begin refl (by_cases (covers? (geometry u) v begin m.count) (λ c. c) (λ out. absurd (inside out)))
     where
       by_number :
@@ -55,7 +55,7 @@ module _ (m : Move) (s : Standing) (ts host : List ℕ) where
           λ j j<.
               let within : n + j < volume_sectors (geometry u) v = omega arith in
               let spot = spot_inside u v (n + j) within in
-              let image = sector-in-image (geometry u) s.image (spot_of u v (n + j)).place (omega (arith, long)) (omega arith) in
+              let image = sector_in_image (geometry u) s.image (spot_of u v (n + j)).place (omega (arith, long)) (omega arith) in
               record { in_volume = within; bytes = image.0; mark = image.1 },
         ),
       )

@@ -15,7 +15,7 @@ use Rattle.answers.proofs.Laws.{refusals_differ}
 use Rattle.geometry.specs.declared.Geometry.{Geometry}
 use Rattle.geometry.specs.declared.VolumeNumber.{VolumeNumber}
 use Rattle.geometry.specs.Answers.{in_volume?}
-use Rattle.geometry.proofs.Answers.{numbered-inside, numbered-outside}
+use Rattle.geometry.proofs.Answers.{numbered_inside, numbered_outside}
 use Rattle.iopb.specs.declared.Block.{Block}
 use Rattle.iopb.specs.Ask.{shape_at, target_of, task_at, task_of, tasks, volume_asked}
 use Rattle.iopb.proofs.Answers.{shape_at_inside, shape_at_outside}
@@ -119,15 +119,15 @@ module _ (c : ℕ) where
   told : (p : Plan) (ls : List Line) (ks : List Check) → AreLines ls ks → Told (first ks p) ls
   told p [] [] are = rw (done p) tt
   told p [] (k ∷ ks) are = absurd are
-  told p (l ∷ ls) ks are = by-for (told p ls) (l.for c) refl ks are
+  told p (l ∷ ls) ks are = by_for (told p ls) (l.for c) refl ks are
     where
-      by-for :
+      by_for :
           ((ks : List Check) → AreLines ls ks → Told (first ks p) ls) → (for : Bool) → l.for c ≡ for → (ks : List Check) → Next for l (AreLines ls) ks →
           Told (first ks p) (l ∷ ls)
-      by-for rest false is ks are = passed_over (first ks p) l ls (λ it. subst T is it.0) (rest ks are)
-      by-for rest true is ks (inl (out, are)) = passed_over (first ks p) l ls (λ it. out it.1) (rest ks are)
-      by-for rest true is [] (inr are) = absurd are
-      by-for rest true is (k ∷ ks) (inr (number, case, are)) =
+      by_for rest false is ks are = passed_over (first ks p) l ls (λ it. subst T is it.0) (rest ks are)
+      by_for rest true is ks (inl (out, are)) = passed_over (first ks p) l ls (λ it. out it.1) (rest ks are)
+      by_for rest true is [] (inr are) = absurd are
+      by_for rest true is (k ∷ ks) (inr (number, case, are)) =
           by_cases k.given? (λ given. rw (stop k ks p given) (inl ((subst T (sym is) tt, case.0 given), sym number)))
           (λ out. rw (skip k ks p out) (passed_over (first ks p) l ls (λ it. out (case.1 it.1)) (rest ks (are out))))
 
@@ -185,17 +185,17 @@ module _ (b : Block) (a : Asked) where
 
   -- 16: a logical start is its number, and a physical one has a number where the volume has it.
   pub outside : (count : ℕ) → (Covers (geometry a.unit) v (begins_at a.unit (target_of b)) count → ⊥) ↔ (SectorsThere b a count → ⊥)
-  outside count = Iff.not (by-start b.options.logical)
+  outside count = Iff.not (by_start b.options.logical)
     where
-      by-start :
+      by_start :
           (logical : Bool) →
           Covers (geometry a.unit) v (start_number g v (cond logical (Start.Logical b.number) (Start.Physical b.cylinder b.head b.sector))) count ↔
           FromStart b a logical count
-      by-start true = Iff.rfl
-      by-start false =
+      by_start true = Iff.rfl
+      by_start false =
           by_cases (in_volume? g v b.cylinder b.head b.sector)
-          (λ in-it. rw (numbered-inside _ _ _ _ _ in-it) (λ x. (in-it, x), λ x. x.1))
-          (λ out. rw (numbered-outside _ _ _ _ _ out) (λ x. absurd x, λ x. out x.0))
+          (λ in-it. rw (numbered_inside _ _ _ _ _ in-it) (λ x. (in-it, x), λ x. x.1))
+          (λ out. rw (numbered_outside _ _ _ _ _ out) (λ x. absurd x, λ x. out x.0))
 
   -- The lines for a command in place of the block's, which line 10 alone looks at, and the checks of what it asks.
   abbrev after10 : List Line → List Line
@@ -262,10 +262,10 @@ module _ (b : Block) (a : Asked) where
 -- ---- the verdict
 
 -- "Block answers, in order": a block is refused with a number exactly where the table's first line that applies has it,
-pub refused-by-the-table :
+pub refused_by_the_table :
     (b : Block) (a : Asked) → a.task ≡ task_of a.host b → (r : Refusal) →
     (verdict a ≡ Verdict.Refused r) ↔ AnsweredWith (refusal_number r) b.command (paper b a)
-refused-by-the-table b a is r =
+refused_by_the_table b a is r =
     let so = told_by_the_table b a is in
     (λ e. subst (λ (v : Verdict). Told b.command v (paper b a)) e so, by_verdict (verdict a) so)
   where
@@ -274,10 +274,10 @@ refused-by-the-table b a is r =
     by_verdict (Do p) so x = absurd (not_both b.command _ (paper b a) so x)
 
 -- and let through, with its own plan, exactly where none does.
-pub let-through-by-the-table :
+pub let_through_by_the_table :
     (b : Block) (a : Asked) → a.task ≡ task_of a.host b →
     (verdict a ≡ Verdict.Do (plan_of a.unit a.task)) ↔ Unanswered b.command (paper b a)
-let-through-by-the-table b a is =
+let_through_by_the_table b a is =
     let so = told_by_the_table b a is in
     (λ e. subst (λ (v : Verdict). Told b.command v (paper b a)) e so, by_verdict (verdict a) refl so)
   where

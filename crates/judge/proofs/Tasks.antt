@@ -34,7 +34,7 @@ use Rattle.judge.specs.declared.Verdict.{Verdict}
 use Rattle.judge.specs.Plans.{carrying, job_of, only, plan, plan_of}
 use Rattle.judge.specs.Given.{Asked, HasTrack, HasTracks, bad_number, on, spare_number}
 use Rattle.judge.specs.Verdict.{verdict}
-use Rattle.judge.proofs.EachTask.{on_its_own, stopped-by-holder}
+use Rattle.judge.proofs.EachTask.{on_its_own, stopped_by_holder}
 use Rattle.judge.proofs.First.{done, pass, skip, stop}
 use Rattle.judge.specs.Steps.{by_its_own, from_address, from_buffer, from_data, from_image, from_sectors, from_table, asks_holder, of_unit, begins_at}
 use Rattle.judge.specs.Passed.{None}
@@ -56,28 +56,28 @@ module _ (c : Controller) (u : UnitRecord) (image : ℕ) (host : List ℕ) where
 
   -- Where the other does, every task that is asked is refused.
   pub held_24 : (t : Task) → T (asks_holder t) → held_by_other c (holder u) ≡ true → verdict (on c u image t host) ≡ Verdict.Refused Refusal.DriveHeld
-  held_24 t asks held = stopped-by-holder (on c u image t host) asks (subst T (sym held) tt)
+  held_24 t asks held = stopped_by_holder (on c u image t host) asks (subst T (sym held) tt)
 
   -- So a task that asks it is refused by 24, or judged by its own checks.
-  pub own-unless-held :
+  pub own_unless_held :
       (t : Task) → T (asks_holder t) →
       (verdict (on c u image t host) ≡ Verdict.Refused Refusal.DriveHeld) ⊎ (verdict (on c u image t host) ≡ by_its_own (on c u image t host))
-  own-unless-held t asks = by-holder (held_by_other c (holder u)) refl
+  own_unless_held t asks = by_holder (held_by_other c (holder u)) refl
     where
-      by-holder :
+      by_holder :
           (held : Bool) → held_by_other c (holder u) ≡ held →
           (verdict (on c u image t host) ≡ Verdict.Refused Refusal.DriveHeld) ⊎ (verdict (on c u image t host) ≡ by_its_own (on c u image t host))
-      by-holder true held = inl (held_24 t asks held)
-      by-holder false free = inr (own t asks free)
+      by_holder true held = inl (held_24 t asks held)
+      by_holder false free = inr (own t asks free)
 
   -- The same by what the code asks at once.
-  pub refused-as-held :
+  pub refused_as_held :
       (t : Task) → asks_holder t && held_by_other c (holder u) ≡ true → verdict (on c u image t host) ≡ Verdict.Refused Refusal.DriveHeld
-  refused-as-held t is = let so = asked_and_held (asks_holder t) (held_by_other c (holder u)) is in held_24 t so.0 so.1
+  refused_as_held t is = let so = asked_and_held (asks_holder t) (held_by_other c (holder u)) is in held_24 t so.0 so.1
 
-  pub own-if-asked :
+  pub own_if_asked :
       (t : Task) → T (asks_holder t) → asks_holder t && held_by_other c (holder u) ≡ false → verdict (on c u image t host) ≡ by_its_own (on c u image t host)
-  own-if-asked t asks is = own t asks (not_held (asks_holder t) (held_by_other c (holder u)) asks is)
+  own_if_asked t asks is = own t asks (not_held (asks_holder t) (held_by_other c (holder u)) asks is)
 
   pub unknown : verdict (on c u image Task.Unknown host) ≡ Verdict.Refused Refusal.CommandUnknown
   unfolding verdict
@@ -145,11 +145,11 @@ module _ (c : Controller) (u : UnitRecord) (image : ℕ) (host : List ℕ) where
       pub address_past : volume_sectors g t.volume ≤ n → from_address seek t ≡ Verdict.Refused Refusal.SectorOutside
       address_past past = address_16 (λ covers. let c : Covers (geometry u) t.volume (Number.Is n) 1 = rw is at covers in omega arith)
 
-      pub address-done :
+      pub address_done :
           Covers (geometry u) t.volume (Number.Is n) 1 →
           from_address seek t ≡ Verdict.Do (only (Leaving.HeadsAt (spot_of u t.volume n).cylinder))
       unfolding from_address
-      address-done inside = skip _ _ _ (λ x. x (rw is inside)) ∙ done _ ∙ rw is
+      address_done inside = skip _ _ _ (λ x. x (rw is inside)) ∙ done _ ∙ rw is
 
   -- ---- 8C
 
@@ -268,9 +268,9 @@ module _ (c : Controller) (u : UnitRecord) (image : ℕ) (host : List ℕ) where
           span_16
           (λ covers. let c : Covers (geometry u) m.target.volume (Number.Is n) m.count = rw is at covers in omega arith)
 
-      pub span-covers :
+      pub span_covers :
           0 < m.count → n + m.count ≤ volume_sectors g m.target.volume → Covers (geometry u) m.target.volume begins m.count
-      span-covers some fits = let c : Covers (geometry u) m.target.volume (Number.Is n) m.count = omega arith in rw is c
+      span_covers some fits = let c : Covers (geometry u) m.target.volume (Number.Is n) m.count = omega arith in rw is c
 
     pub image_17 : image < need g → from_image moves m ≡ Verdict.Refused Refusal.ImageShort
     unfolding from_image
@@ -297,10 +297,10 @@ module _ (c : Controller) (u : UnitRecord) (image : ℕ) (host : List ℕ) where
       unfolding from_buffer
       piece_19 out = rw is (stop _ _ _ out)
 
-      pub piece-done :
+      pub piece_done :
           (n : ℕ) → begins ≡ Number.Is n → InMemory host at bytes → from_buffer moves m ≡ Verdict.Do (carrying (job_of m n))
       unfolding from_buffer
-      piece-done n starts held = rw (is, starts) (skip _ _ _ (λ n. n held) ∙ done _)
+      piece_done n starts held = rw (is, starts) (skip _ _ _ (λ n. n held) ∙ done _)
 
     module _ (at k : ℕ) (is : m.buffer ≡ Buffer.List at k) where
       pub list_18 : (ListGood host at k bytes → ⊥) → from_buffer moves m ≡ Verdict.Refused Refusal.ListBad

@@ -1,7 +1,7 @@
 -- What each command is asked, in the order in which it is asked (01, Answer numbers; 02, K5 and K10): a list of checks for each. That the lists are the
 -- paper's table is shown (Table and proofs/Table).
 use Rattle.std.specs.Prelude.{ℕ, ◌*◌, ◌≤◌, ◌<◌, List, [], ◌∷◌, ◌≡◌, T}
-use Rattle.std.proofs.Math.Logic.{Dec·and, Dec·not}
+use Rattle.std.proofs.Math.Logic.Dec.{and as dec_and, not as dec_not}
 use Rattle.std.proofs.Math.Decide.{dec_le, dec_lt, ℕ_discrete}
 use Rattle.answers.specs.declared.Refusal.TheVariants.{CommandUnknown, NotInitialized, UibMisplaced, UibOutsideLimits, VolumeAbsent, CountZero, SectorOutside, ImageShort, ListBad, DataMisplaced, TracksTaken, TableFull, DriveHeld}
 use Rattle.geometry.specs.declared.Geometry.{Geometry}
@@ -41,16 +41,16 @@ module _ (a : Asked) where
 
   -- "unit not initialized"
   abbrev pub not_initialized : Check
-  not_initialized = check NotInitialized (CountsAsInitialized a.unit → ⊥) (Dec·not (counts? a.unit))
+  not_initialized = check NotInitialized (CountsAsInitialized a.unit → ⊥) (dec_not (counts? a.unit))
 
   -- "UIB outside the geometry's limits"
   abbrev pub uib_outside_limits : Geometry → Check
-  uib_outside_limits g = check UibOutsideLimits (Within g → ⊥) (Dec·not (within? g))
+  uib_outside_limits g = check UibOutsideLimits (Within g → ⊥) (dec_not (within? g))
 
   -- "volume absent"
   abbrev pub volume_absent : VolumeNumber → Check
   volume_absent v =
-      check VolumeAbsent (Present (volume (geometry a.unit) v) → ⊥) (Dec·not (present? (volume (geometry a.unit) v)))
+      check VolumeAbsent (Present (volume (geometry a.unit) v) → ⊥) (dec_not (present? (volume (geometry a.unit) v)))
 
   -- "count 0"
   abbrev pub count_zero : ℕ → Check
@@ -61,21 +61,21 @@ module _ (a : Asked) where
   sector_outside t count =
       let g = geometry a.unit in
       let begin = start_number g t.volume t.start in
-      check SectorOutside (Covers g t.volume begin count → ⊥) (Dec·not (covers? g t.volume begin count))
+      check SectorOutside (Covers g t.volume begin count → ⊥) (dec_not (covers? g t.volume begin count))
 
   -- "8C: track outside the drive"
   abbrev pub track_outside : Track → Check
   track_outside k =
       check SectorOutside (HasTrack a.unit k.cylinder k.head → ⊥)
-      (Dec·not (on_drive? (geometry a.unit) (address k.cylinder k.head 0)))
+      (dec_not (on_drive? (geometry a.unit) (address k.cylinder k.head 0)))
 
   -- 85: "16 (either track)" (02, K5)
   abbrev pub tracks_outside : Pair → Check
   tracks_outside k =
       let g = geometry a.unit in
       check SectorOutside (HasTracks a.unit k → ⊥)
-      (Dec·not
-      (Dec·and (on_drive? g (address k.bad_cylinder k.bad_head 0)) (on_drive? g (address k.spare_cylinder k.spare_head 0))))
+      (dec_not
+      (dec_and (on_drive? g (address k.bad_cylinder k.bad_head 0)) (on_drive? g (address k.spare_cylinder k.spare_head 0))))
 
   -- "image shorter than the geometry needs"
   abbrev pub image_short : Check
@@ -83,21 +83,21 @@ module _ (a : Asked) where
 
   -- "list: 0 or over 64 elements, .. or the sum not count × B"
   abbrev pub list_bad : ℕ → ℕ → ℕ → Check
-  list_bad at n bytes = check ListBad (ListGood a.host at n bytes → ⊥) (Dec·not (list_good? a.host at n bytes))
+  list_bad at n bytes = check ListBad (ListGood a.host at n bytes → ⊥) (dec_not (list_good? a.host at n bytes))
 
   -- "a data address odd or its range not in host memory", of one range and of a list's
   abbrev pub data_misplaced : ℕ → ℕ → Check
-  data_misplaced at bytes = check DataMisplaced (InMemory a.host at bytes → ⊥) (Dec·not (in_memory? a.host at bytes))
+  data_misplaced at bytes = check DataMisplaced (InMemory a.host at bytes → ⊥) (dec_not (in_memory? a.host at bytes))
 
   abbrev pub element_misplaced : ℕ → ℕ → Check
-  element_misplaced at n = check DataMisplaced (Ranges a.host at n → ⊥) (Dec·not (ranges? a.host at n))
+  element_misplaced at n = check DataMisplaced (Ranges a.host at n → ⊥) (dec_not (ranges? a.host at n))
 
   -- "the tracks are equal or either is in the table already" (02, K5)
   abbrev pub tracks_taken : Pair → Check
   tracks_taken k =
       let u = a.unit in
       check TracksTaken (Free (pairs u) (table u) (bad_number k) (spare_number k) → ⊥)
-      (Dec·not (free? (pairs u) (table u) (bad_number k) (spare_number k)))
+      (dec_not (free? (pairs u) (table u) (bad_number k) (spare_number k)))
 
   -- "32 pairs stand" (02, K5)
   abbrev pub table_full : Check

@@ -29,7 +29,7 @@ use wire::holds;
 
 // What is judged of a unit beside the task: its record, whether that counts as initialized, how long its image is, and which controller asks.
 // Whoever runs several blocks has asked the second once: a table of many pairs is long to look through.
-#[derive(Drop)]
+#[derive(Clone, Copy)]
 pub struct Standing {
     pub record: Record,
     pub counts: bool,
@@ -38,7 +38,7 @@ pub struct Standing {
 }
 
 // Sectors to move: which, which way, and where the data lies.
-#[derive(Drop)]
+#[derive(Clone, Copy)]
 pub struct Job {
     pub to_host: bool,
     pub past_marks: bool,
@@ -47,7 +47,7 @@ pub struct Job {
 }
 
 // What is moved: nothing, sectors, or the bytes of one sector to every sector of a track.
-#[derive(Drop)]
+#[derive(Clone, Copy)]
 pub enum Moving {
     Nothing,
     Sectors(Job),
@@ -55,7 +55,7 @@ pub enum Moving {
 }
 
 // What is reported in the block: nothing, what the board is, or that so many sectors of a track were formatted.
-#[derive(Drop)]
+#[derive(Clone, Copy)]
 pub enum Report {
     Nothing,
     Identity,
@@ -64,7 +64,7 @@ pub enum Report {
 
 // What becomes of the unit's record: it stays as it was, its heads go to a cylinder or to that of the last sector tried, it is a new one, or it
 // gets a pair more, a bad track and its spare.
-#[derive(Drop)]
+#[derive(Clone, Copy)]
 pub enum Leaving {
     AsItWas,
     HeadsAt(u16),
@@ -74,14 +74,14 @@ pub enum Leaving {
 }
 
 // What an accepted block does.
-#[derive(Drop)]
+#[derive(Clone, Copy)]
 pub struct Plan {
     pub moving: Moving,
     pub report: Report,
     pub leaving: Leaving,
 }
 
-#[derive(Drop)]
+#[derive(Clone, Copy)]
 pub enum Verdict {
     Refused(Refusal),
     Do(Plan),

@@ -11,7 +11,7 @@ use lib.ListN.{set}
 use Rattle.memory.specs.declared.Element.{Element}
 use Rattle.wire.specs.Memory.{InMemory}
 use Rattle.wire.specs.Promise.{Says}
-use Rattle.wire.proofs.Promises.{granted, says-all-more}
+use Rattle.wire.proofs.Promises.{granted, says_all_more}
 use Rattle.memory.specs.declared.Seen.{Seen}
 use Rattle.memory.specs.Lists.{ListGood, element_of, total}
 use Rattle.memory.specs.Pieces.{addresses_of, filled, lengths_of, pieces_of}
@@ -23,7 +23,7 @@ unfolding total
 nothing_scanned host at =
     record { counts = λ i h. absurd (omega arith); ranges = λ i h. absurd (omega arith); sum = refl }
 
-pub one-more-scanned :
+pub one_more_scanned :
     (host : List ℕ) (at n : ℕ) (so : Seen) (e : Element) (good fits counts ranges : Bool) →
     e ≡ element_of host at n →
     counts ≡ (so.counts && good) →
@@ -33,20 +33,20 @@ pub one-more-scanned :
     Says fits (InMemory host e.address e.bytes) →
     Scanned host at (n + 1) (record { counts = counts; ranges = ranges; sum = so.sum + e.bytes })
 unfolding total
-one-more-scanned host at n so e good fits counts ranges is c-is r-is so_far g f =
+one_more_scanned host at n so e good fits counts ranges is c-is r-is so_far g f =
     rw (add-one, is, c-is, r-is)
     (record {
       counts =
-          says-all-more so.counts good (λ i. GoodCount (element_of host at i).bytes) n so_far.counts (rw is at g);
+          says_all_more so.counts good (λ i. GoodCount (element_of host at i).bytes) n so_far.counts (rw is at g);
       ranges =
-          says-all-more so.ranges fits (λ i. InMemory host (element_of host at i).address (element_of host at i).bytes) n
+          says_all_more so.ranges fits (λ i. InMemory host (element_of host at i).address (element_of host at i).bytes) n
           so_far.ranges
           (rw is at f);
       sum = ap (λ (x : ℕ). x + (element_of host at n).bytes) so_far.sum;
     })
 
 -- A list whose number, place, counts and sum were found good is good.
-pub good-list :
+pub good_list :
     (host : List ℕ) (at n bytes : ℕ) (s : Seen) →
     (1 ≤ n) × (n ≤ 64) →
     InMemory host at (8 * n) →
@@ -54,7 +54,7 @@ pub good-list :
     not s.counts ≡ false →
     s.sum ≡ bytes →
     ListGood host at n bytes
-good-list host at n bytes s number place scanned counts sum =
+good_list host at n bytes s number place scanned counts sum =
     record {
       some = number.0;
       most = number.1;
@@ -64,14 +64,14 @@ good-list host at n bytes s number place scanned counts sum =
     }
 
 -- One element more of the pieces.
-pub one-more-piece :
+pub one_more_piece :
     (host : List ℕ) (at n : ℕ) (e : Element) (lengths addresses : List ℕ) →
     e ≡ element_of host at n →
     lengths ≡ lengths_of host at n →
     addresses ≡ addresses_of host at n →
     (set lengths n e.bytes ≡ lengths_of host at (n + 1)) × (set addresses n e.address ≡ addresses_of host at (n + 1))
 unfolding lengths_of addresses_of
-one-more-piece host at n e lengths addresses is l a = rw (add-one, is, l, a) (refl, refl)
+one_more_piece host at n e lengths addresses is l a = rw (add-one, is, l, a) (refl, refl)
 
 -- The pieces of a list that can be read, and of any other.
 pub pieces_inside : (host : List ℕ) (at n : ℕ) → ListPlace host at n → pieces_of host at n ≡ filled host at n

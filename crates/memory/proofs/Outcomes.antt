@@ -11,20 +11,20 @@ use Rattle.memory.proofs.copy_out.Reads as copy-out
 use Rattle.memory.proofs.Element.read.Reads as element-read
 use Rattle.memory.proofs.list.Reads as list
 
-listing-once :
+listing_once :
     (host : List ℕ) (at n bytes : ℕ) (x y : Listed) → Listing host at n bytes x → Listing host at n bytes y → x ≡ y
-listing-once host at n bytes Bad Bad p q = refl
-listing-once host at n bytes Bad RangeBad p q = absurd (p q.0)
-listing-once host at n bytes Bad Good p q = absurd (p q.0)
-listing-once host at n bytes RangeBad Bad p q = absurd (q p.0)
-listing-once host at n bytes RangeBad RangeBad p q = refl
-listing-once host at n bytes RangeBad Good p q = absurd (p.1 q.1)
-listing-once host at n bytes Good Bad p q = absurd (q p.0)
-listing-once host at n bytes Good RangeBad p q = absurd (q.1 p.1)
-listing-once host at n bytes Good Good p q = refl
+listing_once host at n bytes Bad Bad p q = refl
+listing_once host at n bytes Bad RangeBad p q = absurd (p q.0)
+listing_once host at n bytes Bad Good p q = absurd (p q.0)
+listing_once host at n bytes RangeBad Bad p q = absurd (q p.0)
+listing_once host at n bytes RangeBad RangeBad p q = refl
+listing_once host at n bytes RangeBad Good p q = absurd (p.1 q.1)
+listing_once host at n bytes Good Bad p q = absurd (q p.0)
+listing_once host at n bytes Good RangeBad p q = absurd (q.1 p.1)
+listing_once host at n bytes Good Good p q = refl
 
 list_once : OneResult list.Post
-list_once κ a x y e f p q = listing-once _ _ _ _ x y p q
+list_once κ a x y e f p q = listing_once _ _ _ _ x y p q
 
 copy_out_once : OneResult copy-out.Post
 copy_out_once κ a x y e f p q = p ∙ sym q

@@ -11,7 +11,7 @@ ghost use Rattle.wire.specs.Promise.{Says};
 use wire::holds;
 
 // An element of a scatter or gather list.
-#[derive(Drop)]
+#[derive(Clone, Copy)]
 pub struct Element {
     pub bytes: u16,
     pub address: u32,
@@ -35,7 +35,7 @@ impl Element {
 }
 
 // What one pass over a list finds: whether every byte count is good, whether every range is, and the sum of the counts.
-#[derive(Drop)]
+#[derive(Clone, Copy)]
 pub struct Seen {
     pub counts: bool,
     pub ranges: bool,
@@ -80,7 +80,7 @@ fn scan(host: &[u8], at: usize, elements: usize) -> Seen
 }
 
 // What checks 18 and 19 find of a list.
-#[derive(Drop)]
+#[derive(Clone, Copy)]
 pub enum Listed {
     Bad,
     RangeBad,
@@ -131,7 +131,7 @@ fn pass_over(host: &[u8], at: usize, elements: usize, bytes: u64) -> Listed
 }
 
 // The pieces of a list, copied out: byte counts and addresses, slot by slot, and 0 in every slot after the last.
-#[derive(Drop)]
+#[derive(Clone, Copy)]
 pub struct Pieces {
     pub lengths: [u32; 64],
     pub addresses: [u32; 64],

@@ -4,7 +4,7 @@
 use geometry::{Geometry, VolumeNumber};
 
 // Where a request begins in its volume: a logical number, or a physical address whose head is counted from the start head.
-#[derive(Drop)]
+#[derive(Clone, Copy)]
 pub enum Start {
     Logical(u32),
     Physical {
@@ -14,14 +14,14 @@ pub enum Start {
     },
 }
 
-#[derive(Drop)]
+#[derive(Clone, Copy)]
 pub struct Target {
     pub volume: VolumeNumber,
     pub start: Start,
 }
 
 // Where in host memory the data lies: in one piece, or in the elements of a list.
-#[derive(Drop)]
+#[derive(Clone, Copy)]
 pub enum Buffer {
     Piece(u32),
     List { at: u32, elements: u8 },
@@ -29,7 +29,7 @@ pub enum Buffer {
 
 // Sectors to host memory, or from it. To host memory, `past_marks` moves sectors that are marked unreadable too; from it,
 // marks are ignored in any case.
-#[derive(Drop)]
+#[derive(Clone, Copy)]
 pub struct Move {
     pub to_host: bool,
     pub past_marks: bool,
@@ -39,7 +39,7 @@ pub struct Move {
 }
 
 // A track over the whole drive, and where the bytes of one sector lie that are to fill it.
-#[derive(Drop)]
+#[derive(Clone, Copy)]
 pub struct Track {
     pub cylinder: u16,
     pub head: u16,
@@ -47,7 +47,7 @@ pub struct Track {
 }
 
 // A bad track and the one that is to serve for it, both counted over the whole drive.
-#[derive(Drop)]
+#[derive(Clone, Copy)]
 pub struct Pair {
     pub bad_cylinder: u16,
     pub bad_head: u8,
@@ -56,13 +56,13 @@ pub struct Pair {
 }
 
 // A geometry as its block of numbers gave it, where that block could be read.
-#[derive(Drop)]
+#[derive(Clone, Copy)]
 pub enum Shape {
     Misplaced,
     Given(Geometry),
 }
 
-#[derive(Drop)]
+#[derive(Clone, Copy)]
 pub enum Task {
     Unknown,
     Move(Move),

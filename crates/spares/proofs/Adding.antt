@@ -32,10 +32,10 @@ module _ (g : Geometry) (t : ℕ) where
       sym (serves_later g ts t i n no-first))
 
   -- Two tables with the same tracks in the same places serve alike.
-  pub serve-alike :
+  pub serve_alike :
       (ts us : List ℕ) (i n : ℕ) → ((j : ℕ) → j < 2 * (i + n) → get_or ts j 0 ≡ get_or us j 0) → served_from g ts i n t ≡ served_from g us i n t
-  serve-alike ts us i zero same = serves_none g ts t i ∙ sym (serves_none g us t i)
-  serve-alike ts us i (suc n) same =
+  serve_alike ts us i zero same = serves_none g ts t i ∙ sym (serves_none g us t i)
+  serve_alike ts us i (suc n) same =
       let spares = same (2 * i + 1) (omega arith) in
       let bads = same (2 * i) (omega arith) in
       by_cases (serves? g ts i t)
@@ -43,7 +43,7 @@ module _ (g : Geometry) (t : ℕ) where
       serves_first g ts t i n it ∙ ap (λ (x : ℕ). By (stands_for x)) spares ∙
       sym (serves_first g us t i n (record { bad = sym bads ∙ it.bad; on = subst (TrackOn g) spares it.on })))
       (λ not_it.
-      serves_later g ts t i n not_it ∙ serve-alike ts us (suc i) n (λ j less. same j (omega arith)) ∙
+      serves_later g ts t i n not_it ∙ serve_alike ts us (suc i) n (λ j less. same j (omega arith)) ∙
       sym (serves_later g us t i n (λ it. not_it (record { bad = bads ∙ it.bad; on = subst (TrackOn g) (sym spares) it.on }))))
 
 module _ (n : ℕ) (ts : List ℕ) (b s : ℕ) (room : n < 32) (long : length ts ≡ 64) where
@@ -133,4 +133,4 @@ module _ (n : ℕ) (ts : List ℕ) (b s : ℕ) (room : n < 32) (long : length ts
         rw (now-all, then-all)
         (without_the_last g t (with_pair n ts b s) 0 n
         (λ it. other (sym it.bad ∙ ap (bad_of (with_pair n ts b s)) (zero-add n) ∙ its_bad)) ∙
-        serve-alike g t (with_pair n ts b s) ts 0 n (λ j less. before_the_pair j (omega arith)))
+        serve_alike g t (with_pair n ts b s) ts 0 n (λ j less. before_the_pair j (omega arith)))

@@ -15,7 +15,7 @@ use Rattle.spares.specs.declared.Served.TheVariants.{Itself}
 use Rattle.spares.specs.Lands.{InTable, counted}
 use Rattle.spares.specs.Table.{Free, Good, served_at}
 use Rattle.spares.specs.Tracks.{TrackOn, track_number}
-use Rattle.spares.proofs.Adding.{serve-alike}
+use Rattle.spares.proofs.Adding.{serve_alike}
 
 module _ (n : ℕ) (ts us : List ℕ) (same : counted n ts ≡ counted n us) where
   pub entry_alike : (i : ℕ) → i < 2 * min n 32 → get_or ts i 0 ≡ get_or us i 0
@@ -48,4 +48,4 @@ module _ (n : ℕ) (ts us : List ℕ) (same : counted n ts ≡ counted n us) whe
   pub served_alike : (g : Geometry) (c h : ℕ) → served_at g n ts c h ≡ served_at g n us c h
   served_alike g c h =
       ap (λ (s : Served). ite (dec_lt h 256) s Itself)
-      (serve-alike g (track_number c h) ts us 0 (min n 32) (λ j less. entry_alike j (omega arith)))
+      (serve_alike g (track_number c h) ts us 0 (min n 32) (λ j less. entry_alike j (omega arith)))

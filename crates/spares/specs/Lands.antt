@@ -1,6 +1,6 @@
 -- What is proved of a table: which pair serves a track, where a track lands, and the tracks of the pairs that count.
 use Rattle.std.specs.Prelude.{ℕ, ◌*◌, min, List, ◌≡◌, take}
-use Rattle.std.proofs.Math.Logic.{Dec·and}
+use Rattle.std.proofs.Math.Logic.Dec.{and as dec_and}
 use Rattle.std.proofs.Math.Decide.{map_dec, ℕ_discrete}
 use Rattle.geometry.specs.declared.Geometry.{Geometry}
 use Rattle.spares.specs.declared.Served.{Served}
@@ -15,7 +15,7 @@ pub record Serves (g : Geometry) (ts : List ℕ) (i t : ℕ) : Type 0 where
 
 pub serves? : (g : Geometry) (ts : List ℕ) (i t : ℕ) → Dec (Serves g ts i t)
 serves? g ts i t =
-    map_dec (λ d. record { bad = d.0; on = d.1 }) (λ s. (s.bad, s.on)) (Dec·and (ℕ_discrete (bad_of ts i) t) (track_on? g (spare_of ts i)))
+    map_dec (λ d. record { bad = d.0; on = d.1 }) (λ s. (s.bad, s.on)) (dec_and (ℕ_discrete (bad_of ts i) t) (track_on? g (spare_of ts i)))
 
 -- It is in the table, as bad or as spare.
 abbrev pub InTable : ℕ → List ℕ → ℕ → Type 0

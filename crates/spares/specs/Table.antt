@@ -1,7 +1,8 @@
 -- A table of bad tracks with their spares (02, K5): how many pairs of it count is told beside it. Pair i has its bad track at 2 i and the
 -- spare at 2 i + 1. There is room for 32 pairs.
 use Rattle.std.specs.Prelude.{ℕ, zero, suc, ◌+◌, ◌*◌, ◌≤◌, ◌<◌, min, List, ◌≡◌, get_or, length, set}
-use Rattle.std.proofs.Math.Logic.{ite, Dec·and}
+use Rattle.std.proofs.Math.Logic.{ite}
+use Rattle.std.proofs.Math.Logic.Dec.{and as dec_and}
 use Rattle.std.proofs.Math.Decide.{dec_lt, ℕ_discrete}
 use Rattle.geometry.specs.declared.Geometry.{Geometry}
 use Rattle.spares.specs.declared.Served.{Served}
@@ -40,7 +41,7 @@ pub record Free (n : ℕ) (ts : List ℕ) (bad spare : ℕ) : Type 0 where
 unfoldable pub served_from : Geometry → List ℕ → (i n t : ℕ) → Served
 served_from g ts i zero t = Itself
 served_from g ts i (suc n) t =
-    ite (Dec·and (ℕ_discrete (bad_of ts i) t) (track_on? g (spare_of ts i))) (By (stands_for (spare_of ts i))) (served_from g ts (suc i) n t)
+    ite (dec_and (ℕ_discrete (bad_of ts i) t) (track_on? g (spare_of ts i))) (By (stands_for (spare_of ts i))) (served_from g ts (suc i) n t)
 
 -- What serves a track, by its cylinder and its head. From head 256 on no number stands for a track, and no table has it.
 abbrev pub served_at : Geometry → ℕ → List ℕ → ℕ → ℕ → Served

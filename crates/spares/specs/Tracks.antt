@@ -1,6 +1,6 @@
 -- A track, "physical over the whole drive" (02, K5): a cylinder and a head, and the one number that stands for both in a table.
 use Rattle.std.specs.Prelude.{ℕ, ◌+◌, ◌*◌, ◌/◌, ◌%◌, ◌<◌, ◌≡◌}
-use Rattle.std.proofs.Math.Logic.{Dec·and}
+use Rattle.std.proofs.Math.Logic.Dec.{and as dec_and}
 use Rattle.std.proofs.Math.Decide.{dec_lt, map_dec, ℕ_discrete}
 use Rattle.geometry.specs.declared.Geometry.{Geometry}
 use Rattle.geometry.specs.Drive.{C, drive_heads}
@@ -22,4 +22,4 @@ pub record TrackOn (g : Geometry) (t : ℕ) : Type 0 where
 pub track_on? : (g : Geometry) (t : ℕ) → Dec (TrackOn g t)
 track_on? g t =
     map_dec (λ d. record { cylinder = d.0; head = d.1.0; last = d.1.1 }) (λ o. (o.cylinder, (o.head, o.last)))
-    (Dec·and (dec_lt (t / 65536) (C g)) (Dec·and (dec_lt (t / 256 % 256) (drive_heads g)) (ℕ_discrete (t % 256) 0)))
+    (dec_and (dec_lt (t / 65536) (C g)) (dec_and (dec_lt (t / 256 % 256) (drive_heads g)) (ℕ_discrete (t % 256) 0)))

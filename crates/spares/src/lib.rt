@@ -10,14 +10,14 @@ ghost use Rattle.wire.specs.Promise.{Says};
 use geometry::Geometry;
 
 // A track of the whole drive.
-#[derive(Drop)]
+#[derive(Clone, Copy)]
 pub struct Track {
     pub cylinder: u16,
     pub head: u16,
 }
 
 // What serves a track: itself, or a spare.
-#[derive(Drop)]
+#[derive(Clone, Copy)]
 pub enum Served {
     Itself,
     By(Track),

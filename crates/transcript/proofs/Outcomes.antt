@@ -15,8 +15,8 @@ wanted_once κ a x y e f p q = p ∙ sym q
 
 -- What a caller of a step sees: the answer, with the state in it, and every byte of the four buffers and every track of the
 -- two tables.
-step-once :
+step_once :
     OneOutcome step.Post
     (λ κ x e. spoken_of x (lent_of e.1.0.now e.1.1.0.now e.1.1.1.0.now e.1.1.1.1.0.now e.1.1.1.1.1.0.now
     e.1.1.1.1.1.1.0.now))
-step-once κ a x y e f p q = p ∙ sym q
+step_once κ a x y e f p q = p ∙ sym q

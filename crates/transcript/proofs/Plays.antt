@@ -14,7 +14,7 @@ use Rattle.board.specs.declared.chain.Outcome.{Outcome}
 use Rattle.board.specs.Chain.{Ending, ends, ran}
 use Rattle.unit.specs.declared.Controller.TheVariants.{First}
 use Rattle.demands.proofs.RunAnswers.{blocks_within_the_allowance}
-use Rattle.board.proofs.Runs.{ran-allowance-bad}
+use Rattle.board.proofs.Runs.{ran_allowance_bad}
 use Rattle.wire.specs.Copy.{copied}
 use Rattle.wire.specs.Words.{be32}
 use Rattle.wire.proofs.Laws.{word_same}
@@ -22,7 +22,7 @@ use Rattle.transcript.specs.declared.State.{State}
 use Rattle.transcript.specs.Session.{Held, bytes_in, ending_of, heard, long_of, run_heard}
 use Rattle.transcript.specs.Steps.{Appended, Fits, SessionLent, SessionRoom, held_in, lent_of, on_with, at_start, spoken_of, went}
 use Rattle.transcript.specs.Text.{block_lines, run_line}
-use Rattle.transcript.proofs.Texts.{block_lines_short, put_then, run-line-short}
+use Rattle.transcript.proofs.Texts.{block_lines_short, put_then, run_line_short}
 use Rattle.board.specs.World.{World}
 use Rattle.board.specs.Run.{CameTo, world_of}
 use Rattle.wire.specs.Storing.{written}
@@ -36,10 +36,10 @@ pub written_over : (text bytes : List ℕ) → length bytes ≤ length text → 
 unfolding written
 written_over text bytes fits = sets-eq bytes text 0 (omega arith) ∙ rw zero-add
 
-pub said-over :
+pub said_over :
     {text text' bytes : List ℕ} {end : ℕ} → Appended text 0 bytes text' end → length bytes ≤ length text →
     (text' ≡ at_start bytes text) × (end ≡ length bytes)
-said-over {text} {text'} {bytes} put fits = (put.stored ∙ written_over text bytes fits, put.after ∙ zero-add (length bytes))
+said_over {text} {text'} {bytes} put fits = (put.stored ∙ written_over text bytes fits, put.after ∙ zero-add (length bytes))
 
 module _ (field : List ℕ) (whole : 3 + long_of field ≤ length field) where
   pub bytes_long : length (bytes_in field) ≡ long_of field
@@ -67,32 +67,32 @@ module _ (field : List ℕ) (s : State) (l : SessionLent) (at : ℕ) (room : Ses
   image1_stays : Stays s.image1 l.image1
   image1_stays = stays s.image1 l.image1 room.image1
 
-  pub host-given :
+  pub host_given :
       spoken_of (on_with s.units (long_of field) s.image0 s.image1 at 0)
       (lent_of (copied field 3 l.host 0 (long_of field)) l.image0 l.image1 l.text l.tracks0 l.tracks1) ≡
       went (heard (held_in s l) 1 (bytes_in field)) at l
   unfolding heard ℕ_discrete
-  host-given =
+  host_given =
       λ i.
       spoken_of (on_with s.units (sym (bytes_long field whole) i) (image0_stays.0 i) (image1_stays.0 i) at 0)
       (lent_of (copied_over field whole l.host i) (image0_stays.1 i) (image1_stays.1 i) l.text l.tracks0 l.tracks1)
 
-  pub image0-given :
+  pub image0_given :
       spoken_of (on_with s.units s.host (long_of field) s.image1 at 0)
       (lent_of l.host (copied field 3 l.image0 0 (long_of field)) l.image1 l.text l.tracks0 l.tracks1) ≡
       went (heard (held_in s l) 2 (bytes_in field)) at l
   unfolding heard ℕ_discrete
-  image0-given =
+  image0_given =
       λ i.
       spoken_of (on_with s.units (host_stays.0 i) (sym (bytes_long field whole) i) (image1_stays.0 i) at 0)
       (lent_of (host_stays.1 i) (copied_over field whole l.image0 i) (image1_stays.1 i) l.text l.tracks0 l.tracks1)
 
-  pub image1-given :
+  pub image1_given :
       spoken_of (on_with s.units s.host s.image0 (long_of field) at 0)
       (lent_of l.host l.image0 (copied field 3 l.image1 0 (long_of field)) l.text l.tracks0 l.tracks1) ≡
       went (heard (held_in s l) 3 (bytes_in field)) at l
   unfolding heard ℕ_discrete
-  image1-given =
+  image1_given =
       λ i.
       spoken_of (on_with s.units (host_stays.0 i) (image0_stays.0 i) (sym (bytes_long field whole) i) at 0)
       (lent_of (host_stays.1 i) (image0_stays.1 i) (copied_over field whole l.image1 i) l.text l.tracks0 l.tracks1)
@@ -100,11 +100,11 @@ module _ (field : List ℕ) (s : State) (l : SessionLent) (at : ℕ) (room : Ses
 -- ---- a run
 
 -- With a tag of 4 it is one.
-pub run-heard :
+pub run_heard_lem :
     (h : Held) (tag : ℕ) (bytes : List ℕ) → (tag ≡ 1 → ⊥) → (tag ≡ 2 → ⊥) → (tag ≡ 3 → ⊥) →
     heard h tag bytes ≡ run_heard (ending_of h bytes)
 unfolding heard
-run-heard h tag bytes not-1 not-2 not-3 =
+run_heard_lem h tag bytes not-1 not-2 not-3 =
     if_neg (ℕ_discrete tag 1) not-1 _ _ ∙ if_neg (ℕ_discrete tag 2) not-2 _ _ ∙ if_neg (ℕ_discrete tag 3) not-3 _ _
 
 -- What a run meets: what is held, and an event buffer of its own.
@@ -116,20 +116,20 @@ module _ (field : List ℕ) (five : long_of field ≡ 5) where
   byte_in_lem : (i : ℕ) → i < 5 → get_or field (3 + i) 0 ≡ get_or (bytes_in field) i 0
   byte_in_lem i below = rw five (sym (get_or-take 5 (drop 3 field) i 0 below ∙ get_or-drop 3 field i 0))
 
-  pub run-ending :
+  pub run_ending :
       (h : Held) {first : ℕ} → first ≡ be32 field 3 → ran first (get_or field 7 0) (met h) ≡ ending_of h (bytes_in field)
-  run-ending h is =
+  run_ending h is =
       λ t.
       ran ((is ∙ word_same 4 field (bytes_in field) 3 0 (λ i below. rw zero-add (byte_in_lem i (omega arith)))) t)
       (byte_in_lem 4 (omega arith) t) (met h)
 
 -- No run has more than 64 blocks.
-pub blocks-few :
+pub blocks_few :
     (first allowance : ℕ) (h : Held) {w : World} {r : Outcome} → CameTo (ran first allowance (met h)) w r → r.blocks ≤ 64
-blocks-few first allowance h came =
+blocks_few first allowance h came =
     rw came.result
     (by_cases (dec_le allowance 64) (λ good. omega (arith, blocks_within_the_allowance first allowance (met h)))
-    (λ bad. rw (ran-allowance-bad first allowance (met h) (omega arith) (λ good. bad good.1)) (omega arith)))
+    (λ bad. rw (ran_allowance_bad first allowance (met h) (omega arith) (λ good. bad good.1)) (omega arith)))
 
 -- What a run came to is how it ended.
 abbrev ended_as : World → Outcome → Ending
@@ -139,15 +139,15 @@ ended_as_lem : {e : Ending} {w : World} {r : Outcome} → CameTo e w r → ended
 ended_as_lem came = λ i. ended_as (came.world i) (came.result i)
 
 -- A part that was lent and came back, and the buffer that it is the start of.
-came-back :
+came_back :
     (used : ℕ) (buffer part : List ℕ) → Fits used buffer → length part ≡ length (take used buffer) →
     (used ≡ length part) × (part ++ drop used buffer ≡ at_start part buffer)
-came-back used buffer part fits kept =
+came_back used buffer part fits kept =
     let same : used ≡ length part = omega (arith, length-take-le used buffer (omega arith)) in
     (same, ap (λ n. part ++ drop n buffer) same)
 
 -- The lines of a run are what it says, and the parts that it leaves are what is held.
-pub run-went :
+pub run_went :
     (s : State) (l : SessionLent) (at : ℕ) → SessionRoom s l →
     {e : Ending} (host image0 image1 events tracks0 tracks1 : List ℕ) (r : Outcome) →
     CameTo e (world_of First host image0 image1 events tracks0 tracks1 r.units) r →
@@ -162,17 +162,17 @@ pub run-went :
     (lent_of (host ++ drop s.host l.host) (image0 ++ drop s.image0 l.image0) (image1 ++ drop s.image1 l.image1)
     text'' tracks0 tracks1) ≡
     went (run_heard e) at l
-run-went s l at room host image0 image1 events tracks0 tracks1 r came kept kept0 kept1 {number = number} is a b c line lines =
-    let h = came-back s.host l.host host room.host kept in
-    let i0 = came-back s.image0 l.image0 image0 room.image0 kept0 in
-    let i1 = came-back s.image1 l.image1 image1 room.image1 kept1 in
+run_went s l at room host image0 image1 events tracks0 tracks1 r came kept kept0 kept1 {number = number} is a b c line lines =
+    let h = came_back s.host l.host host room.host kept in
+    let i0 = came_back s.image0 l.image0 image0 room.image0 kept0 in
+    let i1 = came_back s.image1 l.image1 image1 room.image1 kept1 in
     let told =
-    said-over (put_then line lines)
+    said_over (put_then line lines)
     (omega (
       arith,
       length-append (run_line number r.blocks r.sectors) (block_lines events r.blocks),
       room.text,
-      run-line-short number r.blocks r.sectors a (omega arith) c,
+      run_line_short number r.blocks r.sectors a (omega arith) c,
       block_lines_short events r.blocks (omega arith),
     )) in
     (λ t.

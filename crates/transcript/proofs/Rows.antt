@@ -12,7 +12,7 @@ use lib.Seq.{take-append_seam}
 use Rattle.unit.specs.Standing.{no_tracks}
 use Rattle.unit.specs.declared.UnitNumber.TheVariants.{Zero, One}
 use Rattle.board.specs.Chain.{ran}
-use Rattle.demands.proofs.Keeps.{run-keeps-lengths}
+use Rattle.demands.proofs.Keeps.{run_keeps_lengths}
 use Rattle.wire.specs.Words.{be32}
 use Rattle.transcript.specs.declared.State.{State}
 use Rattle.transcript.specs.Rows.{in_a_row, onward, read_for}
@@ -20,7 +20,7 @@ use Rattle.transcript.specs.Session.{Held, Heard, begin, bytes_in, ending_of, fi
 use Rattle.transcript.specs.Steps.{SessionLent, SessionRoom, Spoken, closed, held_in, lent_of, most_bytes, most_field, at_start, spoken, state_of, text_room, wanted, went}
 use Rattle.transcript.specs.Text.{refusal_line}
 use Rattle.transcript.proofs.Fields.{read_bytes, read_field, read_length, read_long, read_no_field, read_some, read_tag}
-use Rattle.transcript.proofs.Plays.{bytes_long, met, run-heard}
+use Rattle.transcript.proofs.Plays.{bytes_long, met, run_heard_lem}
 use Rattle.transcript.proofs.Speaks.{at_the_end, refused, went_on}
 use Rattle.board.specs.World.{World}
 
@@ -38,11 +38,11 @@ record Few (h : Held) : Type 0 where
   image1 : length h.drive1.image ≤ most_bytes
 
 -- A run keeps the lengths of both images.
-images-keep-lengths :
+images_keep_lengths :
     (first allowance : ℕ) (w : World) →
     (length (ran first allowance w).world.drive0.image ≡ length w.drive0.image) ×
     (length (ran first allowance w).world.drive1.image ≡ length w.drive1.image)
-images-keep-lengths first allowance w = let keeps = (run-keeps-lengths first allowance w).1.1 in (keeps Zero, keeps One)
+images_keep_lengths first allowance w = let keeps = (run_keeps_lengths first allowance w).1.1 in (keeps Zero, keeps One)
 
 few_held : (s : State) (l : SessionLent) → SessionRoom s l → Few (held_in s l)
 few_held s l room =
@@ -60,12 +60,12 @@ few_heard h tag bytes few short =
     by_cases (ℕ_discrete tag 2) (λ is. rw is (record { host = few.host; image0 = short; image1 = few.image1 }))
     (λ not-2.
     by_cases (ℕ_discrete tag 3) (λ is. rw is (record { host = few.host; image0 = few.image0; image1 = short }))
-    (λ not-3. rw (run-heard h tag bytes not-1 not-2 not-3) after_run)))
+    (λ not-3. rw (run_heard_lem h tag bytes not-1 not-2 not-3) after_run)))
   where
     after_run : Few (run_heard (ending_of h bytes)).held
     after_run =
-        let keeps = run-keeps-lengths (be32 bytes 0) (get_or bytes 4 0) (met h) in
-        let images = images-keep-lengths (be32 bytes 0) (get_or bytes 4 0) (met h) in
+        let keeps = run_keeps_lengths (be32 bytes 0) (get_or bytes 4 0) (met h) in
+        let images = images_keep_lengths (be32 bytes 0) (get_or bytes 4 0) (met h) in
         record { host = rw keeps.0 few.host; image0 = rw images.0 few.image0; image1 = rw images.1 few.image1 }
 
 module _ (x : Heard) (at : ℕ) (l : SessionLent) where
@@ -85,9 +85,9 @@ module _ (x : Heard) (at : ℕ) (l : SessionLent) where
   over_length : (bytes buffer : List ℕ) → length buffer ≤ length (at_start bytes buffer)
   over_length bytes buffer = simp (length-append, length-drop) (omega arith)
 
-  room-again :
+  room_again :
       (s : State) → SessionRoom s l → Few x.held → at + most_field < 2 ^ 64 → SessionRoom (state_of x.held at) (went x at l).lent
-  room-again s room few early =
+  room_again s room few early =
       record {
         host = (few.host, omega (arith, room.host.1, over_length x.held.host l.host));
         image0 = (few.image0, omega (arith, room.image0.1, over_length x.held.drive0.image l.image0));
@@ -100,13 +100,13 @@ module _ (x : Heard) (at : ℕ) (l : SessionLent) where
 
 module _ (k : ℕ) (s : State) (l : SessionLent) (rest : List ℕ) where
   -- What a step says, and what goes on after it.
-  one-step :
+  one_step :
       (x : Spoken) → spoken (read_for rest) s l ≡ x →
       in_a_row (suc k) s l rest ≡
       take x.said.text x.lent.text ++
       onward (λ s'. in_a_row k s' x.lent (drop (length (read_for rest)) rest)) x.said.next
   unfolding in_a_row
-  one-step x is =
+  one_step x is =
       ap
       (λ (x : Spoken).
       take x.said.text x.lent.text ++
@@ -116,7 +116,7 @@ module _ (k : ℕ) (s : State) (l : SessionLent) (rest : List ℕ) where
   -- A last text is all that is printed.
   last_step : (text : List ℕ) → spoken (read_for rest) s l ≡ closed text l → in_a_row (suc k) s l rest ≡ text
   last_step text is =
-      one-step (closed text l) is ∙ append-nil (take (length text) (at_start text l.text)) ∙
+      one_step (closed text l) is ∙ append-nil (take (length text) (at_start text l.text)) ∙
       take-append_seam text (drop (length text) l.text)
 
 row :
@@ -139,10 +139,10 @@ row (suc k) s l (byte ∷ more) room early =
     let l' = (went x at l).lent in
     let on : in_a_row k s' l' (drop (length (read_for rest)) rest) ≡ played_within k x.held at left =
     rw (read_length rest f)
-    (row k s' l' left (room-again x at l s room few (omega (arith, f.whole)))
+    (row k s' l' left (room_again x at l s room few (omega (arith, f.whole)))
     (omega (arith, f.whole, length-drop (3 + long_of rest) rest))
     ∙ ap (λ h. played_within k h at left) (holds_what_was_heard x at l)) in
-    one-step k s l rest (went x at l)
+    one_step k s l rest (went x at l)
     (went_on (read_for rest) s l room (read_field rest f) ∙ rw (read_tag rest f, read_bytes rest f, read_long rest f))
     ∙ (λ i. take-append_seam x.text (drop (length x.text) l.text) i ++ on i)
     ∙ sym (if_pos (field? rest) f _ _))
@@ -155,13 +155,13 @@ row (suc k) s l (byte ∷ more) room early =
 -- and prints what the step says, prints what the session prints: of any input of fewer than 2^64 - 16,387 bytes, with buffers that
 -- have room for any field and for the lines of any run. It begins with nothing held, with tables of zeros, and makes at most one step more than the input
 -- has bytes.
-pub steps-in-a-row :
+pub steps_in_a_row :
     (input : List ℕ) (l : SessionLent) → length input + most_field < 2 ^ 64 →
     most_bytes ≤ length l.host → most_bytes ≤ length l.image0 → most_bytes ≤ length l.image1 → text_room ≤ length l.text →
     l.tracks0 ≡ no_tracks → l.tracks1 ≡ no_tracks →
     in_a_row (length input + 1) (state_of begin 0) l input ≡ session input
 unfolding session
-steps-in-a-row input l early host image0 image1 text none0 none1 =
+steps_in_a_row input l early host image0 image1 text none0 none1 =
     row (length input + 1) (state_of begin 0) l input
     (record {
       host = (omega arith, host);

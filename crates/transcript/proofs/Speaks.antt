@@ -13,10 +13,10 @@ use Rattle.transcript.specs.Steps.{SessionLent, SessionRoom, closed, held_in, le
 use Rattle.transcript.specs.Text.{refusal_line}
 
 -- Whether there is room does not go by the tables.
-pub room-with :
+pub room_with :
     {s : State} {host image0 image1 text tracks0 tracks1 other0 other1 : List ℕ} →
     SessionRoom s (lent_of host image0 image1 text tracks0 tracks1) → SessionRoom s (lent_of host image0 image1 text other0 other1)
-room-with r = record { host = r.host; image0 = r.image0; image1 = r.image1; text = r.text; at = r.at }
+room_with r = record { host = r.host; image0 = r.image0; image1 = r.image1; text = r.text; at = r.at }
 
 module _ (field : List ℕ) (s : State) (l : SessionLent) where
   pub no_room : (SessionRoom s l → ⊥) → spoken field s l ≡ spoken_of (said_of Next.NoRoom 0) l

@@ -44,11 +44,11 @@ unfolding written
 byte_put text at byte = record { stored = refl; after = refl }
 
 -- So two bytes are two.
-pub two-put :
+pub two_put :
     (text : List ℕ) (at byte byte' : ℕ) →
     Appended text at (byte ∷ byte' ∷ []) (set (set text at byte) (at + 1) byte') (at + 2)
 unfolding written
-two-put text at byte byte' = record { stored = rw add-one; after = refl }
+two_put text at byte byte' = record { stored = rw add-one; after = refl }
 
 -- No text changes its length.
 pub put_keeps_length : {text text' : List ℕ} {at next : ℕ} {xs : List ℕ} → Appended text at xs text' next → length text' ≡ length text
@@ -148,10 +148,10 @@ block_lines_short events (suc k) below =
       block_line_short events (suc k) below,
     )
 
-pub run-line-short :
+pub run_line_short :
     (answer blocks sectors : ℕ) → answer < 2 ^ 64 → blocks < 2 ^ 64 → sectors < 2 ^ 64 → length (run_line answer blocks sectors) ≤ 96
 unfolding letters letters_from
-run-line-short answer blocks sectors a b s =
+run_line_short answer blocks sectors a b s =
     simp length-append (omega (arith, decimal_short answer a, decimal_short blocks b, decimal_short sectors s))
 
 pub refusal_line_short : (at : ℕ) → at < 2 ^ 64 → length (refusal_line at) ≤ 96

@@ -1,6 +1,7 @@
 -- A session (01, The session program): a function from its input bytes to its output bytes.
 use Rattle.std.specs.Prelude.{ℕ, zero, suc, ◌+◌, ◌≤◌, List, [], ◌∷◌, ◌++◌, ◌≡◌, drop, get_or, length, replicate, take}
-use Rattle.std.proofs.Math.Logic.{ite, Dec·and}
+use Rattle.std.proofs.Math.Logic.{ite}
+use Rattle.std.proofs.Math.Logic.Dec.{and as dec_and}
 use Rattle.std.proofs.Math.Decide.{dec_le, map_dec, ℕ_discrete}
 use Rattle.wire.specs.Words.{be16, be32}
 use Rattle.unit.specs.declared.Controller.TheVariants.{First}
@@ -50,10 +51,10 @@ opening? rest =
     (λ d.
     record { there = d.0; least = d.1.0; most = d.1.1.0; long = d.1.1.1.0; five = d.1.1.1.1 })
     (λ f. (f.there, (f.least, (f.most, (f.long, f.five)))))
-    (Dec·and (dec_le 3 (length rest))
-    (Dec·and (dec_le 1 (tag_of rest))
-    (Dec·and (dec_le (tag_of rest) 4)
-    (Dec·and (dec_le (long_of rest) 16384) (implies? (ℕ_discrete (tag_of rest) 4) (ℕ_discrete (long_of rest) 5))))))
+    (dec_and (dec_le 3 (length rest))
+    (dec_and (dec_le 1 (tag_of rest))
+    (dec_and (dec_le (tag_of rest) 4)
+    (dec_and (dec_le (long_of rest) 16384) (implies? (ℕ_discrete (tag_of rest) 4) (ℕ_discrete (long_of rest) 5))))))
 
 -- A field: a good opening, and not "A cut field".
 pub record Field (rest : List ℕ) : Type 0 where
@@ -63,7 +64,7 @@ pub record Field (rest : List ℕ) : Type 0 where
 pub field? : (rest : List ℕ) → Dec (Field rest)
 field? rest =
     map_dec (λ d. record { good = d.0; whole = d.1 }) (λ f. (f.good, f.whole))
-    (Dec·and (opening? rest) (dec_le (3 + long_of rest) (length rest)))
+    (dec_and (opening? rest) (dec_le (3 + long_of rest) (length rest)))
 
 -- What a field says, and what is held after it.
 pub record Heard : Type 0 where

@@ -1,7 +1,8 @@
 -- What the library promises of one field, over lent buffers: `Session` field by field. The memory and the images stand at the start of
 -- the buffers lent for them, and a state says how much of each is theirs; the records are in two parts, one in the state and their tables lent.
 use Rattle.std.specs.Prelude.{ℕ, ◌+◌, ◌≤◌, ◌<◌, ◌^◌, List, [], ◌∷◌, ◌++◌, ◌≡◌, drop, length, take}
-use Rattle.std.proofs.Math.Logic.{ite, Dec·and}
+use Rattle.std.proofs.Math.Logic.{ite}
+use Rattle.std.proofs.Math.Logic.Dec.{and as dec_and}
 use Rattle.std.proofs.Math.Decide.{dec_le, dec_lt, map_dec}
 use Rattle.unit.specs.Standing.{by_value, table, unit_of}
 use Rattle.board.specs.declared.Units.{Units}
@@ -48,17 +49,17 @@ pub record SessionRoom (s : State) (l : SessionLent) : Type 0 where
   pub at : s.at + most_field < 2 ^ 64
 
 fits? : (used : ℕ) (buffer : List ℕ) → Dec (Fits used buffer)
-fits? used buffer = Dec·and (dec_le used most_bytes) (dec_le most_bytes (length buffer))
+fits? used buffer = dec_and (dec_le used most_bytes) (dec_le most_bytes (length buffer))
 
 pub room? : (s : State) (l : SessionLent) → Dec (SessionRoom s l)
 room? s l =
     map_dec
     (λ d. record { host = d.0; image0 = d.1.0; image1 = d.1.1.0; text = d.1.1.1.0; at = d.1.1.1.1 })
     (λ r. (r.host, (r.image0, (r.image1, (r.text, r.at)))))
-    (Dec·and (fits? s.host l.host)
-    (Dec·and (fits? s.image0 l.image0)
-    (Dec·and (fits? s.image1 l.image1)
-    (Dec·and (dec_le text_room (length l.text)) (dec_lt (s.at + most_field) (2 ^ 64))))))
+    (dec_and (fits? s.host l.host)
+    (dec_and (fits? s.image0 l.image0)
+    (dec_and (fits? s.image1 l.image1)
+    (dec_and (dec_le text_room (length l.text)) (dec_lt (s.at + most_field) (2 ^ 64))))))
 
 -- What a state and its buffers hold.
 abbrev pub held_in : State → SessionLent → Held

@@ -21,7 +21,7 @@ pub const MOST_BYTES: usize = 16384;
 pub const TEXT_ROOM: usize = 8192;
 
 // What is held between fields: the unit records, how much of each buffer is the memory's or the image's, and the place in the input.
-#[derive(Drop)]
+#[derive(Clone, Copy)]
 pub struct State {
     pub units: Units,
     pub host: usize,
@@ -31,7 +31,7 @@ pub struct State {
 }
 
 // What comes after a field: more of the session, its end, or nothing, since there was no room and nothing was done.
-#[derive(Drop)]
+#[derive(Clone, Copy)]
 pub enum Next {
     On(State),
     Over,
@@ -39,7 +39,7 @@ pub enum Next {
 }
 
 // What a field came to, with the length of the text that it said.
-#[derive(Drop)]
+#[derive(Clone, Copy)]
 pub struct Said {
     pub next: Next,
     pub text: usize,

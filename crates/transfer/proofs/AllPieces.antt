@@ -16,7 +16,7 @@ use Rattle.transfer.specs.Data.{move}
 use Rattle.transfer.specs.Runs.{Carried, CarryFits, InImage, On, PiecesFit, Spans, behind, disk_from, lent, piece_byte, span_bytes, span_stores, sum}
 use Rattle.transfer.specs.Stores.{Buffers, Store, after, up_to}
 use Rattle.transfer.proofs.Joined.{joined_at}
-use Rattle.transfer.proofs.Stores.{after-add, up_to_same}
+use Rattle.transfer.proofs.Stores.{after_add, up_to_same}
 
 module _ (u : UnitRecord) (s : Span) (to_host : Bool) (lengths addresses host₀ image₀ : List ℕ) where
   abbrev bytes : ℕ → ℕ
@@ -78,12 +78,12 @@ module _ (u : UnitRecord) (s : Span) (to_host : Bool) (lengths addresses host₀
           rw a_piece.1 (joined_at bytes (λ x. get_or addresses x 0) (length lengths) i j a_piece.0 (omega arith)) in
           ap (λ (x : ℕ). move to_host (disk_from u s.volume s.first (done + j)) x) (sym there)
 
-      pub piece-carried :
+      pub piece_carried :
           (host' image' : List ℕ) (c' : Cursor) → length host' ≡ length host → length image' ≡ length image →
           Carried u s to_host (behind u c) (get_or addresses i 0) n (lent host image) (lent host' image') c' →
           Before (i + 1) (done + n) host' image' c'
       unfolding sum
-      piece-carried host' image' c' lh li carried =
+      piece_carried host' image' c' lh li carried =
           record {
             most = omega (arith, a_piece);
             bytes_so_far = rw add-one (omega (arith, a_piece, n-is));
@@ -94,5 +94,5 @@ module _ (u : UnitRecord) (s : Span) (to_host : Bool) (lengths addresses host₀
                 (rw now.on.here at carried.moved)
                 ∙ ap (λ (ss : List Store). after ss (lent host image)) (up_to_same n _ _ same)
                 ∙ ap (λ (m : Buffers). after (up_to n (λ j. stores (done + j))) m) now.moved
-                ∙ sym (after-add done n stores (lent host₀ image₀));
+                ∙ sym (after_add done n stores (lent host₀ image₀));
           }

@@ -16,7 +16,7 @@ use Rattle.transfer.specs.declared.carry.Cursor.{Cursor}
 use Rattle.transfer.specs.Data.{move}
 use Rattle.transfer.specs.Runs.{Carried, InImage, On, Ready, advanced, behind, disk_from, stretch}
 use Rattle.transfer.specs.Stores.{Buffers, Store, after, up_to}
-use Rattle.transfer.proofs.Stores.{after-add, copied_run, run-is-copy, up_to_same}
+use Rattle.transfer.proofs.Stores.{after_add, copied_run, run_is_copy, up_to_same}
 
 module _ (u : UnitRecord) (s : Span) where
   -- A cursor stands where it stands.
@@ -52,9 +52,9 @@ module _ (u : UnitRecord) (s : Span) where
       }
 
   -- A run of the span lies in the image.
-  pub run-held :
+  pub run_held :
       (long k n : ℕ) (c : Cursor) → InImage u s long → Ready u s k c → n ≤ c.left → 0 < n → c.at + n ≤ long
-  run-held long k n c held ready most some =
+  run_held long k n c held ready most some =
       let on = ready.on in
       let last : behind u c + (n - 1) < s.count * B (geometry u) =
       omega (arith, on.stands.whole, mul-le-mul_right (B (geometry u)) on.most) in
@@ -66,11 +66,11 @@ module _ (u : UnitRecord) (s : Span) where
     unfolding after up_to
     carry_none c on = record { on = rw add-zero on; moved = refl }
 
-    pub carry-more :
+    pub carry_more :
         (done n : ℕ) (m' : Buffers) (c r : Cursor) → Carried u s to_host k at done m m' c → Ready u s (k + done) r →
         n ≤ r.left → r.at + n ≤ length m'.image → at + done + n ≤ length m'.host →
         Carried u s to_host k at (done + n) m (copied_run to_host m' r.at (at + done) n) (advanced r n)
-    carry-more done n m' c r so_far ready most image host =
+    carry_more done n m' c r so_far ready most image host =
         let disk : ℕ → ℕ = disk_from u s.volume s.first in
         let same : (i : ℕ) → i < n → move to_host (r.at + i) (at + done + i) ≡ move to_host (disk (k + (done + i))) (at + (done + i)) =
         λ i h.
@@ -81,8 +81,8 @@ module _ (u : UnitRecord) (s : Span) where
         record {
           on = rw (← add_assoc k done n) (cursor_on_lem (k + done) n r ready.on most);
           moved =
-              sym (run-is-copy n to_host m' r.at (at + done) image host)
+              sym (run_is_copy n to_host m' r.at (at + done) image host)
               ∙ ap (λ (x : Buffers). after (up_to n (λ i. move to_host (r.at + i) (at + done + i))) x) so_far.moved
               ∙ ap (λ (ss : List Store). after ss (after (stretch to_host disk k at done) m)) (up_to_same n _ _ (λ i h. same i h))
-              ∙ sym (after-add done n (λ i. move to_host (disk (k + i)) (at + i)) m);
+              ∙ sym (after_add done n (λ i. move to_host (disk (k + i)) (at + i)) m);
         }

@@ -17,10 +17,10 @@ use Rattle.transfer.specs.Runs.{Ready, RunAt, behind, place_from}
 use Rattle.transfer.proofs.Tracks.{run_places}
 
 -- n sectors from the j-th on stand in a row from place p on: byte i from there is byte i from the first byte of p.
-pub row-of-bytes :
+pub row_of_bytes :
     (g : Geometry) (place : ℕ → ℕ) (j p n : ℕ) → 0 < B g → ((k : ℕ) → k < n → place (j + k) ≡ p + k) →
     (i : ℕ) → i < n * B g → disk_byte g place (j * B g + i) ≡ first_byte g p + i
-row-of-bytes g place j p n some row i less =
+row_of_bytes g place j p n some row i less =
     let sector : (j * B g + i) / B g ≡ j + i / B g =
     ap (λ (x : ℕ). x / B g) (add_comm (j * B g) i) ∙ add-mul-div_right i j some ∙ add_comm (i / B g) j in
     let byte : (j * B g + i) % B g ≡ i % B g =
@@ -52,7 +52,7 @@ module _
                     whole = omega (arith, split);
                     run = λ i h.
                         rw here
-                        (row-of-bytes (geometry u) (place_from u s.volume s.first) next r.place r.sectors some
+                        (row_of_bytes (geometry u) (place_from u s.volume s.first) next r.place r.sectors some
                         (λ k k<. rw (place_from, ← add_assoc s.first next k) (run_places u s.volume (s.first + next) most r inside at k k<))
                         i h);
                   };

@@ -12,19 +12,19 @@ use Rattle.geometry.specs.declared.Geometry.{Geometry}
 use Rattle.geometry.specs.declared.VolumeNumber.{VolumeNumber}
 use Rattle.geometry.specs.Drive.{B, S, drive_sectors, need, volume_sectors}
 use Rattle.geometry.specs.Sectors.{first_byte}
-use Rattle.geometry.proofs.Laws.{bytes_differ, sector-in-image}
+use Rattle.geometry.proofs.Laws.{bytes_differ, sector_in_image}
 use Rattle.unit.specs.declared.Spot.{Spot}
 use Rattle.unit.specs.Standing.{UnitRecord, geometry}
 use Rattle.transfer.specs.Data.{Transfer, data_on, disk_byte, formatting, move, moving, progress_on}
 use Rattle.transfer.specs.Runs.{whole, place_from}
 use Rattle.transfer.specs.Progress.{Progress, stops_at}
 use Rattle.transfer.specs.Stores.{Buffers, ByteAt, Store, after, copy_of, event_byte, byte_in, host_byte, image_byte, up_to, with}
-use Rattle.transfer.proofs.Marks.{moving-on-drive}
+use Rattle.transfer.proofs.Marks.{moving_on_drive}
 use Rattle.transfer.proofs.Progress.{progress_most}
-use Rattle.transfer.proofs.Stays.{events_stay, host_stays, image_stays, lengths-stay, stored-of-upTo, unstored_stays}
+use Rattle.transfer.proofs.Stays.{events_stay, host_stays, image_stays, lengths_stay, stored_of_up_to, unstored_stays}
 use Rattle.transfer.proofs.Stops.{whole_unheeding}
-use Rattle.transfer.proofs.Stores.{after-add, after_more}
-use Rattle.transfer.proofs.Wholes.{bytes-held, some_bytes}
+use Rattle.transfer.proofs.Stores.{after_add, after_more}
+use Rattle.transfer.proofs.Wholes.{bytes_held, some_bytes}
 use Rattle.transfer.specs.Targets.{Stored}
 
 -- ---- copies in a row
@@ -37,9 +37,9 @@ InBuffer m (event_byte x) = x < length m.events
 
 -- It has it after any stores, and a store to it leaves there what was stored.
 in_buffer_stays : (ss : List Store) (m : Buffers) (c : ByteAt) → InBuffer m c → InBuffer (after ss m) c
-in_buffer_stays ss m (host_byte x) h = omega (arith, lengths-stay ss m)
-in_buffer_stays ss m (image_byte x) h = omega (arith, lengths-stay ss m)
-in_buffer_stays ss m (event_byte x) h = omega (arith, lengths-stay ss m)
+in_buffer_stays ss m (host_byte x) h = omega (arith, lengths_stay ss m)
+in_buffer_stays ss m (image_byte x) h = omega (arith, lengths_stay ss m)
+in_buffer_stays ss m (event_byte x) h = omega (arith, lengths_stay ss m)
 
 target_holds : (m : Buffers) (c : ByteAt) (n : ℕ) → InBuffer m c → byte_in (with m c n) c ≡ n
 target_holds m (host_byte x) n h = get_or-set_same m.host x n 0 h
@@ -54,20 +54,20 @@ module _ (m : Buffers) (n : ℕ) (from to : ℕ → ByteAt) (apart : (i k : ℕ)
   -- After the first i of them, a cell that is the target of none is as it was.
   others_stay : (i : ℕ) (c : ByteAt) → ((k : ℕ) → k < i → to k ≡ c → ⊥) → byte_in (after (up_to i copy) m) c ≡ byte_in m c
   others_stay i c none =
-      unstored_stays (up_to i copy) m c (λ there. let k = stored-of-upTo i copy c there in none k.0 k.1.0 k.1.1)
+      unstored_stays (up_to i copy) m c (λ there. let k = stored_of_up_to i copy c there in none k.0 k.1.0 k.1.1)
 
   -- After all n, the target of a copy holds what its source held before, where no later copy has the same target.
-  last-holds :
+  last_holds :
       (k : ℕ) → k < n → ((i : ℕ) → k < i → i < n → to i ≡ to k → ⊥) → InBuffer m (to k) →
       byte_in (after (up_to n copy) m) (to k) ≡ byte_in m (from k)
-  last-holds k less last inside =
+  last_holds k less last inside =
       let rest : n ≡ suc k + (n - suc k) = omega arith in
       let later : ℕ → Store = λ i. copy (suc k + i) in
       ap (λ (j : ℕ). byte_in (after (up_to j copy) m) (to k)) rest
-      ∙ ap (λ (b : Buffers). byte_in b (to k)) (after-add (suc k) (n - suc k) copy m)
+      ∙ ap (λ (b : Buffers). byte_in b (to k)) (after_add (suc k) (n - suc k) copy m)
       ∙ unstored_stays (up_to (n - suc k) later) (after (up_to (suc k) copy) m) (to k)
       (λ there.
-      let i = stored-of-upTo (n - suc k) later (to k) there in
+      let i = stored_of_up_to (n - suc k) later (to k) there in
       last (suc k + i.0) (omega arith) (omega (arith, i.1.0)) i.1.1)
       ∙ ap (λ (b : Buffers). byte_in b (to k)) (after_more k copy m)
       ∙ target_holds (after (up_to k copy) m) (to k) (byte_in (after (up_to k copy) m) (from k)) (in_buffer_stays (up_to k copy) m (to k) inside)
@@ -104,10 +104,10 @@ abbrev pub on_disk : Transfer → ℕ → ℕ
 on_disk t k = disk_byte t.geometry t.place k
 
 -- Sectors at different places have different bytes on the disk.
-disk-bytes-differ :
+disk_bytes_differ :
     (g : Geometry) (place : ℕ → ℕ) (n : ℕ) → ((i j : ℕ) → i < n → j < n → place i ≡ place j → i ≡ j) →
     (i k : ℕ) → i < n * B g → k < n * B g → disk_byte g place i ≡ disk_byte g place k → i ≡ k
-disk-bytes-differ g place n differ i k i< k< same =
+disk_bytes_differ g place n differ i k i< k< same =
     let some = some_bytes n (B g) i i< in
     let there : place (i / B g) ≡ place (k / B g) =
     bytes_differ g (place (i / B g)) (place (k / B g)) (i % B g) (k % B g) (mod-lt i some) (mod-lt k some) same in
@@ -125,12 +125,12 @@ module _ (m : Buffers) (t : Transfer) where
   -- Which way a transfer goes says what its stores are.
   one_way :
       (to_host : Bool) → t.to_host ≡ to_host →
-      data_on m.image t ≡ up_to (carried m t) (λ k. move to_host (on_disk t k) (t.host_byte k))
+      data_on m.image t ≡ up_to (carried m t) (λ k. move to_host (on_disk t k) (t.host_at k))
   unfolding data_on
-  one_way to_host is = ap (λ (b : Bool). up_to (carried m t) (λ k. move b (on_disk t k) (t.host_byte k))) is
+  one_way to_host is = ap (λ (b : Bool). up_to (carried m t) (λ k. move b (on_disk t k) (t.host_at k))) is
 
   abbrev host : ℕ → ByteAt
-  host k = host_byte (t.host_byte k)
+  host k = host_byte (t.host_at k)
 
   abbrev disk : ℕ → ByteAt
   disk k = image_byte (on_disk t k)
@@ -138,34 +138,34 @@ module _ (m : Buffers) (t : Transfer) where
   -- A transfer to the host.
   module _ (reads : t.to_host ≡ true) where
     apart : (i k : ℕ) → host i ≡ disk k → ⊥
-    apart i k = host_no_image (t.host_byte i) (on_disk t k)
+    apart i k = host_no_image (t.host_at i) (on_disk t k)
 
     target : (c : ByteAt) → Stored (data_on m.image t) c → (k : ℕ) × ((k < carried m t) × (host k ≡ c))
-    target c there = stored-of-upTo (carried m t) (copy m (carried m t) disk host apart) c (rw (one_way true reads) at there)
+    target c there = stored_of_up_to (carried m t) (copy m (carried m t) disk host apart) c (rw (one_way true reads) at there)
 
     -- Every host byte that is not one of those that come is as it was: nothing of the rest is there.
-    pub host-rest-stays :
-        (x : ℕ) → ((k : ℕ) → k < carried m t → t.host_byte k ≡ x → ⊥) → get_or (afterwards m t).host x 0 ≡ get_or m.host x 0
-    host-rest-stays x none =
+    pub host_rest_stays :
+        (x : ℕ) → ((k : ℕ) → k < carried m t → t.host_at k ≡ x → ⊥) → get_or (afterwards m t).host x 0 ≡ get_or m.host x 0
+    host_rest_stays x none =
         unstored_stays (data_on m.image t) m (host_byte x)
         (λ there. let k = target (host_byte x) there in none k.0 k.1.0 (same_host _ _ k.1.1))
 
     -- Of the bytes that come, each is in the host, at its place in memory, where no later one takes that place.
-    pub host-has-byte :
-        (k : ℕ) → k < carried m t → t.host_byte k < length m.host →
-        ((i : ℕ) → k < i → i < carried m t → t.host_byte i ≡ t.host_byte k → ⊥) →
-        get_or (afterwards m t).host (t.host_byte k) 0 ≡ get_or m.image (on_disk t k) 0
-    host-has-byte k less inside last =
+    pub host_has_byte :
+        (k : ℕ) → k < carried m t → t.host_at k < length m.host →
+        ((i : ℕ) → k < i → i < carried m t → t.host_at i ≡ t.host_at k → ⊥) →
+        get_or (afterwards m t).host (t.host_at k) 0 ≡ get_or m.image (on_disk t k) 0
+    host_has_byte k less inside last =
         rw (one_way true reads)
-        (last-holds m (carried m t) disk host apart k less (λ i later i< same. last i later i< (same_host _ _ same)) inside)
+        (last_holds m (carried m t) disk host apart k less (λ i later i< same. last i later i< (same_host _ _ same)) inside)
 
     -- So all of them are, where their places in memory are all different: the host has the disk's bytes for the sectors moved.
-    pub host-has-bytes :
-        ((i k : ℕ) → i < carried m t → k < carried m t → t.host_byte i ≡ t.host_byte k → i ≡ k) →
-        (k : ℕ) → k < carried m t → t.host_byte k < length m.host →
-        get_or (afterwards m t).host (t.host_byte k) 0 ≡ get_or m.image (on_disk t k) 0
-    host-has-bytes differ k less inside =
-        host-has-byte k less inside (λ i later i< same. omega (arith, differ i k i< less same))
+    pub host_has_bytes :
+        ((i k : ℕ) → i < carried m t → k < carried m t → t.host_at i ≡ t.host_at k → i ≡ k) →
+        (k : ℕ) → k < carried m t → t.host_at k < length m.host →
+        get_or (afterwards m t).host (t.host_at k) 0 ≡ get_or m.image (on_disk t k) 0
+    host_has_bytes differ k less inside =
+        host_has_byte k less inside (λ i later i< same. omega (arith, differ i k i< less same))
 
     -- The image is as it was, and so is the event buffer.
     pub reads_keep_image : (afterwards m t).image ≡ m.image
@@ -179,48 +179,48 @@ module _ (m : Buffers) (t : Transfer) where
         (λ x there. let k = target (event_byte x) there in host_no_event _ _ k.1.1)
 
   -- Every byte that comes lies in the image, where every sector does.
-  pub carried-in-image :
+  pub carried_in_image :
       ((j : ℕ) → j < t.count → first_byte t.geometry (t.place j) + B t.geometry ≤ length m.image) →
       (k : ℕ) → k < carried m t → on_disk t k < length m.image
-  carried-in-image there =
+  carried_in_image there =
       let most = rw zero-add at (progress_most (λ i. stops_at m.image t.geometry t.heeds (t.place i)) 0 t.count) in
-      bytes-held t.geometry t.place (progress_on m.image t).sectors (length m.image) (λ j j<. there j (omega arith))
+      bytes_held t.geometry t.place (progress_on m.image t).sectors (length m.image) (λ j j<. there j (omega arith))
 
   -- A transfer from the host.
   module _ (writes : t.to_host ≡ false) where
     apart_again : (i k : ℕ) → disk i ≡ host k → ⊥
-    apart_again i k same = host_no_image (t.host_byte k) (on_disk t i) (sym same)
+    apart_again i k same = host_no_image (t.host_at k) (on_disk t i) (sym same)
 
     disk_target : (c : ByteAt) → Stored (data_on m.image t) c → (k : ℕ) × ((k < carried m t) × (disk k ≡ c))
     disk_target c there =
-        stored-of-upTo (carried m t) (copy m (carried m t) host disk apart_again) c (rw (one_way false writes) at there)
+        stored_of_up_to (carried m t) (copy m (carried m t) host disk apart_again) c (rw (one_way false writes) at there)
 
     -- Every image byte that is not one of those that come is as it was.
-    pub image-rest-stays :
+    pub image_rest_stays :
         (x : ℕ) → ((k : ℕ) → k < carried m t → on_disk t k ≡ x → ⊥) → get_or (afterwards m t).image x 0 ≡ get_or m.image x 0
-    image-rest-stays x none =
+    image_rest_stays x none =
         unstored_stays (data_on m.image t) m (image_byte x)
         (λ there. let k = disk_target (image_byte x) there in none k.0 k.1.0 (same_image _ _ k.1.1))
 
     -- Of the bytes that come, each is in the image, at its place there, where no later one takes that place.
-    pub image-has-byte :
+    pub image_has_byte :
         ((j : ℕ) → j < t.count → first_byte t.geometry (t.place j) + B t.geometry ≤ length m.image) →
         (k : ℕ) → k < carried m t → ((i : ℕ) → k < i → i < carried m t → on_disk t i ≡ on_disk t k → ⊥) →
-        get_or (afterwards m t).image (on_disk t k) 0 ≡ get_or m.host (t.host_byte k) 0
-    image-has-byte there k less last =
+        get_or (afterwards m t).image (on_disk t k) 0 ≡ get_or m.host (t.host_at k) 0
+    image_has_byte there k less last =
         rw (one_way false writes)
-        (last-holds m (carried m t) host disk apart_again k less (λ i later i< same. last i later i< (same_image _ _ same))
-        (carried-in-image there k less))
+        (last_holds m (carried m t) host disk apart_again k less (λ i later i< same. last i later i< (same_image _ _ same))
+        (carried_in_image there k less))
 
     -- So all of them are, where the sectors moved stand at different places: the image has the host's bytes for them.
-    pub image-has-bytes :
+    pub image_has_bytes :
         ((j : ℕ) → j < t.count → first_byte t.geometry (t.place j) + B t.geometry ≤ length m.image) →
         ((i j : ℕ) → i < (progress_on m.image t).sectors → j < (progress_on m.image t).sectors → t.place i ≡ t.place j → i ≡ j) →
-        (k : ℕ) → k < carried m t → get_or (afterwards m t).image (on_disk t k) 0 ≡ get_or m.host (t.host_byte k) 0
-    image-has-bytes there differ k less =
-        image-has-byte there k less
+        (k : ℕ) → k < carried m t → get_or (afterwards m t).image (on_disk t k) 0 ≡ get_or m.host (t.host_at k) 0
+    image_has_bytes there differ k less =
+        image_has_byte there k less
         (λ i later i< same.
-        omega (arith, disk-bytes-differ t.geometry t.place (progress_on m.image t).sectors differ i k i< less same))
+        omega (arith, disk_bytes_differ t.geometry t.place (progress_on m.image t).sectors differ i k i< less same))
 
     -- Host memory is as it was, and so is the event buffer.
     pub writes_keep_host : (afterwards m t).host ≡ m.host
@@ -234,50 +234,50 @@ module _ (m : Buffers) (t : Transfer) where
         (λ x there. let k = disk_target (event_byte x) there in image_no_event _ _ k.1.1)
 
     -- A write that does not heed the marks comes whole, so that the image has the host's bytes in each of its sectors.
-    pub image-has-all :
+    pub image_has_all :
         t.heeds ≡ false →
         ((j : ℕ) → j < t.count → first_byte t.geometry (t.place j) + B t.geometry ≤ length m.image) →
         ((i j : ℕ) → i < t.count → j < t.count → t.place i ≡ t.place j → i ≡ j) →
-        (k : ℕ) → k < t.count * B t.geometry → get_or (afterwards m t).image (on_disk t k) 0 ≡ get_or m.host (t.host_byte k) 0
-    image-has-all ignores there differ k less =
+        (k : ℕ) → k < t.count * B t.geometry → get_or (afterwards m t).image (on_disk t k) 0 ≡ get_or m.host (t.host_at k) 0
+    image_has_all ignores there differ k less =
         let all : (progress_on m.image t).sectors ≡ t.count = ap (λ (p : Progress). p.sectors) (whole_unheeding m.image t ignores) in
-        image-has-bytes there (λ i j i< j< same. differ i j (rw all at i<) (rw all at j<) same) k (rw all less)
+        image_has_bytes there (λ i j i< j< same. differ i j (rw all at i<) (rw all at j<) same) k (rw all less)
 
 -- ---- the two ways to write
 
 -- "82 and A2 ignore marks" (01, One run)
-pub writes-ignore-marks :
-    (u : UnitRecord) (past-marks : Bool) (v : VolumeNumber) (first count : ℕ) (host_byte : ℕ → ℕ) →
-    (moving u false past-marks v first count host_byte).heeds ≡ false
-writes-ignore-marks u past-marks v first count host_byte = refl
+pub writes_ignore_marks :
+    (u : UnitRecord) (past-marks : Bool) (v : VolumeNumber) (first count : ℕ) (host_at : ℕ → ℕ) →
+    (moving u false past-marks v first count host_at).heeds ≡ false
+writes_ignore_marks u past-marks v first count host_at = refl
 
 -- Sectors of a volume, written, come whole; where no two of them stand in one place the image has the host's bytes in each.
-pub moving-writes-all :
-    (m : Buffers) (u : UnitRecord) (past-marks : Bool) (v : VolumeNumber) (first count : ℕ) (host_byte : ℕ → ℕ) →
+pub moving_writes_all :
+    (m : Buffers) (u : UnitRecord) (past-marks : Bool) (v : VolumeNumber) (first count : ℕ) (host_at : ℕ → ℕ) →
     first + count ≤ volume_sectors (geometry u) v → need (geometry u) ≤ length m.image →
     ((i j : ℕ) → i < count → j < count → place_from u v first i ≡ place_from u v first j → i ≡ j) →
-    let t = moving u false past-marks v first count host_byte in
+    let t = moving u false past-marks v first count host_at in
     (progress_on m.image t ≡ whole count) ×
-    ((k : ℕ) → k < count * B (geometry u) → get_or (afterwards m t).image (on_disk t k) 0 ≡ get_or m.host (host_byte k) 0)
-moving-writes-all m u past-marks v first count host_byte inside long differ =
-    let t = moving u false past-marks v first count host_byte in
-    let ignores = writes-ignore-marks u past-marks v first count host_byte in (
+    ((k : ℕ) → k < count * B (geometry u) → get_or (afterwards m t).image (on_disk t k) 0 ≡ get_or m.host (host_at k) 0)
+moving_writes_all m u past-marks v first count host_at inside long differ =
+    let t = moving u false past-marks v first count host_at in
+    let ignores = writes_ignore_marks u past-marks v first count host_at in (
       whole_unheeding m.image t ignores,
-      image-has-all m t refl ignores
-          (λ j j<. (sector-in-image (geometry u) (length m.image) (t.place j) long (moving-on-drive u false past-marks v first count host_byte inside j j<)).0)
+      image_has_all m t refl ignores
+          (λ j j<. (sector_in_image (geometry u) (length m.image) (t.place j) long (moving_on_drive u false past-marks v first count host_at inside j j<)).0)
           differ,
     )
 
 -- A track, formatted, counts its S sectors, and each of them has the bytes from that address of host memory on.
-pub formatting-writes-all :
+pub formatting_writes_all :
     (m : Buffers) (u : UnitRecord) (spot : Spot) (at : ℕ) →
     spot.place + S (geometry u) ≤ drive_sectors (geometry u) → need (geometry u) ≤ length m.image →
     let t = formatting u spot at in
     (progress_on m.image t ≡ whole (S (geometry u))) ×
     ((k : ℕ) → k < S (geometry u) * B (geometry u) → get_or (afterwards m t).image (on_disk t k) 0 ≡ get_or m.host (at + k % B (geometry u)) 0)
-formatting-writes-all m u spot at inside long =
+formatting_writes_all m u spot at inside long =
     let t = formatting u spot at in (
       whole_unheeding m.image t refl,
-      image-has-all m t refl refl
-          (λ j j<. (sector-in-image (geometry u) (length m.image) (spot.place + j) long (omega arith)).0) (λ i j i< j< same. omega arith),
+      image_has_all m t refl refl
+          (λ j j<. (sector_in_image (geometry u) (length m.image) (spot.place + j) long (omega arith)).0) (λ i j i< j< same. omega arith),
     )

@@ -12,7 +12,7 @@ use lib.ListN.{length}
 use Rattle.wire.specs.Copy.{copied}
 use Rattle.geometry.specs.Drive.{B, S, drive_sectors, need}
 use Rattle.geometry.specs.Sectors.{first_byte}
-use Rattle.geometry.proofs.Laws.{bytes_consecutive, sector-in-image}
+use Rattle.geometry.proofs.Laws.{bytes_consecutive, sector_in_image}
 use Rattle.unit.specs.declared.Spot.{Spot}
 use Rattle.unit.specs.Standing.{UnitRecord, geometry}
 use Rattle.transfer.specs.Data.{data_on, formatting, move, progress_on}
@@ -20,10 +20,10 @@ use Rattle.transfer.specs.Progress.{Progress, stops_at}
 use Rattle.transfer.specs.Runs.{fill_store, lent}
 use Rattle.transfer.specs.Stores.{Buffers, Store, after, up_to}
 use Rattle.transfer.specs.Whole.{TrackFits, made, misfit, track_fits?, track_result}
-use Rattle.transfer.proofs.Cursors.{row-of-bytes}
+use Rattle.transfer.proofs.Cursors.{row_of_bytes}
 use Rattle.transfer.proofs.Progress.{progress_most}
 use Rattle.transfer.proofs.Wholes.{some_bytes}
-use Rattle.transfer.proofs.Stores.{after-add, run-is-copy, up_to_same}
+use Rattle.transfer.proofs.Stores.{after_add, run_is_copy, up_to_same}
 
 module _ (host image₀ : List ℕ) (first at bytes : ℕ) (memory : at + bytes ≤ length host) where
   abbrev store : ℕ → Store
@@ -40,10 +40,10 @@ module _ (host image₀ : List ℕ) (first at bytes : ℕ) (memory : at + bytes 
       lent host image ≡ after (up_to (i * bytes) store) (lent host image₀) →
       lent host (copied host at image (first + i * bytes) bytes) ≡ after (up_to ((i + 1) * bytes) store) (lent host image₀)
   fill_more i image fits so_far =
-      sym (run-is-copy bytes false (lent host image) (first + i * bytes) at fits memory)
+      sym (run_is_copy bytes false (lent host image) (first + i * bytes) at fits memory)
       ∙ ap (λ (ss : List Store). after ss (lent host image)) (up_to_same bytes _ _ (λ j h. same i j h))
       ∙ ap (λ (m : Buffers). after (up_to bytes (λ j. store (i * bytes + j))) m) so_far
-      ∙ sym (after-add (i * bytes) bytes store (lent host image₀))
+      ∙ sym (after_add (i * bytes) bytes store (lent host image₀))
       ∙ ap (λ (n : ℕ). after (up_to n store) (lent host image₀)) (sym (next_sector i))
 
 -- ---- the whole track
@@ -53,13 +53,13 @@ module _ (image : List ℕ) (u : UnitRecord) (spot : Spot) (at : ℕ) where
   come = progress_on image (formatting u spot at)
 
   -- The sectors that come have their bytes in the image, since it is long enough for the drive, which has the track.
-  pub track-room :
+  pub track_room :
       spot.place + S (geometry u) ≤ drive_sectors (geometry u) → need (geometry u) ≤ length image →
       0 < come.sectors → first_byte (geometry u) spot.place + come.sectors * B (geometry u) ≤ length image
-  track-room inside long some =
+  track_room inside long some =
       let last : ℕ = come.sectors - 1 in
       let most = rw zero-add at (progress_most (λ j. stops_at image (geometry u) false (spot.place + j)) 0 (S (geometry u))) in
-      let there = sector-in-image (geometry u) (length image) (spot.place + last) long (omega arith) in
+      let there = sector_in_image (geometry u) (length image) (spot.place + last) long (omega arith) in
       let all : come.sectors ≡ last + 1 = omega arith in
       omega (
         arith,
@@ -71,24 +71,24 @@ module _ (image : List ℕ) (u : UnitRecord) (spot : Spot) (at : ℕ) where
       )
 
   -- Their stores are those of sectors in a row.
-  pub track-stores :
+  pub track_stores :
       data_on image (formatting u spot at) ≡
       up_to (come.sectors * B (geometry u)) (fill_store (first_byte (geometry u) spot.place) at (B (geometry u)))
   unfolding data_on
-  track-stores =
+  track_stores =
       up_to_same (come.sectors * B (geometry u)) _ _
       (λ k k<.
       ap (λ (d : ℕ). move false d (at + k % B (geometry u)))
       (rw (zero-mul, zero-add) at
-      (row-of-bytes (geometry u) (λ j. spot.place + j) 0 spot.place come.sectors (some_bytes come.sectors (B (geometry u)) k k<)
+      (row_of_bytes (geometry u) (λ j. spot.place + j) 0 spot.place come.sectors (some_bytes come.sectors (B (geometry u)) k k<)
       (λ j j<. rw zero-add refl) k k<)))
 
   module _ (long : ℕ) where
-    pub track-fit :
+    pub track_fit :
         TrackFits (geometry u) spot at long (length image) →
         track_result long image u spot at ≡ made image (formatting u spot at)
     unfolding track_result
-    track-fit fit = if_pos (track_fits? (geometry u) spot at long (length image)) fit _ _
+    track_fit fit = if_pos (track_fits? (geometry u) spot at long (length image)) fit _ _
 
     pub track_unfit : (TrackFits (geometry u) spot at long (length image) → ⊥) → track_result long image u spot at ≡ misfit
     unfolding track_result

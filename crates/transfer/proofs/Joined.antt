@@ -26,17 +26,17 @@ module _ (bytes : ℕ → ℕ) where
   sum_is_from (suc n) = rw (sum_is_from n) (sym (rw zero-add at (from_more 0 n)))
 
   module _ (address : ℕ → ℕ) where
-    joined-from :
+    joined_from :
         (t n i k : ℕ) → t < n → from i t ≤ k → k < from i t + bytes (i + t) →
         joined bytes address n i k ≡ address (i + t) + (k - from i t)
     unfolding joined from
-    joined-from t zero i k t<n low high = absurd (omega arith)
-    joined-from zero (suc n) i k t<n low high =
+    joined_from t zero i k t<n low high = absurd (omega arith)
+    joined_from zero (suc n) i k t<n low high =
         if_pos (dec_lt k (bytes i)) (rw (← add-zero i) (omega arith)) _ _ ∙ rw (add-zero i, sub-zero)
-    joined-from (suc t) (suc n) i k t<n low high =
+    joined_from (suc t) (suc n) i k t<n low high =
         if_neg (dec_lt k (bytes i)) (λ h. omega arith) _ _
         ∙ rw (add-suc, ← suc-add i t, sub-add-eq)
-        (joined-from t n (suc i) (k - bytes i) (omega arith) (omega arith) (rw (suc-add i t, ← add-suc i t) (omega arith)))
+        (joined_from t n (suc i) (k - bytes i) (omega arith) (omega arith) (rw (suc-add i t, ← add-suc i t) (omega arith)))
 
     -- Byte j of piece i, of n.
     pub joined_at :
@@ -45,7 +45,7 @@ module _ (bytes : ℕ → ℕ) where
         let is = sum_is_from i in
         let there : sum bytes i + j - from 0 i ≡ j = omega arith in
         rw (zero-add, there) at
-        (joined-from i n 0 (sum bytes i + j) i<n (omega arith) (rw zero-add (omega arith)))
+        (joined_from i n 0 (sum bytes i + j) i<n (omega arith) (rw zero-add (omega arith)))
 
 -- Pieces that agree in bytes and addresses.
 pub joined_same :

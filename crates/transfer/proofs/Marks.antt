@@ -17,8 +17,8 @@ use Rattle.unit.specs.Standing.{UnitRecord, geometry}
 use Rattle.transfer.specs.Data.{Transfer, data_on, disk_byte, formatting, move, move_at, moving, progress_on}
 use Rattle.transfer.specs.Progress.{stops_at}
 use Rattle.transfer.specs.Stores.{Buffers, after, byte_in, image_byte}
-use Rattle.transfer.proofs.Progress.{Counts, progress-counts, progress_most}
-use Rattle.transfer.proofs.Stays.{stored-of-upTo, unstored_stays}
+use Rattle.transfer.proofs.Progress.{Counts, progress_counts, progress_most}
+use Rattle.transfer.proofs.Stays.{stored_of_up_to, unstored_stays}
 use Rattle.transfer.proofs.Wholes.{some_bytes}
 use Rattle.transfer.specs.Targets.{Stored}
 
@@ -27,16 +27,16 @@ abbrev pub StandsOnDrive : Transfer → Type 0
 StandsOnDrive t = (j : ℕ) → j < t.count → t.place j < drive_sectors t.geometry
 
 -- Sectors of a volume do, and so do those of a track that the drive has.
-pub moving-on-drive :
-    (u : UnitRecord) (to_host past-marks : Bool) (v : VolumeNumber) (first count : ℕ) (host_byte : ℕ → ℕ) →
-    first + count ≤ volume_sectors (geometry u) v → StandsOnDrive (moving u to_host past-marks v first count host_byte)
-moving-on-drive u to_host past-marks v first count host_byte inside j j< =
+pub moving_on_drive :
+    (u : UnitRecord) (to_host past-marks : Bool) (v : VolumeNumber) (first count : ℕ) (host_at : ℕ → ℕ) →
+    first + count ≤ volume_sectors (geometry u) v → StandsOnDrive (moving u to_host past-marks v first count host_at)
+moving_on_drive u to_host past-marks v first count host_at inside j j< =
     omega (arith, spot_inside u v (first + j) (omega arith))
 
-pub formatting-on-drive :
+pub formatting_on_drive :
     (u : UnitRecord) (spot : Spot) (at : ℕ) →
     spot.place + S (geometry u) ≤ drive_sectors (geometry u) → StandsOnDrive (formatting u spot at)
-formatting-on-drive u spot at inside j j< = omega arith
+formatting_on_drive u spot at inside j j< = omega arith
 
 -- ---- no mark
 
@@ -52,9 +52,9 @@ module _ (image : List ℕ) (t : Transfer) where
   most : come ≤ t.count
   most = rw zero-add at (progress_most (λ j. stops_at image t.geometry t.heeds (t.place j)) 0 t.count)
 
-  byte-before-marks :
+  byte_before_marks :
       StandsOnDrive t → (k : ℕ) → k < come * B t.geometry → disk_byte t.geometry t.place k < marks_at t.geometry
-  byte-before-marks on k less =
+  byte_before_marks on k less =
       let some = some_bytes come (B t.geometry) k less in
       let sector = (div-lt_iff_lt-mul some).1 less in
       omega (
@@ -67,11 +67,11 @@ module _ (image : List ℕ) (t : Transfer) where
   pub no_mark_stored : StandsOnDrive t → (x : ℕ) → marks_at t.geometry ≤ x → Stored (data_on image t) (image_byte x) → ⊥
   unfolding data_on
   no_mark_stored on x from there =
-      let k = stored-of-upTo (come * B t.geometry) (move_at t) (image_byte x) there in
+      let k = stored_of_up_to (come * B t.geometry) (move_at t) (image_byte x) there in
       omega (
         arith,
-        byte-before-marks on k.0 k.1.0,
-        target_on_disk t.to_host (disk_byte t.geometry t.place k.0) (t.host_byte k.0) x k.1.1,
+        byte_before_marks on k.0 k.1.0,
+        target_on_disk t.to_host (disk_byte t.geometry t.place k.0) (t.host_at k.0) x k.1.1,
       )
 
 -- So each of them is as it was.
@@ -81,25 +81,25 @@ pub marks_stay :
 marks_stay m t on x from = unstored_stays (data_on m.image t) m (image_byte x) (no_mark_stored m.image t on x from)
 
 -- That is so for sectors of a volume, and for a track that the drive has.
-pub moving-keeps-marks :
-    (m : Buffers) (u : UnitRecord) (to_host past-marks : Bool) (v : VolumeNumber) (first count : ℕ) (host_byte : ℕ → ℕ) →
+pub moving_keeps_marks :
+    (m : Buffers) (u : UnitRecord) (to_host past-marks : Bool) (v : VolumeNumber) (first count : ℕ) (host_at : ℕ → ℕ) →
     first + count ≤ volume_sectors (geometry u) v → (x : ℕ) → marks_at (geometry u) ≤ x →
-    byte_in (after (data_on m.image (moving u to_host past-marks v first count host_byte)) m) (image_byte x) ≡ byte_in m (image_byte x)
-moving-keeps-marks m u to_host past-marks v first count host_byte inside =
-    marks_stay m (moving u to_host past-marks v first count host_byte)
-    (moving-on-drive u to_host past-marks v first count host_byte inside)
+    byte_in (after (data_on m.image (moving u to_host past-marks v first count host_at)) m) (image_byte x) ≡ byte_in m (image_byte x)
+moving_keeps_marks m u to_host past-marks v first count host_at inside =
+    marks_stay m (moving u to_host past-marks v first count host_at)
+    (moving_on_drive u to_host past-marks v first count host_at inside)
 
-pub formatting-keeps-marks :
+pub formatting_keeps_marks :
     (m : Buffers) (u : UnitRecord) (spot : Spot) (at : ℕ) →
     spot.place + S (geometry u) ≤ drive_sectors (geometry u) → (x : ℕ) → marks_at (geometry u) ≤ x →
     byte_in (after (data_on m.image (formatting u spot at)) m) (image_byte x) ≡ byte_in m (image_byte x)
-formatting-keeps-marks m u spot at inside = marks_stay m (formatting u spot at) (formatting-on-drive u spot at inside)
+formatting_keeps_marks m u spot at inside = marks_stay m (formatting u spot at) (formatting_on_drive u spot at inside)
 
 -- ---- how far it comes
 
 module _ (image : List ℕ) (t : Transfer) where
   counts : Counts (progress_on image t).answer (progress_on image t).sectors t.count
-  counts = rw zero-add at (progress-counts (λ j. stops_at image t.geometry t.heeds (t.place j)) 0 t.count).1
+  counts = rw zero-add at (progress_counts (λ j. stops_at image t.geometry t.heeds (t.place j)) 0 t.count).1
 
   -- A transfer that is stopped has moved fewer sectors than were asked for, and one that ended has moved them all.
   pub stopped_short : (r : Refusal) → (progress_on image t).answer ≡ BlockAnswer.Failed r → (progress_on image t).sectors < t.count

@@ -9,9 +9,9 @@ use Rattle.transfer.proofs.format_track.Reads as format-track
 use Rattle.transfer.proofs.move_sectors.Reads as move-sectors
 
 -- What the attempt came to, host memory and the image.
-move-sectors-once :
+move_sectors_once :
     OneOutcome {Seen = Attempt × (List ℕ × List ℕ)} move-sectors.Post (λ κ x e. (x, (e.0.now, e.1.0.now)))
-move-sectors-once κ a x y e f p q =
+move_sectors_once κ a x y e f p q =
     let same : x ≡ y = p.0 ∙ sym q.0 in
     let buffers = p.1 ∙ sym q.1 in
     λ i. (same i, ((buffers i).host, (buffers i).image))

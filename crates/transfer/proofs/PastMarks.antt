@@ -15,14 +15,14 @@ use lib.Seq.{get_or-set_other, get_or-set_same}
 use Rattle.geometry.specs.declared.Geometry.{Geometry}
 use Rattle.geometry.specs.Drive.{B, need}
 use Rattle.geometry.specs.Sectors.{mark_byte}
-use Rattle.geometry.proofs.Laws.{mark_inside, sector-in-image}
+use Rattle.geometry.proofs.Laws.{mark_inside, sector_in_image}
 use Rattle.transfer.specs.Data.{Transfer, data_on, move, move_at, progress_on}
 use Rattle.transfer.specs.Progress.{Progress, stops_at}
 use Rattle.transfer.specs.SameSectors.{SameButPast, SameSectors}
 use Rattle.transfer.specs.Stores.{Buffers, ByteAt, Store, Value, after, bytes_from, copy_of, event_byte, host_byte, image_byte, number, up_to, with, worth}
 use Rattle.transfer.proofs.Marks.{StandsOnDrive}
-use Rattle.transfer.proofs.Progress.{progress_most, progress-same}
-use Rattle.transfer.proofs.Wholes.{bytes-held}
+use Rattle.transfer.proofs.Progress.{progress_most, progress_same}
+use Rattle.transfer.proofs.Wholes.{bytes_held}
 
 -- ---- what a transfer looks at
 
@@ -35,7 +35,7 @@ module _ (t : Transfer) (on : StandsOnDrive t) (image other : List ℕ) (alike :
 
   pub comes_alike : progress_on image t ≡ progress_on other t
   comes_alike =
-      progress-same _ _ 0 t.count (λ j j<. rw zero-add (same_stop j j<))
+      progress_same _ _ 0 t.count (λ j j<. rw zero-add (same_stop j j<))
 
   pub data_alike : data_on image t ≡ data_on other t
   unfolding data_on
@@ -88,8 +88,8 @@ data_below image t on =
     up_to_below (need t.geometry) _ (move_at t)
     (λ k k<.
     moved_below _ t.to_host _ _
-    (bytes-held t.geometry t.place (progress_on image t).sectors (need t.geometry)
-    (λ j j<. (sector-in-image t.geometry (need t.geometry) (t.place j) (omega arith) (on j (omega arith))).0) k k<))
+    (bytes_held t.geometry t.place (progress_on image t).sectors (need t.geometry)
+    (λ j j<. (sector_in_image t.geometry (need t.geometry) (t.place j) (omega arith) (on j (omega arith))).0) k k<))
 
 -- ---- what they leave
 

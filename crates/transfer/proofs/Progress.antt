@@ -12,38 +12,38 @@ use Rattle.transfer.specs.Runs.{stopped}
 use Rattle.transfer.specs.Progress.{Progress, progress}
 
 -- k sectors that are all moved are passed over.
-pub progress-passes :
+pub progress_passes :
     (stops : ℕ → Bool) (k j n : ℕ) → ((i : ℕ) → i < k → stops (j + i) ≡ false) → progress stops j (k + n) ≡ progress stops (j + k) n
 unfolding progress
-progress-passes stops zero j n all = rw (add-zero, zero-add)
-progress-passes stops (suc k) j n all =
+progress_passes stops zero j n all = rw (add-zero, zero-add)
+progress_passes stops (suc k) j n all =
     let here : stops j ≡ false = rw add-zero at (all 0 (omega arith)) in
     rw (suc-add k n, here, add-suc, ← suc-add j k)
-    (progress-passes stops k (suc j) n (λ i h. rw (suc-add j i, ← add-suc j i) (all (suc i) (omega arith))))
+    (progress_passes stops k (suc j) n (λ i h. rw (suc-add j i, ← add-suc j i) (all (suc i) (omega arith))))
 
 -- A sector that stops the transfer ends it.
-pub progress-stops :
+pub progress_stops :
     (stops : ℕ → Bool) (j n : ℕ) → stops j ≡ true → progress stops j (suc n) ≡ stopped j
 unfolding progress
-progress-stops stops j n is = rw is
+progress_stops stops j n is = rw is
 
 -- Stops that agree from sector j on.
-pub progress-same :
+pub progress_same :
     (f g : ℕ → Bool) (j n : ℕ) → ((i : ℕ) → i < n → f (j + i) ≡ g (j + i)) → progress f j n ≡ progress g j n
 unfolding progress
-progress-same f g j zero same = refl
-progress-same f g j (suc n) same =
+progress_same f g j zero same = refl
+progress_same f g j (suc n) same =
     let here : f j ≡ g j = rw add-zero at (same 0 (omega arith)) in
-    rw (here, progress-same f g (suc j) n (λ i h. rw (suc-add j i, ← add-suc j i) (same (suc i) (omega arith))))
+    rw (here, progress_same f g (suc j) n (λ i h. rw (suc-add j i, ← add-suc j i) (same (suc i) (omega arith))))
 
 -- The same sectors, counted from j on.
-pub progress-shift :
+pub progress_shift :
     (stops : ℕ → Bool) (j k n : ℕ) →
     progress stops (j + k) n ≡
     record { sectors = j + (progress (λ i. stops (j + i)) k n).sectors; answer = (progress (λ i. stops (j + i)) k n).answer }
 unfolding progress
-progress-shift stops j k zero = refl
-progress-shift stops j k (suc n) = by_value (stops (j + k)) (rw add-suc at (progress-shift stops j (suc k) n))
+progress_shift stops j k zero = refl
+progress_shift stops j k (suc n) = by_value (stops (j + k)) (rw add-suc at (progress_shift stops j (suc k) n))
   where
     by_value :
         (f : Bool) →
@@ -65,13 +65,13 @@ abbrev pub leads_on : BlockAnswer → Progress → Progress → Progress
 leads_on BlockAnswer.Ended p rest = rest
 leads_on (BlockAnswer.Failed r) p rest = p
 
-pub progress-then :
+pub progress_then :
     (stops : ℕ → Bool) (j n m : ℕ) →
     progress stops j (n + m) ≡ leads_on (progress stops j n).answer (progress stops j n) (progress stops (j + n) m)
 unfolding progress
-progress-then stops j zero m = rw (zero-add, add-zero)
-progress-then stops j (suc n) m =
-    rw (suc-add n m) (by_value (stops j) (rw (add-suc j n, ← suc-add j n) (progress-then stops (suc j) n m)))
+progress_then stops j zero m = rw (zero-add, add-zero)
+progress_then stops j (suc n) m =
+    rw (suc-add n m) (by_value (stops j) (rw (add-suc j n, ← suc-add j n) (progress_then stops (suc j) n m)))
   where
     by_value :
         (f : Bool) →
@@ -87,12 +87,12 @@ abbrev pub Counts : BlockAnswer → ℕ → ℕ → Type 0
 Counts BlockAnswer.Ended moved all = moved ≡ all
 Counts (BlockAnswer.Failed r) moved all = moved < all
 
-pub progress-counts :
+pub progress_counts :
     (stops : ℕ → Bool) (j n : ℕ) → (j ≤ (progress stops j n).sectors) × Counts (progress stops j n).answer (progress stops j n).sectors (j + n)
 unfolding progress
-progress-counts stops j zero = (omega arith, omega arith)
-progress-counts stops j (suc n) =
-    let rest = progress-counts stops (suc j) n in
+progress_counts stops j zero = (omega arith, omega arith)
+progress_counts stops j (suc n) =
+    let rest = progress_counts stops (suc j) n in
     by_value (stops j) (omega (arith, rest.0)) (rw (add-suc j n, ← suc-add j n) rest.1)
   where
     by_value :
@@ -105,19 +105,19 @@ progress-counts stops j (suc n) =
     by_value true from rest = (omega arith, omega arith)
 
 pub progress_most : (stops : ℕ → Bool) (j n : ℕ) → (progress stops j n).sectors ≤ j + n
-progress_most stops j n = by_answer (progress stops j n).answer (progress-counts stops j n).1
+progress_most stops j n = by_answer (progress stops j n).answer (progress_counts stops j n).1
   where
     by_answer : (x : BlockAnswer) → Counts x (progress stops j n).sectors (j + n) → (progress stops j n).sectors ≤ j + n
     by_answer BlockAnswer.Ended is = omega arith
     by_answer (BlockAnswer.Failed r) is = omega arith
 
 -- Every sector that was moved is one that no stop met.
-pub progress-moved :
+pub progress_moved :
     (stops : ℕ → Bool) (j n i : ℕ) → j ≤ i → i < (progress stops j n).sectors → stops i ≡ false
 unfolding progress
-progress-moved stops j zero i from below = absurd (omega arith)
-progress-moved stops j (suc n) i from below =
-    by_value (stops j) refl below (λ later less. progress-moved stops (suc j) n i later less)
+progress_moved stops j zero i from below = absurd (omega arith)
+progress_moved stops j (suc n) i from below =
+    by_value (stops j) refl below (λ later less. progress_moved stops (suc j) n i later less)
   where
     by_value :
         (f : Bool) → stops j ≡ f → i < (cond f (stopped j) (progress stops (suc j) n)).sectors →
@@ -133,10 +133,10 @@ pub stops_at_lem :
     progress stops j n ≡ stopped (j + r)
 stops_at_lem stops j r n less all is =
     let rest : n ≡ r + suc (n - r - 1) = omega arith in
-    rw rest (progress-passes stops r j (suc (n - r - 1)) all ∙ progress-stops stops (j + r) (n - r - 1) is)
+    rw rest (progress_passes stops r j (suc (n - r - 1)) all ∙ progress_stops stops (j + r) (n - r - 1) is)
 
-pub all-move :
+pub all_move :
     (stops : ℕ → Bool) (j n : ℕ) → ((i : ℕ) → i < n → stops (j + i) ≡ false) →
     progress stops j n ≡ record { sectors = j + n; answer = BlockAnswer.Ended }
 unfolding progress
-all-move stops j n all = rw add-zero at (progress-passes stops n j 0 all)
+all_move stops j n all = rw add-zero at (progress_passes stops n j 0 all)

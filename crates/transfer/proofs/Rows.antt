@@ -17,7 +17,7 @@ use Rattle.geometry.specs.Sectors.{mark_byte}
 use Rattle.geometry.proofs.Laws.{marks_consecutive}
 use Rattle.transfer.specs.Progress.{stops_at}
 use Rattle.transfer.specs.Runs.{Readable, in_a_row, row_of, stopped}
-use Rattle.transfer.proofs.Progress.{all-move, stops_at_lem}
+use Rattle.transfer.proofs.Progress.{all_move, stops_at_lem}
 
 -- What a row comes to, by its test.
 module _ (good n : ℕ) where
@@ -59,4 +59,4 @@ module _ (image : List ℕ) (g : Geometry) (heeds : Bool) (place n : ℕ) (mark 
         (rw zero-add at (stops_at_lem stops 0 r n less all_before (rw zero-add (unreadable r stop.0 stop.1))))
         ∙ sym (unreadable_of r n less))
         (λ whole.
-        (rw zero-add at (all-move stops 0 n (λ i h. all_before i (omega arith)))) ∙ sym (whole_of r n (omega arith)))
+        (rw zero-add at (all_move stops 0 n (λ i h. all_before i (omega arith)))) ∙ sym (whole_of r n (omega arith)))

@@ -16,36 +16,36 @@ use Rattle.transfer.specs.Targets.{Stored}
 -- ---- bytes in a row
 
 -- Numbers stored in host memory one after the other, from an index on, stand there in their order; nothing else is changed.
-pub host-bytes-stored :
+pub host_bytes_stored :
     (ns : List ℕ) (at : ℕ) (m : Buffers) →
     after (bytes_from host_byte at ns) m ≡ record { host = sets m.host at ns; image = m.image; events = m.events }
 unfolding after bytes_from
-host-bytes-stored [] at m = refl
-host-bytes-stored (n ∷ ns) at m = rw add-one (host-bytes-stored ns (suc at) (with m (host_byte at) n))
+host_bytes_stored [] at m = refl
+host_bytes_stored (n ∷ ns) at m = rw add-one (host_bytes_stored ns (suc at) (with m (host_byte at) n))
 
 -- The like in the event buffer.
-pub event-bytes-stored :
+pub event_bytes_stored :
     (ns : List ℕ) (at : ℕ) (m : Buffers) →
     after (bytes_from event_byte at ns) m ≡ record { host = m.host; image = m.image; events = sets m.events at ns }
 unfolding after bytes_from
-event-bytes-stored [] at m = refl
-event-bytes-stored (n ∷ ns) at m = rw add-one (event-bytes-stored ns (suc at) (with m (event_byte at) n))
+event_bytes_stored [] at m = refl
+event_bytes_stored (n ∷ ns) at m = rw add-one (event_bytes_stored ns (suc at) (with m (event_byte at) n))
 
 -- ---- what stays
 
 -- Stores change no buffer's length.
-pub lengths-stay :
+pub lengths_stay :
     (ss : List Store) (m : Buffers) →
     (length (after ss m).host ≡ length m.host) ×
     ((length (after ss m).image ≡ length m.image) × (length (after ss m).events ≡ length m.events))
 unfolding after
-lengths-stay [] m = (refl, (refl, refl))
-lengths-stay (s ∷ ss) m = by-cell s.to (lengths-stay ss (with m s.to (worth m s.value)))
+lengths_stay [] m = (refl, (refl, refl))
+lengths_stay (s ∷ ss) m = by_cell s.to (lengths_stay ss (with m s.to (worth m s.value)))
   where
     n : ℕ
     n = worth m s.value
 
-    by-cell :
+    by_cell :
         (c : ByteAt) →
         (length (after ss (with m c n)).host ≡ length (with m c n).host) ×
         ((length (after ss (with m c n)).image ≡ length (with m c n).image) ×
@@ -53,9 +53,9 @@ lengths-stay (s ∷ ss) m = by-cell s.to (lengths-stay ss (with m s.to (worth m 
         (length (after ss (with m c n)).host ≡ length m.host) ×
         ((length (after ss (with m c n)).image ≡ length m.image) ×
         (length (after ss (with m c n)).events ≡ length m.events))
-    by-cell (host_byte x) rest = (rest.0 ∙ length-set m.host x n, rest.1)
-    by-cell (image_byte x) rest = (rest.0, (rest.1.0 ∙ length-set m.image x n, rest.1.1))
-    by-cell (event_byte x) rest = (rest.0, (rest.1.0, rest.1.1 ∙ length-set m.events x n))
+    by_cell (host_byte x) rest = (rest.0 ∙ length-set m.host x n, rest.1)
+    by_cell (image_byte x) rest = (rest.0, (rest.1.0 ∙ length-set m.image x n, rest.1.1))
+    by_cell (event_byte x) rest = (rest.0, (rest.1.0, rest.1.1 ∙ length-set m.events x n))
 
 -- A store leaves every other cell as it was.
 pub other_stays : (m : Buffers) (c d : ByteAt) (n : ℕ) → (c ≡ d → ⊥) → byte_in (with m c n) d ≡ byte_in m d
@@ -80,15 +80,15 @@ unstored_stays (s ∷ ss) m c none =
 -- A buffer of which no byte is a target is as it was.
 pub host_stays : (ss : List Store) (m : Buffers) → ((x : ℕ) → Stored ss (host_byte x) → ⊥) → (after ss m).host ≡ m.host
 host_stays ss m none =
-    ext_get_or 0 (after ss m).host m.host (lengths-stay ss m).0 (λ x h. unstored_stays ss m (host_byte x) (none x))
+    ext_get_or 0 (after ss m).host m.host (lengths_stay ss m).0 (λ x h. unstored_stays ss m (host_byte x) (none x))
 
 pub image_stays : (ss : List Store) (m : Buffers) → ((x : ℕ) → Stored ss (image_byte x) → ⊥) → (after ss m).image ≡ m.image
 image_stays ss m none =
-    ext_get_or 0 (after ss m).image m.image (lengths-stay ss m).1.0 (λ x h. unstored_stays ss m (image_byte x) (none x))
+    ext_get_or 0 (after ss m).image m.image (lengths_stay ss m).1.0 (λ x h. unstored_stays ss m (image_byte x) (none x))
 
 pub events_stay : (ss : List Store) (m : Buffers) → ((x : ℕ) → Stored ss (event_byte x) → ⊥) → (after ss m).events ≡ m.events
 events_stay ss m none =
-    ext_get_or 0 (after ss m).events m.events (lengths-stay ss m).1.1 (λ x h. unstored_stays ss m (event_byte x) (none x))
+    ext_get_or 0 (after ss m).events m.events (lengths_stay ss m).1.1 (λ x h. unstored_stays ss m (event_byte x) (none x))
 
 -- ---- what is a target
 
@@ -108,12 +108,12 @@ append_stored (x ∷ xs) ys c (inl (inr there)) = inr (append_stored xs ys c (in
 append_stored (x ∷ xs) ys c (inr there) = inr (append_stored xs ys c (inr there))
 
 -- A target of the stores 0 to n - 1 of a sequence is that of one of them, and the other way round.
-pub stored-of-upTo :
+pub stored_of_up_to :
     (n : ℕ) (s : ℕ → Store) (c : ByteAt) → Stored (up_to n s) c → (k : ℕ) × ((k < n) × ((s k).to ≡ c))
 unfolding Stored up_to
-stored-of-upTo zero s c none = absurd none
-stored-of-upTo (suc n) s c there =
-    ⊎_elim (λ before. let k = stored-of-upTo n s c before in (k.0, (omega (arith, k.1.0), k.1.1)))
+stored_of_up_to zero s c none = absurd none
+stored_of_up_to (suc n) s c there =
+    ⊎_elim (λ before. let k = stored_of_up_to n s c before in (k.0, (omega (arith, k.1.0), k.1.1)))
     (λ last. ⊎_elim (λ here. (n, (omega arith, here))) (λ none. absurd none) last)
     (stored_of_append (up_to n s) (s n ∷ []) c there)
 
@@ -127,21 +127,21 @@ up_to_stored (suc n) s c k =
     (λ before. inl (up_to_stored n s c (k.0, (omega (arith, before, k.1.0), k.1.1)))))
 
 -- A target of bytes stored from an index on is one of as many bytes from there, and the other way round.
-pub stored-of-bytes :
+pub stored_of_bytes :
     (cell : ℕ → ByteAt) (at : ℕ) (ns : List ℕ) (c : ByteAt) →
     Stored (bytes_from cell at ns) c → (x : ℕ) × (Among at (length ns) x × (c ≡ cell x))
 unfolding Stored bytes_from
-stored-of-bytes cell at [] c none = absurd none
-stored-of-bytes cell at (n ∷ ns) c (inl here) = (at, ((omega arith, omega arith), sym here))
-stored-of-bytes cell at (n ∷ ns) c (inr there) =
-    let x = stored-of-bytes cell (at + 1) ns c there in
+stored_of_bytes cell at [] c none = absurd none
+stored_of_bytes cell at (n ∷ ns) c (inl here) = (at, ((omega arith, omega arith), sym here))
+stored_of_bytes cell at (n ∷ ns) c (inr there) =
+    let x = stored_of_bytes cell (at + 1) ns c there in
     (x.0, ((omega (arith, x.1.0), omega (arith, x.1.0)), x.1.1))
 
-pub bytes-stored :
+pub bytes_stored :
     (cell : ℕ → ByteAt) (at : ℕ) (ns : List ℕ) (c : ByteAt) →
     (x : ℕ) × (Among at (length ns) x × (c ≡ cell x)) → Stored (bytes_from cell at ns) c
 unfolding Stored bytes_from
-bytes-stored cell at [] c x = absurd (omega (arith, x.1.0))
-bytes-stored cell at (n ∷ ns) c x =
+bytes_stored cell at [] c x = absurd (omega (arith, x.1.0))
+bytes_stored cell at (n ∷ ns) c x =
     by_cases (ℕ_discrete at x.0) (λ here. inl (ap cell here ∙ sym x.1.1))
-    (λ on. inr (bytes-stored cell (at + 1) ns c (x.0, ((omega (arith, on, x.1.0), omega (arith, x.1.0)), x.1.1))))
+    (λ on. inr (bytes_stored cell (at + 1) ns c (x.0, ((omega (arith, on, x.1.0), omega (arith, x.1.0)), x.1.1))))

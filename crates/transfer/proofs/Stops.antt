@@ -19,15 +19,15 @@ use Rattle.transfer.specs.Data.{Transfer, progress_on}
 use Rattle.transfer.specs.Runs.{stopped, whole}
 use Rattle.transfer.specs.Progress.{progress, stops_at}
 use Rattle.transfer.specs.Unreadable.{MeetsUnreadable, StopsBefore, mark_of}
-use Rattle.transfer.proofs.Progress.{progress-counts, progress-moved, stops_at_lem}
+use Rattle.transfer.proofs.Progress.{progress_counts, progress_moved, stops_at_lem}
 
 -- The sector after those that were moved is the one that stopped a transfer, and its answer is 20.
-stopped-there :
+stopped_there :
     (stops : ℕ → Bool) (j n : ℕ) (r : Refusal) →
     (progress stops j n).answer ≡ BlockAnswer.Failed r → (stops (progress stops j n).sectors ≡ true) × (r ≡ Refusal.Unreadable)
 unfolding progress
-stopped-there stops j zero r is = absurd (never cc)
-stopped-there stops j (suc n) r is = by_value (stops j) refl is (stopped-there stops (suc j) n r)
+stopped_there stops j zero r is = absurd (never cc)
+stopped_there stops j (suc n) r is = by_value (stops j) refl is (stopped_there stops (suc j) n r)
   where
     by_value :
         (f : Bool) → stops j ≡ f → (cond f (stopped j) (progress stops (suc j) n)).answer ≡ BlockAnswer.Failed r →
@@ -64,9 +64,9 @@ module _ (image : List ℕ) (g : Geometry) (place : ℕ) where
   good_passes false good = refl
 
 -- A transfer that is stopped has 20.
-pub stopped-with :
+pub stopped_with :
     (image : List ℕ) (t : Transfer) (r : Refusal) → (progress_on image t).answer ≡ BlockAnswer.Failed r → r ≡ Refusal.Unreadable
-stopped-with image t r is = (stopped-there (λ j. stops_at image t.geometry t.heeds (t.place j)) 0 t.count r is).1
+stopped_with image t r is = (stopped_there (λ j. stops_at image t.geometry t.heeds (t.place j)) 0 t.count r is).1
 
 module _ (image : List ℕ) (t : Transfer) where
   abbrev stops : ℕ → Bool
@@ -85,28 +85,28 @@ module _ (image : List ℕ) (t : Transfer) where
   pub stopped_before : (progress_on image t).answer ≡ BlockAnswer.Failed Refusal.Unreadable → StopsBefore image t (progress_on image t).sectors
   stopped_before is =
       let s = (progress_on image t).sectors in
-      let stop = stops_marked image t.geometry (t.place s) t.heeds (stopped-there stops 0 t.count Refusal.Unreadable is).0 in
-      let short : s < 0 + t.count = rw is at (progress-counts stops 0 t.count).1 in
+      let stop = stops_marked image t.geometry (t.place s) t.heeds (stopped_there stops 0 t.count Refusal.Unreadable is).0 in
+      let short : s < 0 + t.count = rw is at (progress_counts stops 0 t.count).1 in
       record {
         heeds = stop.0;
         there = rw zero-add at short;
         bad = stop.1;
         good = λ j j<.
             passes_good image t.geometry (t.place j)
-            (rw stop.0 at (progress-moved stops 0 t.count j (omega arith) j<));
+            (rw stop.0 at (progress_moved stops 0 t.count j (omega arith) j<));
       }
 
   -- Where none of the sectors is unreadable, or the marks are not heeded, it comes whole.
-  pub whole-where-readable :
+  pub whole_where_readable :
       (MeetsUnreadable image t → ⊥) → progress_on image t ≡ whole t.count
-  whole-where-readable none = by_answer (progress_on image t).answer refl
+  whole_where_readable none = by_answer (progress_on image t).answer refl
     where
       by_answer : (x : BlockAnswer) → (progress_on image t).answer ≡ x → progress_on image t ≡ whole t.count
       by_answer BlockAnswer.Ended is =
-          let all : (progress_on image t).sectors ≡ t.count = rw (is, zero-add) at (progress-counts stops 0 t.count).1 in
+          let all : (progress_on image t).sectors ≡ t.count = rw (is, zero-add) at (progress_counts stops 0 t.count).1 in
           λ i. record { sectors = all i; answer = is i }
       by_answer (BlockAnswer.Failed r) is =
-          let first = stopped_before (is ∙ ap (λ (x : Refusal). BlockAnswer.Failed x) (stopped-with image t r is)) in
+          let first = stopped_before (is ∙ ap (λ (x : Refusal). BlockAnswer.Failed x) (stopped_with image t r is)) in
           absurd (none (record { heeds = first.heeds; sector = _; there = first.there; bad = first.bad }))
 
   -- So 20 is the answer exactly where the transfer heeds the marks and one of its sectors is unreadable.
@@ -120,13 +120,13 @@ module _ (image : List ℕ) (t : Transfer) where
           MeetsUnreadable image t → (x : BlockAnswer) → (progress_on image t).answer ≡ x →
           (progress_on image t).answer ≡ BlockAnswer.Failed Refusal.Unreadable
       by_answer meets BlockAnswer.Ended is =
-          let all : (progress_on image t).sectors ≡ t.count = rw (is, zero-add) at (progress-counts stops 0 t.count).1 in
+          let all : (progress_on image t).sectors ≡ t.count = rw (is, zero-add) at (progress_counts stops 0 t.count).1 in
           absurd
           (meets.bad
           (passes_good image t.geometry (t.place meets.sector)
-          (rw meets.heeds at (progress-moved stops 0 t.count meets.sector (omega arith) (omega (arith, all, meets.there))))))
-      by_answer meets (BlockAnswer.Failed r) is = is ∙ ap (λ (x : Refusal). BlockAnswer.Failed x) (stopped-with image t r is)
+          (rw meets.heeds at (progress_moved stops 0 t.count meets.sector (omega arith) (omega (arith, all, meets.there))))))
+      by_answer meets (BlockAnswer.Failed r) is = is ∙ ap (λ (x : Refusal). BlockAnswer.Failed x) (stopped_with image t r is)
 
   -- 82, A2 and 8C "ignore marks": a transfer that does not heed them comes whole.
   pub whole_unheeding : t.heeds ≡ false → progress_on image t ≡ whole t.count
-  whole_unheeding ignores = whole-where-readable (λ meets. false≢true (sym ignores ∙ meets.heeds))
+  whole_unheeding ignores = whole_where_readable (λ meets. false≢true (sym ignores ∙ meets.heeds))

@@ -28,12 +28,12 @@ unfolding after up_to
 after_more n s m = after_append (up_to n s) (s n ∷ []) m
 
 -- The first k stores, and then the n that follow.
-pub after-add :
+pub after_add :
     (k n : ℕ) (s : ℕ → Store) (m : Buffers) → after (up_to (k + n) s) m ≡ after (up_to n (λ i. s (k + i))) (after (up_to k s) m)
 unfolding after up_to
-after-add k zero s m = rw add-zero
-after-add k (suc n) s m =
-    rw (add-suc, after_more (k + n) s m, after_more n (λ i. s (k + i)) (after (up_to k s) m), after-add k n s m)
+after_add k zero s m = rw add-zero
+after_add k (suc n) s m =
+    rw (add-suc, after_more (k + n) s m, after_more n (λ i. s (k + i)) (after (up_to k s) m), after_add k n s m)
 
 -- Sequences that agree so far.
 pub up_to_same : (n : ℕ) (s t : ℕ → Store) → ((i : ℕ) → i < n → s i ≡ t i) → up_to n s ≡ up_to n t
@@ -50,21 +50,21 @@ copied_run to_host m disk at n =
       events = m.events;
     }
 
-pub run-is-copy :
+pub run_is_copy :
     (n : ℕ) (to_host : Bool) (m : Buffers) (disk at : ℕ) → disk + n ≤ length m.image → at + n ≤ length m.host →
     after (up_to n (λ i. move to_host (disk + i) (at + i))) m ≡ copied_run to_host m disk at n
 unfolding after up_to
-run-is-copy zero true m disk at d h =
+run_is_copy zero true m disk at d h =
     λ i. record { host = paste-zero m.host at (drop disk m.image) i; image = m.image; events = m.events }
-run-is-copy zero false m disk at d h =
+run_is_copy zero false m disk at d h =
     λ i. record { host = m.host; image = paste-zero m.image disk (drop at m.host) i; events = m.events }
-run-is-copy (suc n) true m disk at d h =
+run_is_copy (suc n) true m disk at d h =
     after_more n (λ i. move true (disk + i) (at + i)) m
-    ∙ rw (run-is-copy n true m disk at (omega arith) (omega arith))
+    ∙ rw (run_is_copy n true m disk at (omega arith) (omega arith))
     (ap (λ (x : List ℕ). record { host = x; image = m.image; events = m.events })
     (rw (← add-one) (copied_more m.image m.host disk at n (omega arith) (omega arith))))
-run-is-copy (suc n) false m disk at d h =
+run_is_copy (suc n) false m disk at d h =
     after_more n (λ i. move false (disk + i) (at + i)) m
-    ∙ rw (run-is-copy n false m disk at (omega arith) (omega arith))
+    ∙ rw (run_is_copy n false m disk at (omega arith) (omega arith))
     (ap (λ (x : List ℕ). record { host = m.host; image = x; events = m.events })
     (rw (← add-one) (copied_more m.host m.image at disk n (omega arith) (omega arith))))

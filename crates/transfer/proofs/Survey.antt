@@ -14,7 +14,7 @@ use Rattle.unit.specs.Standing.{UnitRecord, geometry}
 use Rattle.transfer.specs.declared.Moved.{Moved}
 use Rattle.transfer.specs.Progress.{Progress, progress, stops_at}
 use Rattle.transfer.specs.Runs.{Advanced, progress_from, reached, place_from}
-use Rattle.transfer.proofs.Progress.{leads_on, progress-counts, progress_most, progress-same, progress-shift, progress-then}
+use Rattle.transfer.proofs.Progress.{leads_on, progress_counts, progress_most, progress_same, progress_shift, progress_then}
 
 module _ (image : List ℕ) (u : UnitRecord) (v : VolumeNumber) (first count : ℕ) (heeds : Bool) where
   abbrev stops : ℕ → Bool
@@ -32,9 +32,9 @@ module _ (image : List ℕ) (u : UnitRecord) (v : VolumeNumber) (first count : �
     module _ (m : Moved) (a : Advanced image u v (first + done) (count - done) heeds m) where
       here : progress stops done a.run ≡ record { sectors = done + m.sectors; answer = m.answer }
       here =
-          rw add-zero at (progress-shift stops done 0 a.run)
+          rw add-zero at (progress_shift stops done 0 a.run)
           ∙ ap (λ (p : Progress). record { sectors = done + p.sectors; answer = p.answer })
-          (progress-same (λ i. stops (done + i)) _ 0 a.run
+          (progress_same (λ i. stops (done + i)) _ 0 a.run
           (λ i h. ap (λ (n : ℕ). stops_at image (geometry u) heeds (spot_of u v n).place) (sym (add_assoc first done (0 + i))))
           ∙ a.comes)
 
@@ -46,7 +46,7 @@ module _ (image : List ℕ) (u : UnitRecord) (v : VolumeNumber) (first count : �
           let parts : count - done ≡ a.run + (count - done - a.run) = omega (arith, a.asked) in
           now.so_far
           ∙ ap (λ (n : ℕ). progress stops done n) parts
-          ∙ rw here at (progress-then stops done a.run (count - done - a.run))
+          ∙ rw here at (progress_then stops done a.run (count - done - a.run))
 
       pub advanced_most : done + m.sectors ≤ count
       advanced_most =
@@ -55,16 +55,16 @@ module _ (image : List ℕ) (u : UnitRecord) (v : VolumeNumber) (first count : �
           omega (arith, a.asked, now.most)
 
       -- A run that is stopped: the whole is stopped there.
-      pub survey-stopped :
+      pub survey_stopped :
           (r : Refusal) → m.answer ≡ BlockAnswer.Failed r →
           record { sectors = done + m.sectors; answer = BlockAnswer.Failed r } ≡
           reached (progress_from image u v heeds first count)
-      survey-stopped r stopped = ap reached (sym (rw stopped at onward))
+      survey_stopped r stopped = ap reached (sym (rw stopped at onward))
 
       -- A run that came to its end: all of it is moved.
       every : m.answer ≡ BlockAnswer.Ended → m.sectors ≡ a.run
       every ended =
-          rw (zero-add, a.comes, ended) at (progress-counts (λ j. stops_at image (geometry u) heeds (place_from u v (first + done) j)) 0 a.run).1
+          rw (zero-add, a.comes, ended) at (progress_counts (λ j. stops_at image (geometry u) heeds (place_from u v (first + done) j)) 0 a.run).1
 
       pub survey_grows : m.answer ≡ BlockAnswer.Ended → 0 < m.sectors
       survey_grows ended = omega (arith, every ended, a.some)
@@ -73,10 +73,10 @@ module _ (image : List ℕ) (u : UnitRecord) (v : VolumeNumber) (first count : �
       survey_on ended = record { most = advanced_most; so_far = rw (every ended, sub-add-eq) (rw ended at onward) }
 
     -- All sectors are moved.
-    pub survey-ends :
+    pub survey_ends :
         count ≤ done →
         record { sectors = done; answer = BlockAnswer.Ended } ≡ reached (progress_from image u v heeds first count)
     unfolding progress
-    survey-ends all =
+    survey_ends all =
         let none : count - done ≡ 0 = omega arith in
         ap reached (sym (rw none at now.so_far))

@@ -12,7 +12,7 @@ use lib.ListN.{length}
 use Rattle.geometry.specs.declared.Geometry.{Geometry}
 use Rattle.geometry.specs.Drive.{B, need}
 use Rattle.geometry.specs.Sectors.{first_byte}
-use Rattle.geometry.proofs.Laws.{sector-in-image}
+use Rattle.geometry.proofs.Laws.{sector_in_image}
 use Rattle.unit.proofs.Laws.{spot_inside}
 use Rattle.unit.specs.declared.Span.{Span}
 use Rattle.unit.specs.Standing.{UnitRecord, geometry}
@@ -31,10 +31,10 @@ some_bytes n b k less =
     absurd (omega (arith, ap (λ (x : ℕ). n * x) zero, mul-zero n)))
 
 -- Sectors that all lie in the image have all their bytes there.
-pub bytes-held :
+pub bytes_held :
     (g : Geometry) (place : ℕ → ℕ) (n long : ℕ) → ((j : ℕ) → j < n → first_byte g (place j) + B g ≤ long) →
     (k : ℕ) → k < n * B g → disk_byte g place k < long
-bytes-held g place n long inside k less =
+bytes_held g place n long inside k less =
     let some = some_bytes n (B g) k less in
     omega (arith, inside (k / B g) ((div-lt_iff_lt-mul some).1 less), mod-lt k some)
 
@@ -54,15 +54,15 @@ module _ (image : List ℕ) (u : UnitRecord) (s : Span) (heeds : Bool) where
 
   pub reached_held : Spans u s → need (geometry u) ≤ length image → InImage u reached (length image)
   reached_held spans long =
-      bytes-held (geometry u) (place_from u s.volume s.first) come.sectors (length image)
+      bytes_held (geometry u) (place_from u s.volume s.first) come.sectors (length image)
       (λ j j<.
-      (sector-in-image (geometry u) (length image) (place_from u s.volume s.first j) long
+      (sector_in_image (geometry u) (length image) (place_from u s.volume s.first j) long
       (omega (arith, spot_inside u s.volume (s.first + j) (omega (arith, spans.inside, most))))).0)
 
-  pub reached-pieces :
+  pub reached_pieces :
       (long : ℕ) (lengths addresses : List ℕ) →
       PiecesFit long (span_bytes u s) lengths addresses → PiecesFit long (span_bytes u reached) lengths addresses
-  reached-pieces long lengths addresses fit =
+  reached_pieces long lengths addresses fit =
       record {
         pairs = fit.pairs;
         inside = fit.inside;
@@ -71,15 +71,15 @@ module _ (image : List ℕ) (u : UnitRecord) (s : Span) (heeds : Bool) where
 
 -- The two results of a call.
 module _ (long : ℕ) (image : List ℕ) (u : UnitRecord) (s : Span) (to_host past-marks : Bool) (lengths addresses : List ℕ) where
-  pub sectors-fit :
+  pub sectors_fit :
       SectorsFit (geometry u) s lengths addresses long (length image) →
       sectors_result long image u s to_host past-marks lengths addresses ≡
       made image (span_transfer u s to_host past-marks lengths addresses)
   unfolding sectors_result
-  sectors-fit fit = if_pos (sectors_fit? (geometry u) s lengths addresses long (length image)) fit _ _
+  sectors_fit fit = if_pos (sectors_fit? (geometry u) s lengths addresses long (length image)) fit _ _
 
-  pub sectors-unfit :
+  pub sectors_unfit :
       (SectorsFit (geometry u) s lengths addresses long (length image) → ⊥) →
       sectors_result long image u s to_host past-marks lengths addresses ≡ misfit
   unfolding sectors_result
-  sectors-unfit unfit = if_neg (sectors_fit? (geometry u) s lengths addresses long (length image)) unfit _ _
+  sectors_unfit unfit = if_neg (sectors_fit? (geometry u) s lengths addresses long (length image)) unfit _ _

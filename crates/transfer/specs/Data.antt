@@ -18,25 +18,25 @@ pub record Transfer : Type 0 where
   pub heeds : Bool
   pub count : ℕ
   pub place : ℕ → ℕ
-  pub host_byte : ℕ → ℕ
+  pub host_at : ℕ → ℕ
 
 -- Sectors from a number of a volume on: "Consecutive sectors go by sector, head, cylinder" (01, Geometry), which is the order of the numbers (the
 -- geometry's law numbers_consecutive), and each stands where its number lands, on a spare where its track is bad.
 -- 81 and A1 "copy sectors to host memory"; 82 and A2 copy the other way. "At a non-zero mark they stop before that sector, or,
 -- with DE, move it and go on. 82 and A2 ignore marks."
 abbrev pub moving : UnitRecord → Bool → Bool → VolumeNumber → ℕ → ℕ → (ℕ → ℕ) → Transfer
-moving u to_host past-marks v first count host_byte =
+moving u to_host past-marks v first count host_at =
     record {
       geometry = geometry u;
       to_host = to_host;
       heeds = to_host && not past-marks;
       count = count;
       place = λ j. (spot_of u v (first + j)).place;
-      host_byte = host_byte;
+      host_at = host_at;
     }
 
 -- 8C "takes B bytes and writes them to every sector of the named track", or of the spare that serves it: the S sectors stand in a row from the
--- first on, where the track lands (the unit's law landed-in-a-row, the geometry's track_consecutive).
+-- first on, where the track lands (the unit's law landed_in_a_row, the geometry's track_consecutive).
 abbrev pub formatting : UnitRecord → Spot → ℕ → Transfer
 formatting u spot at =
     record {
@@ -45,7 +45,7 @@ formatting u spot at =
       heeds = false;
       count = S (geometry u);
       place = λ j. spot.place + j;
-      host_byte = λ k. at + k % B (geometry u);
+      host_at = λ k. at + k % B (geometry u);
     }
 
 -- The index in the image of byte k: byte k mod B of sector k div B.
@@ -65,7 +65,7 @@ abbrev pub progress_on : List ℕ → Transfer → Progress
 progress_on image t = progress (λ j. stops_at image t.geometry t.heeds (t.place j)) 0 t.count
 
 abbrev pub move_at : Transfer → ℕ → Store
-move_at t k = move t.to_host (disk_byte t.geometry t.place k) (t.host_byte k)
+move_at t k = move t.to_host (disk_byte t.geometry t.place k) (t.host_at k)
 
 unfoldable pub data_on : List ℕ → Transfer → List Store
 data_on image t = up_to ((progress_on image t).sectors * B t.geometry) (move_at t)

@@ -1,7 +1,8 @@
 -- What a transfer comes to where the request fits, and that one which does not is left alone. A caller that has judged its request
 -- never meets the second; no caller is trusted to have.
 use Rattle.std.specs.Prelude.{ℕ, ◌+◌, ◌*◌, ◌≤◌, ◌<◌, Bool, List, [], get_or, length}
-use Rattle.std.proofs.Math.Logic.{ite, Dec·and}
+use Rattle.std.proofs.Math.Logic.{ite}
+use Rattle.std.proofs.Math.Logic.Dec.{and as dec_and}
 use Rattle.std.proofs.Math.Decide.{dec_le, dec_lt, map_dec, ℕ_discrete}
 use Rattle.wire.proofs.Decided.{all?}
 use Rattle.geometry.specs.declared.Geometry.{Geometry}
@@ -42,25 +43,25 @@ span_transfer u s to_host past-marks lengths addresses =
 pub pieces_fit? : (long bytes : ℕ) (lengths addresses : List ℕ) → Dec (PiecesFit long bytes lengths addresses)
 pieces_fit? long bytes lengths addresses =
     map_dec (λ d. record { pairs = d.0; inside = d.1.0; enough = d.1.1 }) (λ f. (f.pairs, (f.inside, f.enough)))
-    (Dec·and (ℕ_discrete (length addresses) (length lengths))
-    (Dec·and (all? _ (λ i. dec_le (get_or addresses i 0 + get_or lengths i 0) long) (length lengths))
+    (dec_and (ℕ_discrete (length addresses) (length lengths))
+    (dec_and (all? _ (λ i. dec_le (get_or addresses i 0 + get_or lengths i 0) long) (length lengths))
     (dec_le bytes (sum (λ i. get_or lengths i 0) (length lengths)))))
 
 pub sectors_fit? : (g : Geometry) (s : Span) (lengths addresses : List ℕ) (long image : ℕ) → Dec (SectorsFit g s lengths addresses long image)
 sectors_fit? g s lengths addresses long image =
     map_dec (λ d. record { some = d.0; inside = d.1.0; pieces = d.1.1.0; held = d.1.1.1 })
     (λ f. (f.some, (f.inside, (f.pieces, f.held))))
-    (Dec·and (dec_lt 0 s.count)
-    (Dec·and (dec_le (s.first + s.count) (volume_sectors g s.volume))
-    (Dec·and (pieces_fit? long (s.count * B g) lengths addresses) (dec_le (need g) image))))
+    (dec_and (dec_lt 0 s.count)
+    (dec_and (dec_le (s.first + s.count) (volume_sectors g s.volume))
+    (dec_and (pieces_fit? long (s.count * B g) lengths addresses) (dec_le (need g) image))))
 
 pub track_fits? : (g : Geometry) (spot : Spot) (at long image : ℕ) → Dec (TrackFits g spot at long image)
 track_fits? g spot at long image =
     map_dec (λ d. record { some = d.0; inside = d.1.0; memory = d.1.1.0; held = d.1.1.1 })
     (λ f. (f.some, (f.inside, (f.memory, f.held))))
-    (Dec·and (dec_lt 0 (S g))
-    (Dec·and (dec_le (spot.place + S g) (drive_sectors g))
-    (Dec·and (dec_le (at + B g) long) (dec_le (need g) image))))
+    (dec_and (dec_lt 0 (S g))
+    (dec_and (dec_le (spot.place + S g) (drive_sectors g))
+    (dec_and (dec_le (at + B g) long) (dec_le (need g) image))))
 
 -- The outcome of a call: what is returned, and the stores that were made. Where the request does not fit, that is said, and nothing is stored; which
 -- check refuses it is the judge's to say.

@@ -13,7 +13,7 @@ use unit::{Record, Span};
 use wire::lesser;
 
 // Where a transfer stands on the disk: the image's byte, how many bytes follow in a row, and the sectors done with them.
-#[derive(Drop)]
+#[derive(Clone, Copy)]
 pub(crate) struct Cursor {
     pub at: u64,
     pub left: u64,

@@ -21,14 +21,14 @@ use carry::{carry, fill, span_bytes};
 use reach::{reach, survey};
 
 // What a transfer came to: the sectors moved and the answer. Where the heads stand then is not told here.
-#[derive(Drop)]
+#[derive(Clone, Copy)]
 pub struct Moved {
     pub sectors: u16,
     pub answer: BlockAnswer,
 }
 
 // A transfer that was made, or a request that does not fit and was left alone: which check refuses such a one is not said here.
-#[derive(Drop)]
+#[derive(Clone, Copy)]
 pub enum Attempt {
     Made(Moved),
     Misfit,

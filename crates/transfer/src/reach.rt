@@ -12,7 +12,7 @@ use unit::{Landing, Record, Span};
 use wire::lesser;
 
 // A run of sectors that follow one another in the image.
-#[derive(Drop)]
+#[derive(Clone, Copy)]
 pub(crate) struct Run {
     pub place: u64,
     pub sectors: u16,

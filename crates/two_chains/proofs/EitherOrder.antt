@@ -10,11 +10,11 @@ use Rattle.independence.specs.Chains.{Both, Chain, First, Second, Which, leaving
 use Rattle.independence.proofs.Demand3.{either_way, first_same, left_same, second_same}
 use Rattle.two_chains.specs.EitherOrder.{BothAsked, OrdersAlike, RunAsked, TwoCallsAlike, asks_on}
 use Rattle.two_chains.specs.Orders.{both_of, chain_of, end_in, ran_both, ran_both_of}
-use Rattle.two_chains.proofs.Orders.{orders-are-one}
+use Rattle.two_chains.proofs.Orders.{orders_are_one}
 use Rattle.two_chains.proofs.run_both.Reads as run-both
 use Rattle.board.specs.Run.{CameTo, world_of}
 
-run-both-in-either-order :
+run_both_in_either_order :
     OrdersAlike run-both.Post
     (λ κ a.
     record {
@@ -26,10 +26,10 @@ run-both-in-either-order :
     (λ κ x e.
     ran_both_of x
     (both_of e.0.now e.1.0.now e.1.1.0.now e.1.1.1.0.now e.1.1.1.1.0.now e.1.1.1.1.1.0.now e.1.1.1.1.1.1.0.now e.1.1.1.1.1.1.1.0.now x.units))
-run-both-in-either-order one two s apart κ κ' a b x y e f o p here there first second =
+run_both_in_either_order one two s apart κ κ' a b x y e f o p here there first second =
     first
     ∙ ap (λ (k : BothAsked). ran_both k.order k.one k.two k.lent) here
-    ∙ orders-are-one one two s apart o p
+    ∙ orders_are_one one two s apart o p
     ∙ sym (ap (λ (k : BothAsked). ran_both k.order k.one k.two k.lent) there)
     ∙ sym second
 
@@ -48,7 +48,7 @@ module _
   leaves_so : leaving t k.controller s w ≡ (run_of t k).left s
   leaves_so = ap (leaving t k.controller s) (came.world ∙ ap (λ (e : Ending). e.world) ends)
 
-two-runs-in-either-order :
+two_runs_in_either_order :
     TwoCallsAlike run.Post
     (λ κ a.
     record {
@@ -61,7 +61,7 @@ two-runs-in-either-order :
       came = end_in x;
       left = world_of a.1.1.1.1.1.1.1.0 e.0.now e.1.0.now e.1.1.0.now e.1.1.1.0.now e.1.1.1.1.0.now e.1.1.1.1.1.0.now x.units;
     })
-two-runs-in-either-order one two s apart κ₁ κ₂ κ₃ κ₄ a₁ a₂ a₃ a₄ x₁ x₂ x₃ x₄ e₁ e₂ e₃ e₄ g₁ g₂ g₃ g₄ p₁ p₂ p₃ p₄ =
+two_runs_in_either_order one two s apart κ₁ κ₂ κ₃ κ₄ a₁ a₂ a₃ a₄ x₁ x₂ x₃ x₄ e₁ e₂ e₃ e₄ g₁ g₂ g₃ g₄ p₁ p₂ p₃ p₄ =
     let either = either_way one two s apart in
     let first-left = leaves_so First one s _ g₁ x₁ _ p₁ in
     let second-left = leaves_so Second two s _ g₃ x₃ _ p₃ in

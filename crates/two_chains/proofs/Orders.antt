@@ -49,11 +49,11 @@ module _ (first allowance : ℕ) (r : Outcome) (host1 host2 image0 image1 events
       λ i. record { came = told_so SecondController host2 came i; left = leaving Second SecondController (before Second other) (came.world i) }
 
 -- Two of them in a row are the first order.
-pub first-then-second :
+pub first_then_second_lem :
     (one two : Chain) (s between after : Both) (r q : Outcome) {x y : End} →
     ran_one_of r between ≡ ran_one First one s → ran_one_of q after ≡ ran_one Second two between → x ≡ end_in r → y ≡ end_in q →
     ran_both_of (record { first = x; second = y; units = q.units }) after ≡ ran_both FirstThenSecond one two s
-first-then-second one two s between after r q ran-one ran-two is_x is_y =
+first_then_second_lem one two s between after r q ran-one ran-two is_x is_y =
     let step = ap (λ (o : RanOne). o.left) ran-one in
     λ i.
     record {
@@ -70,28 +70,28 @@ mirrored s =
 abbrev turned : RanBoth → RanBoth
 turned r = record { first = r.second; second = r.first; left = mirrored r.left }
 
-other-order :
+other_order :
     (c d : Controller) (first allowance first' allowance' : ℕ) (s : Both) →
     let one : Chain = record { controller = c; first = first; allowance = allowance } in
     let two : Chain = record { controller = d; first = first'; allowance = allowance' } in
     turned (ran_both FirstThenSecond two one (mirrored s)) ≡ ran_both SecondThenFirst one two s
-other-order FirstController FirstController first allowance first' allowance' s = refl
-other-order FirstController SecondController first allowance first' allowance' s = refl
-other-order SecondController FirstController first allowance first' allowance' s = refl
-other-order SecondController SecondController first allowance first' allowance' s = refl
+other_order FirstController FirstController first allowance first' allowance' s = refl
+other_order FirstController SecondController first allowance first' allowance' s = refl
+other_order SecondController FirstController first allowance first' allowance' s = refl
+other_order SecondController SecondController first allowance first' allowance' s = refl
 
 pub exchanged :
     (one two : Chain) (s : Both) (x : Twice) (left : Both) →
     ran_both_of x (mirrored left) ≡ ran_both FirstThenSecond two one (mirrored s) →
     ran_both_of (record { first = x.second; second = x.first; units = x.units }) left ≡ ran_both SecondThenFirst one two s
 exchanged one two s x left is =
-    ap turned is ∙ other-order one.controller two.controller one.first one.allowance two.first two.allowance s
+    ap turned is ∙ other_order one.controller two.controller one.first one.allowance two.first two.allowance s
 
 -- Of independent chains the order does not matter, whichever it is.
-pub orders-are-one :
+pub orders_are_one :
     (c d : Chain) (s : Both) → Independent c d s → (o p : Order) →
     ran_both o c d s ≡ ran_both p c d s
-orders-are-one c d s apart o p = to_first o ∙ sym (to_first p)
+orders_are_one c d s apart o p = to_first o ∙ sym (to_first p)
   where
     either : EitherWay c d s
     either = either_way c d s apart

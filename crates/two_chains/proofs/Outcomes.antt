@@ -6,9 +6,9 @@ use Rattle.wire.specs.Promise.{OneOutcome}
 use Rattle.two_chains.specs.Orders.{both_of, ran_both_of}
 use Rattle.two_chains.proofs.run_both.Reads as run-both
 
-run-both-once :
+run_both_once :
     OneOutcome run-both.Post
     (λ κ x e.
     ran_both_of x
     (both_of e.0.now e.1.0.now e.1.1.0.now e.1.1.1.0.now e.1.1.1.1.0.now e.1.1.1.1.1.0.now e.1.1.1.1.1.1.0.now e.1.1.1.1.1.1.1.0.now x.units))
-run-both-once κ a x y e f p q = p ∙ sym q
+run_both_once κ a x y e f p q = p ∙ sym q

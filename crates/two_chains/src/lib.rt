@@ -9,7 +9,7 @@ use board::{End, Outcome, Units};
 use unit::Controller;
 
 // A chain as it is asked for: which controller runs it, from which block on, and how many blocks it may fetch.
-#[derive(Drop)]
+#[derive(Clone, Copy)]
 pub struct Chain {
     pub controller: Controller,
     pub first: u32,
@@ -17,14 +17,14 @@ pub struct Chain {
 }
 
 // Which of two chains is run first.
-#[derive(Drop)]
+#[derive(Clone, Copy)]
 pub enum Order {
     FirstThenSecond,
     SecondThenFirst,
 }
 
 // What two chains came to, and the records that they left.
-#[derive(Drop)]
+#[derive(Clone, Copy)]
 pub struct Twice {
     pub first: End,
     pub second: End,

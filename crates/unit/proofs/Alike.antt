@@ -12,15 +12,15 @@ use Rattle.spares.specs.Lands.{counted}
 use Rattle.spares.proofs.Alike.{good_alike, served_alike}
 use Rattle.unit.specs.declared.Record.{Record}
 use Rattle.unit.specs.Landing.{landed, onto, spot_at, spot_of, track_of}
-use Rattle.unit.specs.Landing.Behind.{landed-is, spot_of_is, track_of_is}
+use Rattle.unit.specs.Landing.Behind.{landed_is, spot_of_is, track_of_is}
 use Rattle.unit.specs.Standing.{CountsAsInitialized, unit_of}
 
 module _ (r : Record) (ts us : List ℕ) (same : counted r.pairs ts ≡ counted r.pairs us) where
   pub landed_alike : (a : Address) → landed (unit_of r ts) a ≡ landed (unit_of r us) a
   landed_alike a =
-      landed-is (unit_of r ts) a
+      landed_is (unit_of r ts) a
       ∙ ap (λ (s : Served). onto s a) (served_alike r.pairs ts us same r.geometry a.cylinder a.head)
-      ∙ sym (landed-is (unit_of r us) a)
+      ∙ sym (landed_is (unit_of r us) a)
 
   pub spot_alike : (v : VolumeNumber) (n : ℕ) → spot_of (unit_of r ts) v n ≡ spot_of (unit_of r us) v n
   spot_alike v n =

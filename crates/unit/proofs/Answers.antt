@@ -12,13 +12,13 @@ use Rattle.geometry.specs.declared.Place.{Place}
 use Rattle.geometry.specs.declared.VolumeNumber.{VolumeNumber}
 use Rattle.geometry.specs.Drive.{S, volume_sectors}
 use Rattle.geometry.specs.Sectors.{OnDrive, address}
-use Rattle.geometry.proofs.Answers.{at-found, at_placed, no_address, no_place}
+use Rattle.geometry.proofs.Answers.{at_found, at_placed, no_address, no_place}
 use Rattle.geometry.proofs.Laws.{address_on_drive}
 use Rattle.unit.specs.declared.Landing.{Landing}
 use Rattle.wire.proofs.Promises.{never}
 use Rattle.unit.specs.declared.Spot.{Spot}
 use Rattle.unit.specs.Landing.{landed, onto, spot_at, spot_of, track_of}
-use Rattle.unit.specs.Landing.Behind.{landed-is, spot_at_is, spot_of_is, track_of_is}
+use Rattle.unit.specs.Landing.Behind.{landed_is, spot_at_is, spot_of_is, track_of_is}
 use Rattle.unit.specs.Standing.{UnitRecord, geometry, pairs, table}
 use Rattle.unit.proofs.Laws.{landed_on_drive}
 use Rattle.spares.specs.declared.Served.{Served}
@@ -48,11 +48,11 @@ track_landing_is u c h = rw track_of_is
 
 -- ---- from the geometry's answers
 
-pub at-its-spot :
+pub at_its_spot :
     (g : Geometry) (a : Address) (p : ℕ) →
     placed g a ≡ Place.At p →
     Landing.At (record { cylinder = a.cylinder; place = p; rest = S g - a.sector }) ≡ spotted g a
-at-its-spot g a p is =
+at_its_spot g a p is =
     let at = at_placed g a p is in
     rw (spotted_inside g a at.0, spot_at_is, at.1)
 
@@ -72,7 +72,7 @@ own_spot g a s is =
 module _ (u : UnitRecord) (a : Address) (on : OnDrive (geometry u) a) {s : Served}
     (is : served_at (geometry u) (pairs u) (table u) a.cylinder a.head ≡ s) where
   lands_onto : landed u a ≡ onto s a
-  lands_onto = landed-is u a ∙ ap (λ (x : Served). onto x a) is
+  lands_onto = landed_is u a ∙ ap (λ (x : Served). onto x a) is
 
   pub served_spot : Landing.At (spot_at (geometry u) (onto s a)) ≡ landing_at u a
   served_spot = rw (landing_at_inside u a on, lands_onto)
@@ -85,11 +85,11 @@ unfolding landing_at
 nowhere u a is =
     sym (if_neg (on_drive? (geometry u) a) (λ on. never (cc (spotted_inside (geometry u) a on))) _ _)
 
-pub found-lands :
+pub found_lands :
     (u : UnitRecord) (v : VolumeNumber) (n : ℕ) (a : Address) →
     found (geometry u) v n ≡ Found.At a → landing_at u a ≡ landing u v n
-found-lands u v n a is =
-    let at = at-found (geometry u) v n a is in
+found_lands u v n a is =
+    let at = at_found (geometry u) v n a is in
     rw (
       at.1,
       landing_at_inside u _ (address_on_drive (geometry u) v n at.0),
@@ -97,16 +97,16 @@ found-lands u v n a is =
       spot_of_is,
     )
 
-pub not-found-lands :
+pub not_found_lands :
     (u : UnitRecord) (v : VolumeNumber) (n : ℕ) → found (geometry u) v n ≡ Found.Outside → Landing.Outside ≡ landing u v n
-not-found-lands u v n is = sym (landing_outside u v n (no_address (geometry u) v n is))
+not_found_lands u v n is = sym (landing_outside u v n (no_address (geometry u) v n is))
 
 -- ---- the other way: an answer tells which case it is
 
-pub at-landing :
+pub at_landing :
     (u : UnitRecord) (v : VolumeNumber) (n : ℕ) (s : Spot) →
     landing u v n ≡ Landing.At s → (n < volume_sectors (geometry u) v) × (s ≡ spot_of u v n)
-at-landing u v n s is =
+at_landing u v n s is =
     by_cases (dec_lt n (volume_sectors (geometry u) v)) (λ inside. (inside, cc (landing_inside u v n inside)))
     (λ out. absurd (never (cc (landing_outside u v n (omega arith)))))
 
@@ -123,11 +123,11 @@ at_address u a s is =
     by_cases (on_drive? (geometry u) a) (λ on. (on, cc (landing_at_inside u a on)))
     (λ out. absurd (never (cc (if_neg (on_drive? (geometry u) a) out (Landing.At (spot_at (geometry u) (landed u a))) Landing.Outside))))
 
-pub at-track :
+pub at_track :
     (u : UnitRecord) (c h : ℕ) (s : Spot) →
     track_landing u c h ≡ Landing.At s → OnDrive (geometry u) (address c h 0) × (s ≡ track_of u c h)
 unfolding track_landing
-at-track u c h s is =
+at_track u c h s is =
     by_cases (on_drive? (geometry u) (address c h 0))
     (λ on. (on, cc (if_pos (on_drive? (geometry u) (address c h 0)) on (Landing.At (track_of u c h)) Landing.Outside)))
     (λ out. absurd (never (cc (if_neg (on_drive? (geometry u) (address c h 0)) out (Landing.At (track_of u c h)) Landing.Outside))))

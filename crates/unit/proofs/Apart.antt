@@ -14,7 +14,7 @@ use Rattle.geometry.specs.declared.VolumeNumber.{VolumeNumber}
 use Rattle.geometry.specs.Drive.{S, drive_sectors, volume_sectors}
 use Rattle.geometry.specs.SectorBytes.{SectorByte}
 use Rattle.geometry.specs.Sectors.{OnDrive, address, address_of, mark_byte, place_of}
-use Rattle.geometry.specs.SectorBytes.SectorByte.{mark_byte}
+use Rattle.geometry.specs.SectorBytes.SectorByte.{mark_at}
 use Rattle.geometry.proofs.Ends.{heads_of_within}
 use Rattle.geometry.proofs.Laws as geometry
 use Rattle.spares.specs.declared.Served.{Served}
@@ -25,10 +25,10 @@ use Rattle.spares.specs.Tracks.{TrackOn, stands_for, track_number}
 use Rattle.spares.proofs.Laws.{Meet, lands_on_one, never_on_a_bad_track, number_again, one_place, served_by_its_spare, stands_for_it}
 use Rattle.spares.proofs.Laws.Meet.{the_same, served_by, serving}
 use Rattle.unit.specs.Landing.{landed, onto, spot_of, track_of}
-use Rattle.unit.specs.Landing.Behind.{landed-is, spot_at_is, spot_of_is, track_of_is}
+use Rattle.unit.specs.Landing.Behind.{landed_is, spot_at_is, spot_of_is, track_of_is}
 use Rattle.unit.specs.Standing.{CountsAsInitialized, UnitRecord, pairs, table}
 use Rattle.unit.specs.Standing as standing
-use Rattle.unit.proofs.Laws.{landed-in-a-row, landed_on_drive, landed_sector, lands-where-it-says}
+use Rattle.unit.proofs.Laws.{landed_in_a_row, landed_on_drive, landed_sector, lands_where_it_says}
 use Rattle.unit.specs.Bytes.{Bad, BadAndItsSpare, Meets, NoTwoInOnePlace, OnSpare, OnTrack, Paired, Reaches, TrackByte, track_named}
 use Rattle.spares.specs.Lands.{lands_on, number_serving, served}
 
@@ -48,7 +48,7 @@ module _ (u : UnitRecord) where
       let l = landed u (address c h 0) in
       ap (λ (p : ℕ). p + j) (ap (λ s. s.place) (track_of_is u c h ∙ spot_at_is shape l))
       ∙ sym (geometry.track_consecutive shape l.cylinder l.head l.sector j)
-      ∙ ap (place_of shape) (sym (landed-in-a-row u c h 0 j))
+      ∙ ap (place_of shape) (sym (landed_in_a_row u c h 0 j))
       ∙ ap (λ (k : ℕ). place_of shape (landed u (address c h k))) (zero-add j)
 
 -- ---- on a unit that counts as initialized
@@ -80,7 +80,7 @@ module _ (u : UnitRecord) (counts : CountsAsInitialized u) where
   lands_by_number : (a : Address) → OnDrive g a → lands_on g (pairs u) (table u) (named a) ≡ named (landed u a)
   lands_by_number a on =
       by_served (served g (pairs u) (table u) (named a))
-      ∙ ap named (sym (landed-is u a ∙ ap (λ (x : Served). onto x a) (by_its_number a on)))
+      ∙ ap named (sym (landed_is u a ∙ ap (λ (x : Served). onto x a) (by_its_number a on)))
     where
       by_served : (x : Served) → number_serving (named a) x ≡ named (onto x a)
       by_served Itself = refl
@@ -93,12 +93,12 @@ module _ (u : UnitRecord) (counts : CountsAsInitialized u) where
 
   -- "Every later command that lands on a bad track works on its spare": an address on the bad track of a pair lands on that pair's spare, at the same
   -- sector.
-  pub bad-lands-on-its-spare :
+  pub bad_lands_on_its_spare :
       (a : Address) → OnDrive g a → (spare : Track) → Paired u (track_named a) spare → landed u a ≡ address spare.cylinder spare.head a.sector
-  bad-lands-on-its-spare a on spare is =
+  bad_lands_on_its_spare a on spare is =
       let i = is.pair in
       let its = is_named a (2 * i) (omega (arith, is.counts)) is.its_bad in
-      landed-is u a
+      landed_is u a
       ∙ ap (λ (x : Served). onto x a)
       (by_its_number a on ∙ ap (served g (pairs u) (table u)) (sym its) ∙ served_by_its_spare g (pairs u) (table u) counts.good i is.counts
       ∙ ap Served.By is.its_spare)
@@ -106,7 +106,7 @@ module _ (u : UnitRecord) (counts : CountsAsInitialized u) where
   -- One on any other track lands where it says,
   pub others_land_where_they_say : (a : Address) → OnDrive g a → (Bad u (track_named a) → ⊥) → landed u a ≡ a
   others_land_where_they_say a on not_bad =
-      lands-where-it-says u a
+      lands_where_it_says u a
       (λ i less is.
       let counting : i < pairs u = omega arith in
       not_bad
@@ -125,7 +125,7 @@ module _ (u : UnitRecord) (counts : CountsAsInitialized u) where
   -- So an address on a bad track lands with the one on its spare at the same sector.
   on_one : (a b : Address) → OnDrive g a → OnDrive g b → BadAndItsSpare u a b → landed u a ≡ landed u b
   on_one a b on-a on-b it =
-      bad-lands-on-its-spare a on-a (track_named b) it.paired ∙ ap (λ (s : ℕ). address b.cylinder b.head s) it.sector
+      bad_lands_on_its_spare a on-a (track_named b) it.paired ∙ ap (λ (s : ℕ). address b.cylinder b.head s) it.sector
       ∙ sym (spare_lands_on_itself b on-b (track_named a, it.paired))
 
   -- ---- no bad track is reached
@@ -159,10 +159,10 @@ module _ (u : UnitRecord) (counts : CountsAsInitialized u) where
 
   module _ (a b : Address) (on-a : OnDrive g a) (on-b : OnDrive g b) where
     -- Mapping never folds two tracks: where two addresses land on one track they name one, or one of them names a bad track and the other its spare.
-    pub never-folds-two :
+    pub never_folds_two :
         track_named (landed u a) ≡ track_named (landed u b) →
         (track_named a ≡ track_named b) ⊎ (Paired u (track_named a) (track_named b) ⊎ Paired u (track_named b) (track_named a))
-    never-folds-two same =
+    never_folds_two same =
         by_meeting
         (lands_on_one g (pairs u) (table u) counts.good (named a) (named b)
         (lands_by_number a on-a ∙ ap (λ (k : Track). track_number k.cylinder k.head) same ∙ sym (lands_by_number b on-b)))
@@ -181,7 +181,7 @@ module _ (u : UnitRecord) (counts : CountsAsInitialized u) where
         by_meeting (serving i less bad spare) = inr (inr (pair_of b a on-b on-a i less bad spare))
 
     meets_in_one_place : place_of g (landed u a) ≡ place_of g (landed u b) → Meets u a b
-    meets_in_one_place same = by_track (never-folds-two (ap track_named there))
+    meets_in_one_place same = by_track (never_folds_two (ap track_named there))
       where
         there : landed u a ≡ landed u b
         there = geometry.places_differ g (landed u a) (landed u b) (landed_on_drive u a on-a) (landed_on_drive u b on-b) same
@@ -207,7 +207,7 @@ module _ (u : UnitRecord) (counts : CountsAsInitialized u) where
           (geometry.sectors_apart g (place_of g (landed u a)) (place_of g (landed u b)) x (landed_inside a on-a) (landed_inside b on-b) here there),
       λ meets. (
         mark_byte g (place_of g (landed u a)),
-        (mark_byte refl, mark_byte (ap (λ (l : Address). mark_byte g (place_of g l)) (lands_with_it meets))),
+        (mark_at refl, mark_at (ap (λ (l : Address). mark_byte g (place_of g l)) (lands_with_it meets))),
       ),
     )
 
@@ -221,13 +221,13 @@ module _ (u : UnitRecord) (counts : CountsAsInitialized u) where
       by_meeting (inr (inr it)) = none-a (track_named b, it.paired)
 
   -- The same of two sectors of volumes, by their numbers.
-  pub numbers-never-in-one-place :
+  pub numbers_never_in_one_place :
       (v w : VolumeNumber) (n m : ℕ) → n < volume_sectors g v → m < volume_sectors g w → ((v ≡ w) × (n ≡ m) → ⊥) →
       (OnSpare u (address_of g v n) → ⊥) → (OnSpare u (address_of g w m) → ⊥) →
       (x : ℕ) → SectorByte g (spot_of u v n).place x → SectorByte g (spot_of u w m).place x → ⊥
-  numbers-never-in-one-place v w n m n-in m-in differ none-n none-m x here there =
+  numbers_never_in_one_place v w n m n-in m-in differ none-n none-m x here there =
       no_two_in_one_place (address_of g v n) (address_of g w m) (geometry.address_on_drive g v n n-in) (geometry.address_on_drive g w m m-in)
-      (λ one. differ (geometry.sectors-of-volumes-differ g counts.within.volumes v w n m n-in m-in (ap (place_of g) one)))
+      (λ one. differ (geometry.sectors_of_volumes_differ g counts.within.volumes v w n m n-in m-in (ap (place_of g) one)))
       none-n none-m x
       (subst (λ (p : ℕ). SectorByte g p x) (number_lands u v n) here)
       (subst (λ (p : ℕ). SectorByte g p x) (number_lands u w m) there)

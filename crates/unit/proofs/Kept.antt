@@ -22,10 +22,10 @@ module _ (u : UnitRecord) (counts : CountsAsInitialized u) where
   pub moved_counts : (c : ℕ) → c < C (geometry u) → CountsAsInitialized (moved_to u c)
   moved_counts c on = record { said = counts.said; within = counts.within; cylinder = on; good = counts.good }
 
-  pub mapped-counts :
+  pub mapped_counts :
       (bad spare : ℕ) → TrackOn (geometry u) bad → TrackOn (geometry u) spare → Free (pairs u) (table u) bad spare → pairs u < 32 →
       CountsAsInitialized (mapped u bad spare)
-  mapped-counts bad spare bad_on spare_on free room =
+  mapped_counts bad spare bad_on spare_on free room =
       record {
         said = counts.said;
         within = counts.within;

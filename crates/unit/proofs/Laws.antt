@@ -17,7 +17,7 @@ use Rattle.spares.specs.Tracks.{track_number}
 use Rattle.spares.proofs.Laws.{itself_at, server_at_on_drive, serves_itself}
 use Rattle.unit.specs.declared.Spot.{Spot}
 use Rattle.unit.specs.Landing.{landed, onto, spot_at, spot_of, track_of}
-use Rattle.unit.specs.Landing.Behind.{landed-is, spot_at_is, spot_of_is, track_of_is}
+use Rattle.unit.specs.Landing.Behind.{landed_is, spot_at_is, spot_of_is, track_of_is}
 use Rattle.unit.specs.Standing.{UnitRecord, pairs, table}
 use Rattle.unit.specs.Standing as standing
 
@@ -46,20 +46,20 @@ module _ (u : UnitRecord) where
   serving c h = served_at shape (pairs u) (table u) c h
 
   -- An address whose track no pair has as bad lands where it says,
-  pub lands-where-it-says :
+  pub lands_where_it_says :
       (a : Address) → ((i : ℕ) → i < min (pairs u) 32 → bad_of (table u) i ≡ track_number a.cylinder a.head → ⊥) → landed u a ≡ a
-  lands-where-it-says a none =
+  lands_where_it_says a none =
       let t = track_number a.cylinder a.head in
-      landed-is u a
+      landed_is u a
       ∙ ap (λ (x : Served). onto x a)
       (itself_at shape (pairs u) (table u) a.cylinder a.head (serves_itself shape (pairs u) (table u) t none))
 
   -- and so does every one where no pair counts.
   pub no_pairs_lands_there : pairs u ≡ 0 → (a : Address) → landed u a ≡ a
-  no_pairs_lands_there none a = lands-where-it-says a (λ i less. absurd (omega (arith, rw none at less)))
+  no_pairs_lands_there none a = lands_where_it_says a (λ i less. absurd (omega (arith, rw none at less)))
 
   pub landed_on_drive : (a : Address) → OnDrive shape a → OnDrive shape (landed u a)
-  landed_on_drive a on = rw landed-is (by_served (serving a.cylinder a.head) refl)
+  landed_on_drive a on = rw landed_is (by_served (serving a.cylinder a.head) refl)
     where
       by_served : (s : Served) → serving a.cylinder a.head ≡ s → OnDrive shape (onto s a)
       by_served Itself is = on
@@ -72,27 +72,27 @@ module _ (u : UnitRecord) where
   address_inside a on = spot_at_inside shape (landed u a) (landed_on_drive a on)
 
   pub landed_sector : (a : Address) → (landed u a).sector ≡ a.sector
-  landed_sector a = rw landed-is (by_served (serving a.cylinder a.head))
+  landed_sector a = rw landed_is (by_served (serving a.cylinder a.head))
     where
       by_served : (s : Served) → (onto s a).sector ≡ a.sector
       by_served Itself = refl
       by_served (By k) = refl
 
   -- A track lands as a whole: each of its sectors on the same sector of one track,
-  pub lands-as-a-whole :
+  pub lands_as_a_whole :
       (c h s : ℕ) → landed u (address c h s) ≡ address (landed u (address c h 0)).cylinder (landed u (address c h 0)).head s
-  lands-as-a-whole c h s = rw (landed-is u (address c h s), landed-is u (address c h 0)) (by_served (serving c h))
+  lands_as_a_whole c h s = rw (landed_is u (address c h s), landed_is u (address c h 0)) (by_served (serving c h))
     where
       by_served : (x : Served) → onto x (address c h s) ≡ address (onto x (address c h 0)).cylinder (onto x (address c h 0)).head s
       by_served Itself = refl
       by_served (By t) = refl
 
   -- so that sectors in a row land in a row.
-  pub landed-in-a-row :
+  pub landed_in_a_row :
       (c h s k : ℕ) →
       landed u (address c h (s + k)) ≡
       address (landed u (address c h s)).cylinder (landed u (address c h s)).head ((landed u (address c h s)).sector + k)
-  landed-in-a-row c h s k = rw (lands-as-a-whole c h (s + k), lands-as-a-whole c h s)
+  landed_in_a_row c h s k = rw (lands_as_a_whole c h (s + k), lands_as_a_whole c h s)
 
   -- ---- a track
 
@@ -121,16 +121,16 @@ module _ (u : UnitRecord) (v : VolumeNumber) where
   spot_inside n inside = rw spot_of_is (address_inside u _ (geometry.address_on_drive g v n inside))
 
   -- The rest of a track is consecutive, in the volume and in the image.
-  pub spots-consecutive :
+  pub spots_consecutive :
       (n k : ℕ) → n < volume_sectors g v → k < (spot_of u v n).rest →
       (n + k < volume_sectors g v) × ((spot_of u v (n + k)).place ≡ (spot_of u v n).place + k)
-  spots-consecutive n k inside rest =
+  spots_consecutive n k inside rest =
       let here = parts n in
       let there = parts (n + k) in
       let a = address_of g v n in
       let more : a.sector + k < S g = omega arith in
       let next : lands (n + k) ≡ address (lands n).cylinder (lands n).head ((lands n).sector + k) =
-      ap (landed u) (geometry.track-numbers g v n inside k more) ∙ landed-in-a-row u a.cylinder a.head a.sector k in (
+      ap (landed u) (geometry.track_numbers g v n inside k more) ∙ landed_in_a_row u a.cylinder a.head a.sector k in (
         geometry.track_inside g v n inside k more,
         there.1.0 ∙ ap (place_of g) next ∙ geometry.track_consecutive g (lands n).cylinder (lands n).head (lands n).sector k ∙
             ap (λ (x : ℕ). x + k) (sym here.1.0),

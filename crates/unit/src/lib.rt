@@ -20,21 +20,21 @@ use spares::Served;
 mod numbers;
 
 // One of the board's two units.
-#[derive(Drop)]
+#[derive(Clone, Copy)]
 pub enum UnitNumber {
     Zero,
     One,
 }
 
 // One of the two controllers that can share a drive.
-#[derive(Drop)]
+#[derive(Clone, Copy)]
 pub enum Controller {
     First,
     Second,
 }
 
 // Who holds a drive.
-#[derive(Drop)]
+#[derive(Clone, Copy)]
 pub enum Holder {
     Nobody,
     TheFirst,
@@ -111,7 +111,7 @@ impl Holder {
 
 // A unit's record, of any contents: what it says of itself is judged by `counts_as_initialized`. Its table of bad tracks is lent beside it; here
 // is how many pairs of that count.
-#[derive(Drop)]
+#[derive(Clone, Copy)]
 pub struct Record {
     initialized: bool,
     geometry: Geometry,
@@ -122,7 +122,7 @@ pub struct Record {
 
 // Where a sector stands: its cylinder, its place in the image, and how many sectors there are from it to the end of its
 // track, itself counted, which follow one another in the image.
-#[derive(Drop)]
+#[derive(Clone, Copy)]
 pub struct Spot {
     pub cylinder: u16,
     pub place: u64,
@@ -130,7 +130,7 @@ pub struct Spot {
 }
 
 // Consecutive sectors of a volume, from a number on.
-#[derive(Drop)]
+#[derive(Clone, Copy)]
 pub struct Span {
     pub volume: VolumeNumber,
     pub first: u64,
@@ -138,7 +138,7 @@ pub struct Span {
 }
 
 // Where a request lands, if the drive has what it names.
-#[derive(Drop)]
+#[derive(Clone, Copy)]
 pub enum Landing {
     At(Spot),
     Outside,

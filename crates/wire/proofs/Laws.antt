@@ -13,12 +13,12 @@ use Rattle.wire.specs.Words.{word}
 use Rattle.wire.specs.Storing.{stored}
 
 -- A word of j + k bytes is the word of the first j, k bytes higher, and the word of the other k.
-pub word-joins :
+pub word_joins :
     (j k : ℕ) (bytes : List ℕ) (at : ℕ) →
     word (j + k) bytes at ≡ word j bytes at * 256 ^ k + word k bytes (at + j)
 unfolding word
-word-joins j zero bytes at = rw add-zero (omega arith)
-word-joins j (suc k) bytes at = rw (add-suc, word-joins j k bytes at, add_assoc at j k, pow-suc) (omega arith)
+word_joins j zero bytes at = rw add-zero (omega arith)
+word_joins j (suc k) bytes at = rw (add-suc, word_joins j k bytes at, add_assoc at j k, pow-suc) (omega arith)
 
 -- A word of k bytes is below 256 ^ k.
 pub word_below : (k : ℕ) (bytes : List ℕ) (at : ℕ) → ((i : ℕ) → get_or bytes i 0 < 256) → word k bytes at < 256 ^ k
@@ -50,16 +50,16 @@ word_same (suc k) a b at to same =
     rw (word_same k a b at to (λ i h. same i (omega arith)), same k (omega arith))
 
 -- What was stored is read back.
-pub word-stored :
+pub word_stored :
     (k : ℕ) (bytes : List ℕ) (at v : ℕ) → at + k ≤ length bytes → v < 256 ^ k → word k (stored k bytes at v) at ≡ v
 unfolding word stored
-word-stored zero bytes at v fits small = omega arith
-word-stored (suc k) bytes at v fits small =
+word_stored zero bytes at v fits small = omega arith
+word_stored (suc k) bytes at v fits small =
     let rest : List ℕ = stored k bytes at (v / 256) in
     let high : word k (set rest (at + k) (v % 256)) at ≡ v / 256 =
     word_same k (set rest (at + k) (v % 256)) rest at at
     (λ i h. get_or-set_other rest (at + k) (at + i) (v % 256) 0 (λ e. omega arith))
-    ∙ word-stored k bytes at (v / 256) (omega arith) (omega (arith, pow-suc 256 k)) in
+    ∙ word_stored k bytes at (v / 256) (omega arith) (omega (arith, pow-suc 256 k)) in
     let low : get_or (set rest (at + k) (v % 256)) (at + k) 0 ≡ v % 256 =
     get_or-set_same rest (at + k) (v % 256) 0 (omega (arith, length_stored k bytes at (v / 256))) in
     rw (high, low) (omega arith)

@@ -36,12 +36,12 @@ says_beq false true = false≢true
 says_beq false false = refl
 
 -- Two answers, about what holds below a bound and at it, make one about what holds up to it.
-pub says-all-more :
+pub says_all_more :
     (s t : Bool) (P : ℕ → Type 0) (n : ℕ) →
     Says s ((i : ℕ) → i < n → P i) → Says t (P n) → Says (s && t) ((i : ℕ) → i < suc n → P i)
-says-all-more true true P n each last = all_more P n each last
-says-all-more true false P n each last = λ all. last (all n (omega arith))
-says-all-more false t P n each last = λ all. each (λ i h. all i (omega arith))
+says_all_more true true P n each last = all_more P n each last
+says_all_more true false P n each last = λ all. last (all n (omega arith))
+says_all_more false t P n each last = λ all. each (λ i h. all i (omega arith))
 
 -- An answer about one statement is an answer about another that holds in the same cases.
 pub says_same : (t : Bool) (P Q : Type 0) → (P → Q) → (Q → P) → Says t P → Says t Q

@@ -14,7 +14,7 @@ use Rattle.geometry.specs.Limits.{Has, Present}
 use Rattle.geometry.specs.Orders.{ordered}
 use Rattle.geometry.specs.Sectors.{numbered}
 use Rattle.geometry.specs.Sectors.Inside.{address_of_is, number_of_is, place_of_is}
-use Rattle.geometry.proofs.Answers.{numbered-inside}
+use Rattle.geometry.proofs.Answers.{numbered_inside}
 use Rattle.geometry.proofs.Ends.{end_present}
 use Rattle.spares.proofs.Laws.{empty_is_good}
 use Rattle.unit.proofs.Laws.{no_pairs_lands_there}
@@ -114,4 +114,4 @@ number by c h s =
     (steps.0 * each by Zero + steps.1) * 4 + s
 
 pub begins_at_lem : (by : Bool) (c h s : ℕ) → (c < 10) × (h < 2) × (s < 4) → numbered (drive_by by) Zero c h s ≡ Number.Is (number by c h s)
-begins_at_lem by c h s is = numbered-inside (drive_by by) Zero c h s (omega arith) ∙ ap Number.Is (number_of_is (drive_by by) Zero c h s)
+begins_at_lem by c h s is = numbered_inside (drive_by by) Zero c h s (omega arith) ∙ ap Number.Is (number_of_is (drive_by by) Zero c h s)

@@ -17,7 +17,7 @@ use Rattle.geometry.specs.Drive.Inside.{drive_sectors_is, marks_at_is}
 use Rattle.geometry.specs.SectorBytes.{SectorByte}
 use Rattle.geometry.specs.Sectors.{OnDrive, address, address_of, place_of}
 use Rattle.geometry.specs.Sectors.Inside.{address_of_is, first_byte_is, mark_byte_is, place_of_is}
-use Rattle.geometry.specs.SectorBytes.SectorByte.{data_byte_lem, mark_byte}
+use Rattle.geometry.specs.SectorBytes.SectorByte.{data_at, mark_at}
 use Rattle.spares.specs.declared.Track.{Track}
 use Rattle.spares.specs.Lands.{InTable}
 use Rattle.spares.specs.Table.{bad_of, spare_of}
@@ -26,8 +26,8 @@ use Rattle.spares.proofs.Adding.{before_the_pair, its_bad, its_spare}
 use Rattle.spares.proofs.Laws.{on_drive_by_parts, stands_for_it}
 use Rattle.unit.specs.Landing.{landed}
 use Rattle.unit.specs.Standing.{CountsAsInitialized, UnitRecord, mapped, no_tracks, pairs, table}
-use Rattle.unit.proofs.Apart.{bad-lands-on-its-spare, number_lands, spare_lands_on_itself}
-use Rattle.unit.proofs.Laws.{lands-where-it-says}
+use Rattle.unit.proofs.Apart.{bad_lands_on_its_spare, number_lands, spare_lands_on_itself}
+use Rattle.unit.proofs.Laws.{lands_where_it_says}
 use Rattle.worked.specs.SmallDrive.{All, Holds, drive, lands, spared, unit, with_spares}
 use Rattle.worked.specs.SmallDrive.Line.{meet}
 use Rattle.worked.proofs.Drive.{counts, heads_3, sectors_40, sectors_80}
@@ -151,7 +151,7 @@ named a = track_number a.cylinder a.head
 -- On a track that neither pair has as bad, where they say.
 stays : (a : Address) → (named a ≡ bad0 → ⊥) × (named a ≡ bad1 → ⊥) → landed with_spares a ≡ a
 stays a other =
-    lands-where-it-says with_spares a
+    lands_where_it_says with_spares a
     (λ i less is.
     by_cases (dec_lt i 1)
     (λ first.
@@ -193,19 +193,19 @@ as_before :
 as_before v n a less leads other = stands_at v n a less (ap (landed with_spares) leads ∙ stays a other)
 
 -- and one that leads to a bad track on the spare of that.
-on-its-spare :
+on_its_spare :
     (v : VolumeNumber) (n : ℕ) (a : Address) (k : Track) → n < 40 → address_of drive v n ≡ a → (a.cylinder < 10) × (a.head < 3) × (a.sector < 4) →
     Paired with_spares (track_named a) k →
     Holds (lands v n (place_at (address k.cylinder k.head a.sector)) (place_at (address k.cylinder k.head a.sector) * 64))
-on-its-spare v n a k less leads on pair =
+on_its_spare v n a k less leads on pair =
     stands_at v n (address k.cylinder k.head a.sector) less
-    (ap (landed with_spares) leads ∙ bad-lands-on-its-spare with_spares counts_still a (there a on) k pair)
+    (ap (landed with_spares) leads ∙ bad_lands_on_its_spare with_spares counts_still a (there a on) k pair)
 
 -- An address on a bad track and the one on its spare at the same sector, which is what lands there itself.
-they-meet :
+they_meet :
     (a b : Address) (x : ℕ) → (a.cylinder < 10) × (a.head < 3) × (a.sector < 4) → (b.cylinder < 10) × (b.head < 3) × (b.sector < 4) →
     (a ≡ b → ⊥) → BadAndItsSpare with_spares a b → SectorByte drive (place_at b) x → Holds (meet a b x)
-they-meet a b x on-a on-b differ it here =
+they_meet a b x on-a on-b differ it here =
     record {
       reached = reached;
       first_on = there a on-a;
@@ -221,7 +221,7 @@ they-meet a b x on-a on-b differ it here =
   where
     a_lands : landed with_spares a ≡ b
     a_lands =
-        bad-lands-on-its-spare with_spares counts_still a (there a on-a) (track_named b) it.paired
+        bad_lands_on_its_spare with_spares counts_still a (there a on-a) (track_named b) it.paired
         ∙ ap (λ (s : ℕ). address b.cylinder b.head s) it.sector
 
     b_lands : landed with_spares b ≡ b
@@ -235,17 +235,17 @@ cylinders_differ a b differ same = differ (ap (λ (a : Address). a.cylinder) sam
 pub spared_hold : All spared
 spared_hold =
     as_before Zero 7 (address 0 1 3) (omega arith) (address_of_is drive Zero 7) (omega arith)
-    and on-its-spare Zero 8 (address 1 0 0) (track 9 2) (omega arith) (address_of_is drive Zero 8) (omega arith) pair0
-    and on-its-spare Zero 10 (address 1 0 2) (track 9 2) (omega arith) (address_of_is drive Zero 10) (omega arith) pair0
+    and on_its_spare Zero 8 (address 1 0 0) (track 9 2) (omega arith) (address_of_is drive Zero 8) (omega arith) pair0
+    and on_its_spare Zero 10 (address 1 0 2) (track 9 2) (omega arith) (address_of_is drive Zero 10) (omega arith) pair0
     and as_before Zero 12 (address 1 1 0) (omega arith) (address_of_is drive Zero 12) (omega arith)
-    and on-its-spare Zero 31 (address 3 1 3) (track 0 2) (omega arith) (address_of_is drive Zero 31) (omega arith) pair1
+    and on_its_spare Zero 31 (address 3 1 3) (track 0 2) (omega arith) (address_of_is drive Zero 31) (omega arith) pair1
     and as_before One 3 (address 0 2 3) (omega arith) (address_of_is drive One 3) (omega arith)
     and as_before One 35 (address 8 2 3) (omega arith) (address_of_is drive One 35) (omega arith)
     and as_before One 38 (address 9 2 2) (omega arith) (address_of_is drive One 38) (omega arith)
-    and they-meet (address 1 0 2) (address 9 2 2) 7552 (omega arith) (omega arith) (cylinders_differ _ _ (λ is. omega arith))
-    (record { paired = pair0; sector = refl }) (data_byte_lem (omega (arith, first_byte_is drive 118)))
-    and they-meet (address 1 0 2) (address 9 2 2) 7798 (omega arith) (omega arith) (cylinders_differ _ _ (λ is. omega arith))
-    (record { paired = pair0; sector = refl }) (mark_byte (omega (arith, mark_byte_is drive 118, marks_at_is drive, drive_sectors_is drive, heads_3)))
-    and they-meet (address 3 1 3) (address 0 2 3) 767 (omega arith) (omega arith) (cylinders_differ _ _ (λ is. omega arith))
-    (record { paired = pair1; sector = refl }) (data_byte_lem (omega (arith, first_byte_is drive 11)))
+    and they_meet (address 1 0 2) (address 9 2 2) 7552 (omega arith) (omega arith) (cylinders_differ _ _ (λ is. omega arith))
+    (record { paired = pair0; sector = refl }) (data_at (omega (arith, first_byte_is drive 118)))
+    and they_meet (address 1 0 2) (address 9 2 2) 7798 (omega arith) (omega arith) (cylinders_differ _ _ (λ is. omega arith))
+    (record { paired = pair0; sector = refl }) (mark_at (omega (arith, mark_byte_is drive 118, marks_at_is drive, drive_sectors_is drive, heads_3)))
+    and they_meet (address 3 1 3) (address 0 2 3) 767 (omega arith) (omega arith) (cylinders_differ _ _ (λ is. omega arith))
+    (record { paired = pair1; sector = refl }) (data_at (omega (arith, first_byte_is drive 11)))
     and tt

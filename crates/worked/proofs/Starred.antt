@@ -4,7 +4,7 @@ use Prim.Native.Nat.{ℕ, ◌+◌, ◌*◌, ◌≤◌, ◌<◌}
 use mathlib.Core.Bool.{Bool, true, false}
 use mathlib.Core.Path.{◌≡◌, refl, sym, subst, ◌∙◌}
 use native.Mathlib.Omega.{arith}
-use Rattle.geometry.proofs.Answers.{numbered-outside}
+use Rattle.geometry.proofs.Answers.{numbered_outside}
 use Rattle.geometry.specs.Sectors.{Covers}
 use Rattle.answers.specs.declared.Refusal.{Refusal}
 use Rattle.answers.specs.declared.Refusal.TheVariants.{ImageShort, ListBad, SectorOutside}
@@ -17,7 +17,7 @@ use Rattle.geometry.specs.Sectors.Inside.{first_byte_is}
 use Rattle.judge.specs.declared.Verdict.TheVariants.{Refused}
 use Rattle.judge.specs.Given.{Asked, start_number}
 use Rattle.judge.specs.Verdict.{verdict}
-use Rattle.judge.proofs.Tasks.{list_18, list_done, move_on, own, piece-done, span_17, span_last, span_on, start_nowhere}
+use Rattle.judge.proofs.Tasks.{list_18, list_done, move_on, own, piece_done, span_17, span_last, span_on, start_nowhere}
 use Rattle.request.specs.declared.Buffer.{Buffer}
 use Rattle.request.specs.declared.Move.{Move}
 use Rattle.request.specs.declared.Start.{Start}
@@ -31,9 +31,9 @@ use Rattle.judge.specs.Steps.{from_buffer, from_sectors}
 
 -- ---- any sector
 
-stands-there :
+stands_there :
     (by : Bool) (v : VolumeNumber) (n : ℕ) → n < volume_sectors (drive_by by) v → Stands (unit_by by) v n (place by v n) (place by v n * 64)
-stands-there by v n inside =
+stands_there by v n inside =
     record { in_volume = inside; there = place_is by v n; first_byte_lem = first_byte_is (drive_by by) (place by v n) }
 
 -- From a physical address on.
@@ -85,14 +85,14 @@ module _ (by : Bool) (from : Start) (count image : ℕ) (b : Buffer) where
 
 -- ---- by its buffer
 
-read-passes :
+read_passes :
     (by : Bool) (from : Start) (n count image : ℕ) → start_number (drive_by by) Zero from ≡ Number.Is n →
     (0 < count) × (n + count ≤ 80) × (7800 ≤ image) → Judged by (move from count (Buffer.Piece 512)) image passes
-read-passes by from n count image begins is =
+read_passes by from n count image begins is =
     let b = Buffer.Piece 512 in
     rw begins
     (by_its_buffer by from count image b n begins is
-    ∙ piece-done First (unit_by by) image host (move from count b) 512 refl n begins (piece_good (count * 64) (omega arith)))
+    ∙ piece_done First (unit_by by) image host (move from count b) 512 refl n begins (piece_good (count * 64) (omega arith)))
 
 list_of_64_passes : Holds (scatters 64 passes)
 list_of_64_passes =
@@ -110,13 +110,13 @@ list_over_64_is_18 k over =
 -- ---- outside
 
 -- A cylinder, a head or a sector that volume 0 has not: no number at all.
-nowhere-is-16 :
+nowhere_is_16 :
     (by : Bool) (c h s : ℕ) → ((c < 10) × (h < 2) × (s < 4) → ⊥) → Judged by (move (Start.Physical c h s) 1 (Buffer.Piece 512)) 7800 (answer 16)
-nowhere-is-16 by c h s out =
+nowhere_is_16 by c h s out =
     let m = move (Start.Physical c h s) 1 (Buffer.Piece 512) in
     refused_so _ SectorOutside
     (by_its_sectors by (Start.Physical c h s) 1 7800 (Buffer.Piece 512) (omega arith) ∙
-    start_nowhere First (unit_by by) 7800 host m (numbered-outside (drive_by by) Zero c h s (λ in-it. out (omega arith))))
+    start_nowhere First (unit_by by) 7800 host m (numbered_outside (drive_by by) Zero c h s (λ in-it. out (omega arith))))
 
 -- ---- the table
 
@@ -127,37 +127,37 @@ a and b = (a, b)
 
 pub starred_hold : All starred
 starred_hold =
-    stands-there true Zero _ (omega (arith, sectors_80))
-    and stands-there true Zero _ (omega (arith, sectors_80))
-    and stands-there true Zero _ (omega (arith, sectors_80))
-    and stands-there true Zero _ (omega (arith, sectors_80))
-    and stands-there true One _ (omega (arith, sectors_40))
+    stands_there true Zero _ (omega (arith, sectors_80))
+    and stands_there true Zero _ (omega (arith, sectors_80))
+    and stands_there true Zero _ (omega (arith, sectors_80))
+    and stands_there true Zero _ (omega (arith, sectors_80))
+    and stands_there true One _ (omega (arith, sectors_40))
     and outside_is_16 true _ 1 7800 _ 80 refl (omega arith)
-    and read-passes true _ 0 80 7800 refl (omega arith)
+    and read_passes true _ 0 80 7800 refl (omega arith)
     and outside_is_16 true _ 81 7800 _ 0 refl (omega arith)
     and outside_is_16 true _ 2 7800 _ 79 refl (omega arith)
     and short_is_17 true _ 1 7799 _ 0 refl (omega arith)
-    and read-passes true _ 0 1 7800 refl (omega arith)
+    and read_passes true _ 0 1 7800 refl (omega arith)
     and list_of_64_passes
     and list_over_64_is_18 65 (omega arith)
     and tt
 
 pub by_cylinder_hold : All by_cylinder
 by_cylinder_hold =
-    stands-there false Zero _ (omega (arith, volume_0 false))
-    and stands-there false Zero _ (omega (arith, volume_0 false))
-    and stands-there false Zero _ (omega (arith, volume_0 false))
-    and stands-there false Zero _ (omega (arith, volume_0 false))
+    stands_there false Zero _ (omega (arith, volume_0 false))
+    and stands_there false Zero _ (omega (arith, volume_0 false))
+    and stands_there false Zero _ (omega (arith, volume_0 false))
+    and stands_there false Zero _ (omega (arith, volume_0 false))
     and outside_is_16 false _ 1 7800 _ 80 refl (omega arith)
     and two_from false 0 1 3 (omega arith)
     and two_from true 0 1 3 (omega arith)
     and two_from false 9 0 3 (omega arith)
     and two_from true 9 0 3 (omega arith)
-    and read-passes false _ 40 40 7800 (begins_at_lem false 0 1 0 (omega arith)) (omega arith)
+    and read_passes false _ 40 40 7800 (begins_at_lem false 0 1 0 (omega arith)) (omega arith)
     and outside_is_16 false _ 41 7800 _ 40 (begins_at_lem false 0 1 0 (omega arith)) (omega arith)
-    and read-passes true _ 4 76 7800 (begins_at_lem true 0 1 0 (omega arith)) (omega arith)
+    and read_passes true _ 4 76 7800 (begins_at_lem true 0 1 0 (omega arith)) (omega arith)
     and outside_is_16 true _ 77 7800 _ 4 (begins_at_lem true 0 1 0 (omega arith)) (omega arith)
-    and nowhere-is-16 false 10 0 0 (λ on. omega arith)
-    and nowhere-is-16 false 0 0 4 (λ on. omega arith)
-    and nowhere-is-16 true 0 2 0 (λ on. omega arith)
+    and nowhere_is_16 false 10 0 0 (λ on. omega arith)
+    and nowhere_is_16 false 0 0 4 (λ on. omega arith)
+    and nowhere_is_16 true 0 2 0 (λ on. omega arith)
     and tt

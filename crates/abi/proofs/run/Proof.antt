@@ -1,7 +1,7 @@
 -- The records that stand in the bytes go in, and board's run comes out as bytes again.
 -- What each function stored is the part of the definition that bears its name.
 use mathlib.Core.Path.{refl}
-use Rattle.abi.proofs.Called.{made-is}
+use Rattle.abi.proofs.Called.{made_is}
 use Rattle.abi.specs.Calls.{lent_of}
 use borrow.Author.Rules.{rules}
 use Rattle.abi.proofs.run.Statement.{statement}
@@ -81,7 +81,7 @@ returns c =
     let one = second run in
     let zero = first one.before in
     let a = (start zero).args in
-    made-is a.c a.first a.allowance
+    made_is a.c a.first a.allowance
     (lent_of a.host.now a.image0.now a.image1.now a.events.now a.record0.now a.record1.now a.outcome.now)
     _ zero.unit-in.ensures one.unit-in2.ensures run.run.ensures left.leave-record.ensures (left_one said).leave-record2.ensures
     said.number.ensures stored.put-outcome.ensures

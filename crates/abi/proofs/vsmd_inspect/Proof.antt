@@ -1,7 +1,7 @@
 -- A record that is too short is met before anything is stored.
 -- Past both tests the part is board's, of the records that stand in the bytes.
-use Rattle.abi.proofs.Called.{inspection-made, inspection-refused-0, inspection-refused-1}
-use Rattle.abi.proofs.AsRead.{part-as-read}
+use Rattle.abi.proofs.Called.{inspection_made, inspection_refused_0, inspection_refused_1}
+use Rattle.abi.proofs.AsRead.{part_as_read}
 use native.Mathlib.Omega.{arith}
 use mathlib.Core.Path.{refl, sym}
 use borrow.Author.Rules.{rules}
@@ -15,12 +15,12 @@ start c = c.before.before
 returns : tie.Need-returns
 returns c =
     let a = (start c.before).args in
-    sym (inspection-refused-0 a.record0.now a.record1.now a.long0 a.long1 a.unit a.place _ _ _ (omega arith))
+    sym (inspection_refused_0 a.record0.now a.record1.now a.long0 a.long1 a.unit a.place _ _ _ (omega arith))
 
 returns-2 : tie.Need-returns-2
 returns-2 c =
     let a = (start c.before.before).args in
-    sym (inspection-refused-1 a.record0.now a.record1.now a.long0 a.long1 a.unit a.place _ _ _ (omega arith) (omega arith))
+    sym (inspection_refused_1 a.record0.now a.record1.now a.long0 a.long1 a.unit a.place _ _ _ (omega arith) (omega arith))
 
 unit-in-requires : tie.Need-unit-in-requires
 unit-in-requires c κs = (search rules, refl)
@@ -40,9 +40,9 @@ returns-3 c =
     let one = asked.before.before.before in
     let zero = one.before.before in
     let a = (start zero.before.before.before.before).args in
-    let part = part-as-read a.record0.now a.record1.now a.long0 a.long1 a.unit a.place in
+    let part = part_as_read a.record0.now a.record1.now a.long0 a.long1 a.unit a.place in
     rw (
-      inspection-made a.record0.now a.record1.now a.long0 a.long1 a.unit a.place a.image.now a.at.now a.bytes.now (omega arith) (omega arith),
+      inspection_made a.record0.now a.record1.now a.long0 a.long1 a.unit a.place a.image.now a.at.now a.bytes.now (omega arith) (omega arith),
       c.image-number.ensures,
       asked.part_of.ensures,
       zero.unit-in.ensures,

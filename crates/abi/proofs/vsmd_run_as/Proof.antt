@@ -1,7 +1,7 @@
 -- Each buffer of a layout that is too short is met before anything is stored, and then a controller that there is not.
 -- Past the four tests the call is the run.
 use Rattle.abi.specs.Calls.{lent_of, made}
-use Rattle.abi.proofs.Called.{called_is, called-made, refused_0, refused_1, refused_2, refused_3}
+use Rattle.abi.proofs.Called.{called_is, called_made, refused_0, refused_1, refused_2, refused_3}
 use native.Mathlib.Omega.{arith}
 use mathlib.Core.Path.{sym, ◌∙◌, ap}
 use borrow.Author.Rules.{rules}
@@ -54,7 +54,7 @@ returns-5 c =
     let lent =
     lent_of a.host.now a.image0.now a.image1.now a.events.now a.record0.now a.record1.now a.outcome.now in
     ran.run.ensures ∙ ap (λ k. made k a.first a.allowance lent) ran.before.controller-of.ensures ∙
-    sym (called-made a.controller a.first a.allowance lent (omega arith) (omega arith) (omega arith) (omega arith))
+    sym (called_made a.controller a.first a.allowance lent (omega arith) (omega arith) (omega arith) (omega arith))
 
 pub vsmd-run-as-spec : {M : Type 1} → statement M
 vsmd-run-as-spec =

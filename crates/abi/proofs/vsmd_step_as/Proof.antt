@@ -4,7 +4,7 @@ use mathlib.Core.Logic.{ite}
 use Rattle.abi.specs.Calls.{called_of, lent_of}
 use Rattle.abi.specs.Stepping.{block_bad, stepped_once}
 use Rattle.abi.proofs.Called.{refused_0, refused_1, refused_2, refused_3}
-use Rattle.abi.proofs.Stepping.{stepped-is, stepped_made, stepped_no_entry}
+use Rattle.abi.proofs.Stepping.{stepped_is, stepped_made, stepped_no_entry}
 use Rattle.wire.proofs.Decided.{in_memory?}
 use native.Mathlib.Omega.{arith}
 use mathlib.Core.Path.{sym, ◌∙◌, ap}
@@ -13,16 +13,16 @@ use Rattle.abi.proofs.vsmd_step_as.Statement.{statement}
 use Rattle.abi.proofs.vsmd_step_as.Tie as tie
 
 returns : tie.Need-returns
-returns c = sym (stepped-is _ _ _ _ ∙ refused_0 _ _ _ _ (omega arith))
+returns c = sym (stepped_is _ _ _ _ ∙ refused_0 _ _ _ _ (omega arith))
 
 returns-2 : tie.Need-returns-2
-returns-2 c = sym (stepped-is _ _ _ _ ∙ refused_1 _ _ _ _ (omega arith) (omega arith))
+returns-2 c = sym (stepped_is _ _ _ _ ∙ refused_1 _ _ _ _ (omega arith) (omega arith))
 
 returns-3 : tie.Need-returns-3
-returns-3 c = sym (stepped-is _ _ _ _ ∙ refused_2 _ _ _ _ (omega arith) (omega arith) (omega arith))
+returns-3 c = sym (stepped_is _ _ _ _ ∙ refused_2 _ _ _ _ (omega arith) (omega arith) (omega arith))
 
 returns-4 : tie.Need-returns-4
-returns-4 c = sym (stepped-is _ _ _ _ ∙ refused_3 _ _ _ _ (omega arith) (omega arith) (omega arith) (omega arith))
+returns-4 c = sym (stepped_is _ _ _ _ ∙ refused_3 _ _ _ _ (omega arith) (omega arith) (omega arith) (omega arith))
 
 mul-if5 : tie.Need-overflow-mul-if5
 mul-if5 c = search rules

@@ -9,11 +9,11 @@ use Rattle.transfer.specs.Data.{formatting}
 use Rattle.transfer.specs.Progress.{progress}
 use Rattle.transfer.specs.Runs.{piece_byte}
 use Rattle.transfer.specs.Whole.{span_transfer}
-use Rattle.transfer.proofs.Filling.{track-fit}
-use Rattle.transfer.proofs.Wholes.{sectors-fit}
+use Rattle.transfer.proofs.Filling.{track_fit}
+use Rattle.transfer.proofs.Wholes.{sectors_fit}
 use Rattle.judge.specs.declared.Moving.{Moving}
 use Rattle.block.specs.Steps.{Ready}
-use Rattle.block.proofs.Transfers.{begun-made, nothing-made}
+use Rattle.block.proofs.Transfers.{begun_made, nothing_made}
 use borrow.Author.Rules.{rules}
 use Rattle.block.proofs.begin.Statement.{statement}
 use Rattle.block.proofs.begin.Tie as tie
@@ -70,7 +70,7 @@ returns c =
     rw c.before.enum_told.given.1
     (record {
       result = c.nothing-moved.ensures;
-      stored = rw word.put-status.ensures (nothing-made (unit_of a.u a.table.now) a.at a.host.now a.image.now (piece_byte a.lengths.now a.addresses.now));
+      stored = rw word.put-status.ensures (nothing_made (unit_of a.u a.table.now) a.at a.host.now a.image.now (piece_byte a.lengths.now a.addresses.now));
     })
 
 same-length-2 : tie.Need-same-length-2
@@ -91,12 +91,12 @@ returns-2 c =
     let j = job.0.0 in
     let t = span_transfer (unit_of a.u a.table.now) j.span j.to_host j.past_marks a.lengths.now a.addresses.now in
     let fit =
-    sectors-fit (length word.put-status.new.0) a.image.now (unit_of a.u a.table.now) j.span j.to_host j.past_marks a.lengths.now a.addresses.now
+    sectors_fit (length word.put-status.new.0) a.image.now (unit_of a.u a.table.now) j.span j.to_host j.past_marks a.lengths.now a.addresses.now
     (rw word.put-status.auto.0 (ready begun _ job.1)) in
     rw job.1
     (record {
       result = c.moved_by.ensures _ (rw fit at made.ensures.0);
-      stored = begun-made t a.at a.host.now a.image.now made.new.0 made.new.1.0 (rw (fit, word.put-status.ensures) at made.ensures.1);
+      stored = begun_made t a.at a.host.now a.image.now made.new.0 made.new.1.0 (rw (fit, word.put-status.ensures) at made.ensures.1);
     })
 
 same-length-4 : tie.Need-same-length-4
@@ -117,14 +117,14 @@ returns-3 c =
     let spot = track.0.0 in
     let buffer = track.0.1.0 in
     let fit =
-    track-fit a.image.now (bare a.u) spot buffer (length word.put-status.new.0)
+    track_fit a.image.now (bare a.u) spot buffer (length word.put-status.new.0)
     (rw word.put-status.auto.0 (ready begun _ track.1)) in
     rw track.1
     (record {
       result = c.moved-by2.ensures _ (rw fit at made.ensures.0);
       stored =
           rw word.put-status.ensures
-          (begun-made (formatting (unit_of a.u a.table.now) spot buffer) a.at a.host.now a.image.now
+          (begun_made (formatting (unit_of a.u a.table.now) spot buffer) a.at a.host.now a.image.now
           (written a.host.now (a.at + 2) (0x81 ∷ 0x00 ∷ [])) made.new.1.0 (rw (fit, word.put-status.ensures) at made.ensures.1));
     })
 

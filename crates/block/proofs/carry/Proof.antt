@@ -1,7 +1,7 @@
 -- What is moved has its own way; nothing, and a track, need no pieces.
 use lib.ListN.{length}
 use Rattle.unit.specs.Standing.{unit_of}
-use Rattle.block.proofs.Gathered.{track-fits}
+use Rattle.block.proofs.Gathered.{track_fits}
 use borrow.Author.Rules.{rules}
 use Rattle.block.proofs.carry.Statement.{statement}
 use Rattle.block.proofs.carry.Tie as tie
@@ -33,7 +33,7 @@ without-pieces-requires-2 c κs =
     let begun = told.before.before.before.before in
     let a = begun.args in
     let is = told.enum-told2.given.1 in
-    (begun.requires.0, rw is (track-fits a.host.now (length a.image.now) (unit_of a.u a.table.now) _ _ (rw is at begun.requires.1)))
+    (begun.requires.0, rw is (track_fits a.host.now (length a.image.now) (unit_of a.u a.table.now) _ _ (rw is at begun.requires.1)))
 
 same_length : tie.Need-same-length
 same_length c = search rules

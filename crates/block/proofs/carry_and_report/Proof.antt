@@ -4,7 +4,7 @@ use mathlib.Core.List.{◌++◌}
 use Rattle.unit.specs.Standing.{unit_of}
 use Rattle.transfer.specs.Data.{data_on}
 use Rattle.block.specs.Block.{begun, reported, transfer_of}
-use Rattle.block.proofs.Effects.{then-made}
+use Rattle.block.proofs.Effects.{then_made}
 use borrow.Author.Rules.{rules}
 use Rattle.block.proofs.carry_and_report.Statement.{statement}
 use Rattle.block.proofs.carry_and_report.Tie as tie
@@ -29,7 +29,7 @@ returns c =
     record {
       result = carried.ensures.result;
       stored = λ events.
-          then-made (begun a.at ++ data_on a.image.now t) (reported a.at a.plan.report) _ _ _ (carried.ensures.stored events)
+          then_made (begun a.at ++ data_on a.image.now t) (reported a.at a.plan.report) _ _ _ (carried.ensures.stored events)
           (c.before.before.put-report.ensures carried.new.1.0 events);
     }
 

@@ -2,7 +2,7 @@
 -- Kept has both.
 use Rattle.judge.specs.declared.Leaving.TheVariants.{HeadsAt, HeadsAtLastTried, Mapped}
 use Rattle.unit.proofs.Kept.{fresh_counts}
-use Rattle.block.proofs.Kept.{stays-told}
+use Rattle.block.proofs.Kept.{stays_told}
 use borrow.Author.Rules.{rules}
 use Rattle.block.proofs.counts_then.Statement.{statement}
 use Rattle.block.proofs.counts_then.Tie as tie
@@ -28,12 +28,12 @@ returns c = rw c.enum_told.given.1 (λ u moved told fits. told)
 returns-2 : tie.Need-returns-2
 returns-2 c =
     rw c.enum-told2.given.1
-    (λ u moved told fits. stays-told u moved (HeadsAt c.enum-told2.given.0.0) c.before.before.args.counts (λ fits. fits.0) told fits)
+    (λ u moved told fits. stays_told u moved (HeadsAt c.enum-told2.given.0.0) c.before.before.args.counts (λ fits. fits.0) told fits)
 
 returns-3 : tie.Need-returns-3
 returns-3 c =
     rw c.enum-told3.given.1
-    (λ u moved told fits. stays-told u moved (HeadsAtLastTried c.enum-told3.given.0.0) c.before.before.args.counts (λ fits. fits.0) told fits)
+    (λ u moved told fits. stays_told u moved (HeadsAtLastTried c.enum-told3.given.0.0) c.before.before.args.counts (λ fits. fits.0) told fits)
 
 returns-4 : tie.Need-returns-4
 returns-4 c = rw c.enum-told4.given.1 (λ u moved told within. fresh_counts _ within)
@@ -41,7 +41,7 @@ returns-4 c = rw c.enum-told4.given.1 (λ u moved told within. fresh_counts _ wi
 returns-5 : tie.Need-returns-5
 returns-5 c =
     rw c.enum-told5.given.1
-    (λ u moved told fits. stays-told u moved (Mapped c.enum-told5.given.0.0 c.enum-told5.given.0.1.0) c.before.before.args.counts (λ fits. fits.0) told fits)
+    (λ u moved told fits. stays_told u moved (Mapped c.enum-told5.given.0.0 c.enum-told5.given.0.1.0) c.before.before.args.counts (λ fits. fits.0) told fits)
 
 pub counts-then-spec : {M : Type 1} → statement M
 counts-then-spec =

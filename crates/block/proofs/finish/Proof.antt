@@ -2,7 +2,7 @@
 use mir.Syntax.{w32}
 use mir.ValLaws.{to_z-of_z}
 use mathlib.Core.Path.{refl}
-use Rattle.block.proofs.Effects.{finish-made}
+use Rattle.block.proofs.Effects.{finish_made}
 use borrow.Author.Rules.{rules}
 use Rattle.block.proofs.finish.Statement.{statement}
 use Rattle.block.proofs.finish.Tie as tie
@@ -35,7 +35,7 @@ returns c =
     let a = start.args in (
       refl,
       λ image.
-          finish-made a.b a.at a.i a.p.answer a.p.travel a.host.now image a.events.now put.put-status.new.0 event.put-event.new.0
+          finish_made a.b a.at a.i a.p.answer a.p.travel a.host.now image a.events.now put.put-status.new.0 event.put-event.new.0
           (rw (status.status.ensures, put.before.error-byte.ensures) at put.put-status.ensures)
           (rw (to_z-of_z w32 a.p.travel (record { sfits = told.struct_told.given.1.1.1.0.1 })) at event.put-event.ensures),
     )

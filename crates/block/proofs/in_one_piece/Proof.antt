@@ -4,7 +4,7 @@ use mathlib.Core.Path.{sym, ap, ◌∙◌}
 use Rattle.unit.specs.Standing.{unit_of}
 use Rattle.transfer.specs.Runs.{piece_byte}
 use Rattle.block.specs.Block.{data_byte}
-use Rattle.block.proofs.Gathered.{made-same, one-piece-byte, piece_fits}
+use Rattle.block.proofs.Gathered.{made_same, one_piece_byte, piece_fits}
 use borrow.Author.Rules.{rules}
 use Rattle.block.proofs.in_one_piece.Statement.{statement}
 use Rattle.block.proofs.in_one_piece.Tie as tie
@@ -43,9 +43,9 @@ returns c =
     let begun = start (known made.before) in
     let a = begun.args in
     let bytes = (known made.before).job-bytes in
-    made-same a.image.now (unit_of a.u a.table.now) a.job (piece_byte (bytes.result ∷ []) (a.address ∷ [])) (data_byte a.host.now a.job.buffer)
+    made_same a.image.now (unit_of a.u a.table.now) a.job (piece_byte (bytes.result ∷ []) (a.address ∷ [])) (data_byte a.host.now a.job.buffer)
     (λ k h.
-    one-piece-byte a.host.now a.address bytes.result k (rw bytes.ensures h)
+    one_piece_byte a.host.now a.address bytes.result k (rw bytes.ensures h)
     ∙ ap (λ x. data_byte a.host.now x k) (sym begun.pre.1.0))
     a.at a.host.now _ _ _ made.begin.ensures
 

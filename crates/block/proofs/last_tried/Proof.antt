@@ -4,7 +4,7 @@ use mathlib.Core.Path.{◌≡◌, sym, ap, ◌∙◌}
 use native.Mathlib.Omega.{arith}
 use Rattle.unit.specs.Standing.{unit_of}
 use Rattle.transfer.specs.Progress.{last_tried}
-use Rattle.unit.proofs.Answers.{at-landing, no_landing}
+use Rattle.unit.proofs.Answers.{at_landing, no_landing}
 use Rattle.unit.specs.declared.Spot.{Spot}
 use borrow.Author.Rules.{rules}
 use Rattle.block.proofs.last_tried.Statement.{statement}
@@ -38,11 +38,11 @@ add-land c =
     omega (arith, pre.inside, pre.some, all, c.before.lesser.ensures)
 
 -- The landing that was asked for is that of the last number tried.
-land-is :
+land_is :
     (c : tie.After-land) →
     let a = (start c.before.before).args in
     c.land.result ≡ landing (unit_of a.u a.table.now) a.span.volume (a.span.first + last_tried a.sectors a.span.count)
-land-is c = rw c.before.before.lesser.ensures at c.land.ensures
+land_is c = rw c.before.before.lesser.ensures at c.land.ensures
 
 land-requires : tie.Need-land-requires
 land-requires c κs = search rules
@@ -59,7 +59,7 @@ returns c =
     let begun = start land.before.before in
     let a = begun.args in
     let n = a.span.first + last_tried a.sectors a.span.count in
-    let past = no_landing (unit_of a.u a.table.now) a.span.volume n (sym (land-is land) ∙ c.enum_told.given.1) in
+    let past = no_landing (unit_of a.u a.table.now) a.span.volume n (sym (land_is land) ∙ c.enum_told.given.1) in
     absurd (omega (arith, past, begun.pre.inside, begun.pre.some))
 
 returns-2 : tie.Need-returns-2
@@ -67,7 +67,7 @@ returns-2 c =
     let land = c.before.before.before in
     let a = (start land.before.before).args in
     let n = a.span.first + last_tried a.sectors a.span.count in
-    let landed = at-landing (unit_of a.u a.table.now) a.span.volume n c.before.spot.given.0.0 (sym (land-is land) ∙ c.before.spot.given.1) in
+    let landed = at_landing (unit_of a.u a.table.now) a.span.volume n c.before.spot.given.0.0 (sym (land_is land) ∙ c.before.spot.given.1) in
     ap (λ (x : Spot). x.cylinder) landed.1
 
 pub last-tried-spec : {M : Type 1} → statement M

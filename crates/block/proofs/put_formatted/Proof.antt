@@ -3,7 +3,7 @@
 use Prim.Native.Nat.{◌-◌}
 use native.Mathlib.Omega.{arith}
 use lib.ListN.{length-set}
-use Rattle.block.proofs.Entries.{three-written}
+use Rattle.block.proofs.Entries.{three_written}
 use borrow.Author.Rules.{rules}
 use Rattle.block.proofs.put_formatted.Statement.{statement}
 use Rattle.block.proofs.put_formatted.Tie as tie
@@ -39,7 +39,7 @@ same_length : tie.Need-same-length
 same_length c = search rules
 
 returns : tie.Need-returns
-returns c = three-written c.args.host.now c.args.at (c.args.sectors - 1) 0 c.args.sectors
+returns c = three_written c.args.host.now c.args.at (c.args.sectors - 1) 0 c.args.sectors
 
 pub put-formatted-spec : {M : Type 1} → statement M
 put-formatted-spec =

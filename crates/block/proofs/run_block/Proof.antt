@@ -12,8 +12,8 @@ use Rattle.judge.proofs.LetThrough.{plan_fits}
 use Rattle.block.specs.Block.{Drive, finish}
 use Rattle.iopb.specs.declared.Block.{Block}
 use Rattle.block.specs.Steps.{acted_on, done_of, drive_with, finished}
-use Rattle.block.proofs.Effects.{effect-judged, then-made, told-of-it}
-use Rattle.block.proofs.Held.{held_table, held_told, holder_keeps, performed-held}
+use Rattle.block.proofs.Effects.{effect_judged, then_made, told_of_it}
+use Rattle.block.proofs.Held.{held_table, held_told, holder_keeps, performed_held}
 use borrow.Author.Rules.{rules}
 use Rattle.block.proofs.run_block.Statement.{statement}
 use Rattle.block.proofs.run_block.Tie as tie
@@ -123,10 +123,10 @@ returns c =
     let e = finished a.c (block j) a.at a.i x (acted_on a.host.now (drive j) a.at x) in
     let f = c.before.before.before.before.finish in
     let is = refused.refuse.ensures in
-    rw (effect-judged a.c a.host.now (drive j) a.at a.i (block j) x read (sym (judgement j) ∙ met.1))
+    rw (effect_judged a.c a.host.now (drive j) a.at a.i (block j) x read (sym (judgement j) ∙ met.1))
     (record {
       result =
-          told-of-it (block j) e _ _ (rw is at f.ensures.0) (settles j).settled.ensures
+          told_of_it (block j) e _ _ (rw is at f.ensures.0) (settles j).settled.ensures
           ∙ ap (λ (x : Block). done_of x e) read;
       table = refl;
       stored = rw is at (f.ensures.1 a.image.now);
@@ -162,18 +162,18 @@ returns-2 c =
     let f = c.before.before.before.before.finish2 in
     let p = done.perform in
     let h = held.hold in
-    let is = h.ensures ∙ performed-held a.c reserve met.0.0.leaving p.result made p.ensures.result in
-    rw (effect-judged a.c a.host.now d a.at a.i (block j) (Verdict.Do met.0.0) read is_plan)
+    let is = h.ensures ∙ performed_held a.c reserve met.0.0.leaving p.result made p.ensures.result in
+    rw (effect_judged a.c a.host.now d a.at a.i (block j) (Verdict.Do met.0.0) read is_plan)
     (record {
       result =
-          told-of-it (block j) e _ _ (rw is at f.ensures.0)
+          told_of_it (block j) e _ _ (rw is at f.ensures.0)
           (holder_keeps a.c reserve (λ (u : UnitRecord). Says then.result (CountsAsInitialized u)) (held_told then.result) met.0.0.leaving made.answer made.unit
           (then.ensures d.unit made.sectors (settles j).settled.ensures
           (plan_fits (asks j) met.0.0 is_plan).leaving))
           ∙ ap (λ (x : Block). done_of x e) read;
       table = p.ensures.table ∙ held_table a.c reserve met.0.0.leaving made.answer made.unit;
       stored =
-          then-made made.stores (finish (block j) a.at a.i made.answer made.travel) _ _ _ (p.ensures.stored a.events.now)
+          then_made made.stores (finish (block j) a.at a.i made.answer made.travel) _ _ _ (p.ensures.stored a.events.now)
           (rw is at (f.ensures.1 p.last.1.0));
     })
 

@@ -7,7 +7,7 @@ use Rattle.geometry.specs.Drive.{B}
 use Rattle.memory.specs.Pieces.{addresses_of, filled, lengths_of}
 use Rattle.transfer.specs.Runs.{piece_byte}
 use Rattle.block.specs.Block.{data_byte}
-use Rattle.block.proofs.Gathered.{copied_out, elements_fit, list_byte, list_good, made-same, slots_enough}
+use Rattle.block.proofs.Gathered.{copied_out, elements_fit, list_byte, list_good, made_same, slots_enough}
 use borrow.Author.Rules.{rules}
 use Rattle.block.proofs.through_list.Statement.{statement}
 use Rattle.block.proofs.through_list.Tie as tie
@@ -72,7 +72,7 @@ returns c =
     let pre = (start list.before).requires in
     let n = a.elements in
     let host = a.host.now in
-    made-same a.image.now (unit_of a.u a.table.now) a.job
+    made_same a.image.now (unit_of a.u a.table.now) a.job
     (piece_byte (take n (lengths_of host a.address n)) (take n (addresses_of host a.address n))) (data_byte host a.job.buffer)
     (λ k h.
     list_byte host a.address n (a.job.span.count * B (geometry (unit_of a.u a.table.now)))

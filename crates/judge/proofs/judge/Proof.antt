@@ -5,7 +5,7 @@ use mathlib.Core.Path.{◌≡◌, sym, ap, ◌∙◌}
 use lib.Dec.{T}
 use Rattle.request.specs.declared.Task.{Task}
 use Rattle.judge.specs.Verdict.{verdict}
-use Rattle.judge.proofs.Tasks.{handshake, own-if-asked, refused-as-held, unknown}
+use Rattle.judge.proofs.Tasks.{handshake, own_if_asked, refused_as_held, unknown}
 use borrow.Author.Rules.{rules}
 use Rattle.judge.proofs.judge.Statement.{statement}
 use Rattle.judge.proofs.judge.Tie as tie
@@ -24,13 +24,13 @@ own :
     (c : tie.Else1) (t : Task) → T (asks_holder t) → (start c).args.task ≡ t →
     let it = asked t (start c).args.standing (start c).args.table.now (start c).args.host.now in
     verdict it ≡ by_its_own it
-own c t asks is = own-if-asked _ _ _ _ t asks (as_task _ _ c.before.is-refused-as-held.ensures c.if1.false is)
+own c t asks is = own_if_asked _ _ _ _ t asks (as_task _ _ c.before.is-refused-as-held.ensures c.if1.false is)
 
 is-refused-as-held-requires : tie.Need-is-refused-as-held-requires
 is-refused-as-held-requires c κs = search rules
 
 returns : tie.Need-returns
-returns c = sym (refused-as-held _ _ _ _ _ (sym c.before.is-refused-as-held.ensures ∙ c.if1.true))
+returns c = sym (refused_as_held _ _ _ _ _ (sym c.before.is-refused-as-held.ensures ∙ c.if1.true))
 
 enum_told : tie.Need-enum-told
 enum_told c = search rules

@@ -3,8 +3,8 @@
 use mathlib.Core.Path.{sym, ◌∙◌}
 use native.Mathlib.Omega.{arith}
 use borrow.Author.Rules.{rules}
-use Rattle.unit.proofs.Answers.{at-landing, no_landing}
-use Rattle.judge.proofs.Tasks.{address-done, address_nowhere, address_past}
+use Rattle.unit.proofs.Answers.{at_landing, no_landing}
+use Rattle.judge.proofs.Tasks.{address_done, address_nowhere, address_past}
 use Rattle.judge.proofs.judge_address.Statement.{statement}
 use Rattle.judge.proofs.judge_address.Tie as tie
 
@@ -38,9 +38,9 @@ returns c host =
     let spot = c.before.before in
     let land = spot.before.before in
     let n = numbered land in
-    let landed = at-landing _ _ _ _ (sym land.land.ensures ∙ spot.spot.given.1) in
+    let landed = at_landing _ _ _ _ (sym land.land.ensures ∙ spot.spot.given.1) in
     (rw landed.1 at c.only.ensures)
-    ∙ sym (address-done _ _ _ host _ _ (sym n.before.before.number.ensures ∙ n.n.given.1) (omega (arith, landed)))
+    ∙ sym (address_done _ _ _ host _ _ (sym n.before.before.number.ensures ∙ n.n.given.1) (omega (arith, landed)))
 
 returns-2 : tie.Need-returns-2
 returns-2 c host =

@@ -5,7 +5,7 @@ use native.Mathlib.Omega.{arith}
 use borrow.Author.Rules.{rules}
 use Rattle.wire.proofs.Numbers.{product_below}
 use Rattle.wire.proofs.Promises.{denied, granted}
-use Rattle.judge.proofs.Tasks.{list_18, list_19, list_done, piece_19, piece-done}
+use Rattle.judge.proofs.Tasks.{list_18, list_19, list_done, piece_19, piece_done}
 use Rattle.judge.proofs.judge_buffer.Statement.{statement}
 use Rattle.judge.proofs.judge_buffer.Tie as tie
 
@@ -64,7 +64,7 @@ returns-2 c =
     let sized = piece.before.before in
     c.accepted.ensures
     ∙ sym
-    (piece-done _ _ _ _ _ _ piece.buffer.given.1 _ (start sized).requires.starts
+    (piece_done _ _ _ _ _ _ piece.buffer.given.1 _ (start sized).requires.starts
     (granted asked.holds.result _ c.before.if1.false (rw sized.sector-bytes.ensures.0 at asked.holds.ensures)))
 
 returns-3 : tie.Need-returns-3

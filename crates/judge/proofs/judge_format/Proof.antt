@@ -7,7 +7,7 @@ use Rattle.geometry.specs.Sectors.{OnDrive, address}
 use Rattle.wire.proofs.Promises.{denied, granted, says_no, says_yes}
 use Rattle.unit.specs.Landing.{track_of}
 use Rattle.unit.specs.Standing.{CountsAsInitialized, geometry, unit_of}
-use Rattle.unit.proofs.Answers.{at-track, no_track}
+use Rattle.unit.proofs.Answers.{at_track, no_track}
 use Rattle.judge.proofs.Tasks.{format_11, format_16, format_17, format_on}
 use Rattle.judge.proofs.judge_format.Statement.{statement}
 use Rattle.judge.proofs.judge_format.Tie as tie
@@ -31,7 +31,7 @@ on :
     let a = (start (tested c).before).args in
     let u = unit_of a.standing.record a.table.now in
     OnDrive (geometry u) (address a.k.cylinder a.k.head 0) × ((landed c).spot.given.0.0 ≡ track_of u a.k.cylinder a.k.head)
-on c = at-track _ _ _ _ (sym (landed c).before.before.land-track.ensures ∙ (landed c).spot.given.1)
+on c = at_track _ _ _ _ (sym (landed c).before.before.land-track.ensures ∙ (landed c).spot.given.1)
 
 returns : tie.Need-returns
 returns c = sym (format_11 _ _ _ _ _ (denied (start c.before).args.standing.counts _ c.if1.true (start c.before).requires))

@@ -4,7 +4,7 @@ use mathlib.Core.Path.{sym, ◌∙◌}
 use native.Mathlib.Omega.{arith}
 use borrow.Author.Rules.{rules}
 use Rattle.unit.specs.Standing.{unit_of}
-use Rattle.judge.proofs.Tasks.{span-covers, span_first, span_inside, span_last}
+use Rattle.judge.proofs.Tasks.{span_covers, span_first, span_inside, span_last}
 use Rattle.judge.proofs.judge_span.Statement.{statement}
 use Rattle.judge.proofs.judge_span.Tie as tie
 
@@ -42,7 +42,7 @@ returns-3 c =
     let begun = start (asked c.before.before) in
     let a = begun.args in
     let begins = begun.pre in
-    let covers = span-covers a.standing.controller (unit_of a.standing.record a.table.now) a.standing.image a.host.now a.m a.n begins.starts begins.some (omega arith) in
+    let covers = span_covers a.standing.controller (unit_of a.standing.record a.table.now) a.standing.image a.host.now a.m a.n begins.starts begins.some (omega arith) in
     c.judge-image.ensures ∙ sym (span_inside _ _ _ _ _ covers)
 
 pub judge-span-spec : {M : Type 1} → statement M

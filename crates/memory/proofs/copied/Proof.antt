@@ -1,6 +1,6 @@
 -- After i turns the first i slots are filled and the others are 0.
 -- A turn fills one slot more.
-use Rattle.memory.proofs.Lists.{one-more-piece}
+use Rattle.memory.proofs.Lists.{one_more_piece}
 use Prim.Native.Nat.{◌-◌, ◌≤◌}
 use mathlib.Core.Path.{◌≡◌, refl}
 use native.Mathlib.Omega.{arith}
@@ -61,7 +61,7 @@ loop-again c =
     let loop = at-loop.loop in
     let e = c.before.read in (
       omega arith,
-      one-more-piece a.host.now a.at loop.i e.result loop.lengths loop.addresses e.ensures
+      one_more_piece a.host.now a.at loop.i e.result loop.lengths loop.addresses e.ensures
           loop.invariant.1.0
           loop.invariant.1.1,
     )

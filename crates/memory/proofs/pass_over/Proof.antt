@@ -3,7 +3,7 @@
 use borrow.Author.Rules.{rules}
 use Rattle.memory.specs.Lists.{ListGood}
 use Rattle.wire.proofs.Promises.{denied, granted}
-use Rattle.memory.proofs.Lists.{good-list}
+use Rattle.memory.proofs.Lists.{good_list}
 use Rattle.memory.proofs.pass_over.Statement.{statement}
 use Rattle.memory.proofs.pass_over.Tie as tie
 
@@ -18,7 +18,7 @@ good : (c : tie.Else2) → let a = (start c).args in ListGood a.host.now a.at a.
 good c =
     let scan = (scanned c).scan in
     let pre = (start c).requires in
-    good-list _ _ _ _ scan.result (pre.0, pre.1) pre.2 scan.ensures c.before.before.if1.false c.if2.false
+    good_list _ _ _ _ scan.result (pre.0, pre.1) pre.2 scan.ensures c.before.before.if1.false c.if2.false
 
 scan-requires : tie.Need-scan-requires
 scan-requires c κs = search rules

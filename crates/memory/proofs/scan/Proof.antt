@@ -6,7 +6,7 @@ use native.Mathlib.Omega.{arith}
 use borrow.Author.Rules.{rules}
 use Rattle.memory.specs.Scan.{Scanned}
 use Rattle.memory.specs.declared.Seen.{Seen}
-use Rattle.memory.proofs.Lists.{nothing_scanned, one-more-scanned}
+use Rattle.memory.proofs.Lists.{nothing_scanned, one_more_scanned}
 use Rattle.memory.proofs.scan.Statement.{statement}
 use Rattle.memory.proofs.scan.Tie as tie
 
@@ -80,7 +80,7 @@ loop-again c =
     let fits = (ranged c).holds in (
       omega arith,
       (
-        one-more-scanned a.host.now a.at loop.i so e.result good.result fits.result (counted c).both.result
+        one_more_scanned a.host.now a.at loop.i so e.result good.result fits.result (counted c).both.result
             c.before.both2.result
             e.ensures
             (counted c).both.ensures

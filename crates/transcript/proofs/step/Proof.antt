@@ -4,9 +4,9 @@ use native.Mathlib.Omega.{arith}
 use Rattle.transcript.specs.Steps.{SessionLent, SessionRoom, lent_of, said_of, spoken_of}
 use Rattle.transcript.specs.Session.{Field}
 use Rattle.transcript.specs.declared.Next.{Next}
-use Rattle.transcript.proofs.Plays.{said-over}
+use Rattle.transcript.proofs.Plays.{said_over}
 use Rattle.transcript.proofs.Texts.{refusal_line_short}
-use Rattle.transcript.proofs.Speaks.{at_the_end, no_room, refused, room-with, went_on}
+use Rattle.transcript.proofs.Speaks.{at_the_end, no_room, refused, room_with, went_on}
 use Rattle.wire.proofs.Promises.{denied, granted}
 use borrow.Author.Rules.{rules}
 use Rattle.transcript.proofs.step.Statement.{statement}
@@ -51,11 +51,11 @@ returns c =
     let begun = start asked in
     sym
     (no_room begun.args.field.now begun.args.s (lent begun)
-    (λ r. denied asked.has_room.result _ c.if1.true asked.has_room.ensures (room-with r)))
+    (λ r. denied asked.has_room.result _ c.if1.true asked.has_room.ensures (room_with r)))
 
 -- Past the first check there is room, and past the last a field.
 room : (c : tie.Else1) → SessionRoom (start c.before).args.s (lent (start c.before))
-room c = room-with (granted c.before.has_room.result _ c.if1.false c.before.has_room.ensures)
+room c = room_with (granted c.before.has_room.result _ c.if1.false c.before.has_room.ensures)
 
 good : (c : tie.Else3) → Field (start (roomy c.before).before).args.field.now
 good c = granted c.before.is_field.result _ c.if3.false c.before.is_field.ensures
@@ -104,7 +104,7 @@ returns-3 c =
     let room = room (roomy asked) in
     let l = lent begun in
     let line = refusal_line_short begun.args.s.at (omega (arith, room.at)) in
-    let said = said-over put.put-refusal.ensures (omega (arith, room.text)) in
+    let said = said_over put.put-refusal.ensures (omega (arith, room.text)) in
     (λ t. spoken_of (said_of Next.Over (said.1 t)) (lent_of l.host l.image0 l.image1 (said.0 t) l.tracks0 l.tracks1)) ∙
     sym
     (refused begun.args.field.now begun.args.s l room asked.before.if2.false

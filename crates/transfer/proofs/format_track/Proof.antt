@@ -5,13 +5,13 @@ use native.Mathlib.Omega.{arith}
 use lib.ListN.{length}
 use Rattle.geometry.specs.Drive.{B}
 use Rattle.geometry.specs.Sectors.{first_byte}
-use Rattle.geometry.proofs.Answers.{at-sector, no_sector}
+use Rattle.geometry.proofs.Answers.{at_sector, no_sector}
 use Rattle.wire.proofs.Promises.{denied, granted}
 use Rattle.transfer.specs.Data.{formatting, progress_on}
 use Rattle.transfer.specs.Runs.{reached}
 use Rattle.transfer.specs.Stores.{after}
 use Rattle.transfer.specs.Whole.{TrackFits}
-use Rattle.transfer.proofs.Filling.{track-fit, track-room, track-stores, track_unfit}
+use Rattle.transfer.proofs.Filling.{track_fit, track_room, track_stores, track_unfit}
 use borrow.Author.Rules.{rules}
 use Rattle.transfer.proofs.format_track.Statement.{statement}
 use Rattle.transfer.proofs.format_track.Tie as tie
@@ -100,7 +100,7 @@ known c =
     let a = (start (drive first).before.before).args in
     let is = (drive first).geometry.ensures in
     let sector = first.first.given in (
-      (at-sector (geometry (bare a.u)) a.spot.place sector.0.0 sector.0.1.0 (sym (sector_is first.before.before) ∙ sector.1)).1.0,
+      (at_sector (geometry (bare a.u)) a.spot.place sector.0.0 sector.0.1.0 (sym (sector_is first.before.before) ∙ sector.1)).1.0,
       (
         rw is at c.before.bytes-a-sector.ensures,
         rw (scan.before.sectors-a-track.ensures, is) at scan.reach.ensures,
@@ -113,7 +113,7 @@ fill-requires c κs =
     let fit = (drive first).before in
     let a = (start fit.before).args in
     let k = known c in
-    rw (k.0, k.1.0, k.1.1) ((fits fit).memory, track-room a.image.now (bare a.u) a.spot a.at (fits fit).inside (fits fit).held)
+    rw (k.0, k.1.0, k.1.1) ((fits fit).memory, track_room a.image.now (bare a.u) a.spot a.at (fits fit).inside (fits fit).held)
 
 same_length : tie.Need-same-length
 same_length c = search rules
@@ -125,8 +125,8 @@ returns-3 c =
     let fit = (drive first).before in
     let a = (start fit.before).args in
     let k = known filled.before in
-    rw (track-fit a.image.now (bare a.u) a.spot a.at (length a.host.now) (fits fit), k.1.1)
-    (refl, rw (track-stores a.image.now (bare a.u) a.spot a.at) (rw (k.0, k.1.0, k.1.1) at filled.fill.ensures))
+    rw (track_fit a.image.now (bare a.u) a.spot a.at (length a.host.now) (fits fit), k.1.1)
+    (refl, rw (track_stores a.image.now (bare a.u) a.spot a.at) (rw (k.0, k.1.0, k.1.1) at filled.fill.ensures))
 
 pub format-track-spec : {M : Type 1} → statement M
 format-track-spec =

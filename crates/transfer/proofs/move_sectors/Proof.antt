@@ -10,7 +10,7 @@ use Rattle.transfer.specs.Data.{data_on}
 use Rattle.transfer.specs.Runs.{Spans, progress_from, reached}
 use Rattle.transfer.specs.Stores.{after}
 use Rattle.transfer.specs.Whole.{SectorsFit}
-use Rattle.transfer.proofs.Wholes.{reached_held, reached-pieces, reached_spans, sectors-fit, sectors-unfit}
+use Rattle.transfer.proofs.Wholes.{reached_held, reached_pieces, reached_spans, sectors_fit, sectors_unfit}
 use borrow.Author.Rules.{rules}
 use Rattle.transfer.proofs.move_sectors.Statement.{statement}
 use Rattle.transfer.proofs.move_sectors.Tie as tie
@@ -40,7 +40,7 @@ unfolding after
 returns c =
     let a = (start c.before).args in
     rw
-    (sectors-unfit (length a.host.now) a.image.now (unit_of a.u a.table.now) a.span a.to-host a.past-marks a.lengths.now a.addresses.now
+    (sectors_unfit (length a.host.now) a.image.now (unit_of a.u a.table.now) a.span a.to-host a.past-marks a.lengths.now a.addresses.now
     (denied c.before.sectors-fit.result _ c.if1.true c.before.sectors-fit.ensures.0))
     (refl, refl)
 
@@ -63,7 +63,7 @@ carry-requires c κs =
       reached_spans a.image.now (unit_of a.u a.table.now) a.span heeds (spans fit),
       (
         reached_held a.image.now (unit_of a.u a.table.now) a.span heeds (spans fit) (fits fit).held,
-        reached-pieces a.image.now (unit_of a.u a.table.now) a.span heeds (length a.host.now) a.lengths.now a.addresses.now (fits fit).pieces,
+        reached_pieces a.image.now (unit_of a.u a.table.now) a.span heeds (length a.host.now) a.lengths.now a.addresses.now (fits fit).pieces,
       ),
     )
 
@@ -85,7 +85,7 @@ returns-2 c =
     (surveyed carried.before).survey.ensures
     ∙ ap (λ h. reached (progress_from a.image.now (unit_of a.u a.table.now) a.span.volume h a.span.first a.span.count)) heeding.heeds.ensures in
     rw
-    (sectors-fit (length a.host.now) a.image.now (unit_of a.u a.table.now) a.span a.to-host a.past-marks a.lengths.now a.addresses.now
+    (sectors_fit (length a.host.now) a.image.now (unit_of a.u a.table.now) a.span a.to-host a.past-marks a.lengths.now a.addresses.now
     (fits fit))
     (ap Attempt.Made comes, rw (first.first-sectors.ensures, comes) at carried.carry.ensures)
 

@@ -1,7 +1,7 @@
 -- Two calls in a row, each on what the one before it left.
 -- Each is its chain's step, with the event buffer of the other beside it.
 use Rattle.independence.specs.Chains.{First, Second}
-use Rattle.two_chains.proofs.Orders.{first-then-second}
+use Rattle.two_chains.proofs.Orders.{first_then_second_lem}
 use Rattle.two_chains.specs.Orders.{both_of, chain_of}
 use mathlib.Core.Path.{◌∙◌}
 use borrow.Author.Rules.{rules}
@@ -52,7 +52,7 @@ returns c =
     let a = first.before.before.before.before.before.before.before.before.before.before.before.before.before.before.args in
     let l = first.run-on-its-own.last in
     let m = second.run-on-its-own2.last in
-    first-then-second (chain_of a.one) (chain_of a.two)
+    first_then_second_lem (chain_of a.one) (chain_of a.two)
     (both_of a.host1.now a.host2.now a.image0.now a.image1.now a.events1.now a.events2.now a.map0.now a.map1.now a.units)
     (both_of l.0 l.1.0 l.1.1.0 l.1.1.1.0 l.1.1.1.1.0 a.events2.now l.1.1.1.1.1.0 l.1.1.1.1.1.1.0 first.run-on-its-own.result.units)
     (both_of m.0 m.1.0 m.1.1.0 m.1.1.1.0 l.1.1.1.1.0 m.1.1.1.1.0 m.1.1.1.1.1.0 m.1.1.1.1.1.1.0 second.run-on-its-own2.result.units)

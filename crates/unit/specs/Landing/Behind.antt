@@ -14,11 +14,11 @@ pub spot_at_is :
 unfolding spot_at
 spot_at_is g a = refl
 
-pub landed-is :
+pub landed_is :
     (u : UnitRecord) (a : Address) →
     landed u a ≡ onto (served_at (geometry u) (pairs u) (table u) a.cylinder a.head) a
 unfolding landed
-landed-is u a = refl
+landed_is u a = refl
 
 pub spot_of_is : (u : UnitRecord) (v : VolumeNumber) (n : ℕ) → spot_of u v n ≡ spot_at (geometry u) (landed u (address_of (geometry u) v n))
 unfolding spot_of

@@ -2,7 +2,7 @@
 -- What is stored is what the geometry answered.
 use Rattle.geometry.specs.Drive.{B, C, S, volume}
 use Rattle.geometry.specs.declared.VolumeNumber.TheVariants.{Zero, One}
-use Rattle.abi.proofs.Stored.{geometry-stored}
+use Rattle.abi.proofs.Stored.{geometry_stored}
 use borrow.Author.Rules.{rules}
 use Rattle.abi.proofs.layouts.put_geometry.Statement.{statement}
 use Rattle.abi.proofs.layouts.put_geometry.Tie as tie
@@ -59,7 +59,7 @@ returns c =
       third.before.bytes-a-sector.ensures,
       second.before.sectors-a-track.ensures,
       first.before.cylinders.ensures,
-    ) (geometry-stored a.bytes.now (C a.g) (S a.g) (B a.g) (volume a.g Zero) (volume a.g One))
+    ) (geometry_stored a.bytes.now (C a.g) (S a.g) (B a.g) (volume a.g Zero) (volume a.g One))
 
 pub put-geometry-spec : {M : Type 1} → statement M
 put-geometry-spec =

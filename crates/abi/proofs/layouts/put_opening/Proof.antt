@@ -1,6 +1,6 @@
 -- Two pairs of bytes in a row.
 -- The second byte is what was made of the flag.
-use Rattle.abi.proofs.Stored.{opening-stored}
+use Rattle.abi.proofs.Stored.{opening_stored}
 use mathlib.Core.Bool.{cond}
 use borrow.Author.Rules.{rules}
 use Rattle.abi.proofs.layouts.put_opening.Statement.{statement}
@@ -21,7 +21,7 @@ same_length c = search rules
 returns : tie.Need-returns
 returns c =
     let a = c.before.before.before.before.before.before.before.before.before.before.args in
-    let stored = opening-stored a.bytes.now (cond a.initialized 0x01 0x00) in
+    let stored = opening_stored a.bytes.now (cond a.initialized 0x01 0x00) in
     cc
 
 pub put-opening-spec : {M : Type 1} → statement M

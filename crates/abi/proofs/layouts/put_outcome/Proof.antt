@@ -1,6 +1,6 @@
 -- Five stores, one after the other, are the sixteen bytes of an outcome in a row.
 -- At fixed places they are the layout's bytes.
-use Rattle.abi.proofs.Stored.{outcome-stored}
+use Rattle.abi.proofs.Stored.{outcome_stored}
 use borrow.Author.Rules.{rules}
 use Rattle.abi.proofs.layouts.put_outcome.Statement.{statement}
 use Rattle.abi.proofs.layouts.put_outcome.Tie as tie
@@ -26,7 +26,7 @@ same_length c = search rules
 returns : tie.Need-returns
 returns c =
     let a = c.before.before.before.before.before.before.before.before.before.before.before.before.before.before.before.before.before.before.before.before.before.args in
-    let stored = outcome-stored a.bytes.now a.answer a.failed a.blocks a.sectors in
+    let stored = outcome_stored a.bytes.now a.answer a.failed a.blocks a.sectors in
     cc
 
 pub put-outcome-spec : {M : Type 1} → statement M

@@ -3,7 +3,7 @@
 use mathlib.Core.Path.{◌∙◌}
 use native.Mathlib.Omega.{arith}
 use Rattle.abi.proofs.Left.{known_stored}
-use Rattle.abi.proofs.Stored.{record-stored}
+use Rattle.abi.proofs.Stored.{record_stored}
 use Rattle.unit.specs.Standing.{unit_of}
 use borrow.Author.Rules.{rules}
 use Rattle.abi.proofs.layouts.put_record.Statement.{statement}
@@ -74,7 +74,7 @@ returns c =
     let a = (start known).args in
     let u = unit_of a.u a.table.now in
     sixth.put-tracks.ensures ∙
-    record-stored a.bytes.now u (first known).before.initialized.ensures (second known).before.geometry.ensures
+    record_stored a.bytes.now u (first known).before.initialized.ensures (second known).before.geometry.ensures
     (third known).before.cylinder.ensures (fifth known).before.pairs.ensures known.before.pairs2.ensures known.known-tracks.ensures.0
     (first known).put-opening.ensures (second known).put-geometry.ensures (third known).put16.ensures
     (fourth known).put-order-and-holder.ensures (fifth known).put162.ensures ∙

@@ -6,7 +6,7 @@ use native.Mathlib.Numerals.{add-one}
 use native.Mathlib.Omega.{arith}
 use lib.ListN.{length, take}
 use Rattle.abi.specs.Layouts.{track_bytes}
-use Rattle.abi.proofs.Tracks.{one-more-stored}
+use Rattle.abi.proofs.Tracks.{one_more_stored}
 use Rattle.abi.proofs.layouts.put_tracks.Statement.{statement}
 use Rattle.abi.proofs.layouts.put_tracks.Tie as tie
 use Rattle.wire.specs.Storing.{written}
@@ -57,7 +57,7 @@ loop-again c =
     let put = stored.put32 in (
       omega arith,
       (
-        put.ensures ∙ rw (now.inv.1.0, add-one now.i) (one-more-stored a.bytes.now a.table.now now.i (omega arith)),
+        put.ensures ∙ rw (now.inv.1.0, add-one now.i) (one_more_stored a.bytes.now a.table.now now.i (omega arith)),
         put.auto.0 ∙ now.inv.1.1,
       ),
     )

@@ -6,7 +6,7 @@ use native.Mathlib.Numerals.{add-one}
 use native.Mathlib.Omega.{arith}
 use borrow.Author.Rules.{rules}
 use Rattle.abi.specs.Layouts.{words_from}
-use Rattle.abi.proofs.Tracks.{one-more-read}
+use Rattle.abi.proofs.Tracks.{one_more_read}
 use Rattle.abi.proofs.layouts.read_tracks.Statement.{statement}
 use Rattle.abi.proofs.layouts.read_tracks.Tie as tie
 use Rattle.wire.specs.Storing.{written}
@@ -53,7 +53,7 @@ loop-again c =
     let a = c.before.before.before.before.before.args in
     let at-loop = c.before.before.loop in (
       omega arith,
-      rw (at-loop.invariant.1, c.be32.ensures, add-one at-loop.i) (one-more-read a.table.now a.bytes.now at-loop.i),
+      rw (at-loop.invariant.1, c.be32.ensures, add-one at-loop.i) (one_more_read a.table.now a.bytes.now at-loop.i),
     )
 
 returns : tie.Need-returns invariant-loop decreases-loop

@@ -4,7 +4,7 @@ use mathlib.Core.Path.{sym, ◌∙◌}
 use Rattle.abi.specs.Places.{located_of}
 use Rattle.abi.specs.Readings.{lands_as}
 use Rattle.abi.proofs.AsRead.{lands_as_read}
-use Rattle.abi.proofs.Readings.{lands_on_drive, located-read}
+use Rattle.abi.proofs.Readings.{lands_on_drive, located_read}
 use borrow.Author.Rules.{rules}
 use Rattle.abi.proofs.places.locate.Statement.{statement}
 use Rattle.abi.proofs.places.locate.Tie as tie
@@ -45,13 +45,13 @@ returns c =
     let held = located_of 0 a.place.now a.first.now a.mark.now in
     let u = unit.u.given in
     c.stand.ensures ∙ rw (shape.geometry.ensures, landed.lands.ensures, rw u.1 at read.read.ensures.1, lands_as_read a.«record».now a.wanted)
-    (located-read a.«record».now (lands_as a.wanted) held (sym u.1 ∙ read.read.ensures.0))
+    (located_read a.«record».now (lands_as a.wanted) held (sym u.1 ∙ read.read.ensures.0))
 
 returns-2 : tie.Need-returns-2
 returns-2 c =
     let code = c.before in
     let read = code.before.before in
-    located-read _ _ _ (sym code.code.given.1 ∙ read.read.ensures.0)
+    located_read _ _ _ (sym code.code.given.1 ∙ read.read.ensures.0)
 
 pub locate-spec : {M : Type 1} → statement M
 locate-spec =

@@ -2,7 +2,7 @@
 -- The sector's two numbers are those of the definition.
 use mathlib.Core.Path.{sym, ◌∙◌}
 use native.Mathlib.Omega.{arith}
-use Rattle.geometry.proofs.Answers.{at-sector, no_sector}
+use Rattle.geometry.proofs.Answers.{at_sector, no_sector}
 use borrow.Author.Rules.{rules}
 use Rattle.abi.proofs.places.stand.Statement.{statement}
 use Rattle.abi.proofs.places.stand.Tie as tie
@@ -37,7 +37,7 @@ returns-3 c =
     let found = c.before in
     let sector = found.before.before in
     let landed = sector.before.before in
-    let at = at-sector _ _ _ _ (sym sector.sector.ensures ∙ found.begins.given.1) in
+    let at = at_sector _ _ _ _ (sym sector.sector.ensures ∙ found.begins.given.1) in
     rw (landed.landing.given.1, at.1.0, at.1.1)
 
 pub stand-spec : {M : Type 1} → statement M

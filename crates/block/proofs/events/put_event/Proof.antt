@@ -8,7 +8,7 @@ use lib.ListN.{length-set}
 use mir.Syntax.{w32}
 use mir.ValLaws.{to_z-of_z}
 use Rattle.block.specs.Events.{twos_complement}
-use Rattle.block.proofs.Entries.{entry-stored}
+use Rattle.block.proofs.Entries.{entry_stored}
 use Rattle.block.proofs.events.put_event.Statement.{statement}
 use Rattle.block.proofs.events.put_event.Tie as tie
 
@@ -67,7 +67,7 @@ returns c =
     let status = vector.before.before.before in
     let start = status.before.before in
     let a = start.args in
-    entry-stored a.events.now (8 * a.i) a.b a.answer a.travel
+    entry_stored a.events.now (8 * a.i) a.b a.answer a.travel
     status.status.ensures vector.before.before.error-byte.ensures vector.before.level.ensures vector.vector.ensures
     (put.before.twos-complement.ensures ∙ ap twos_complement (to_z-of_z w32 a.travel start.ranges.travel))
     put.put32.ensures

@@ -9,8 +9,8 @@ use Rattle.wire.proofs.Promises.{denied, granted}
 use Rattle.board.specs.Chain.{counted, fetched}
 use Rattle.board.specs.Records.{units_in}
 use Rattle.board.specs.Steps.{next_at}
-use Rattle.board.proofs.Chains.{executed-done, executed-failed, executed-on, fetched_bad, fetched_on, fetched_spent, spare-kept, spare-less}
-use Rattle.board.proofs.Legs.{bad_unspent, done_unspent, failed_unspent, next_spent, next-stepped, went-in, went-the-same}
+use Rattle.board.proofs.Chains.{executed_done, executed_failed, executed_on, fetched_bad, fetched_on, fetched_spent, spare_kept, spare_less}
+use Rattle.board.proofs.Legs.{bad_unspent, done_unspent, failed_unspent, next_spent, next_stepped, went_in, went_the_same}
 use Prim.Native.Nat.{ℕ, ◌+◌, ◌-◌, ◌*◌, ◌<◌}
 use borrow.Fn.Kinds.{In}
 use borrow.Fn.PlainCycle.{Measures, is, falls, and}
@@ -100,8 +100,8 @@ module _ (t : ℕ) where
         omega (arith, pre.0),
         (
           rw met.counted.ensures
-              (spare-less s.last.1.1.1.0 a.left a.count s.result.told.sectors (omega (arith, s.ok))
-              (spare-kept a.events.now s.last.1.1.1.0 (a.left + 1) a.count s.kept.1.1.1.0 pre.1.1)),
+              (spare_less s.last.1.1.1.0 a.left a.count s.result.told.sectors (omega (arith, s.ok))
+              (spare_kept a.events.now s.last.1.1.1.0 (a.left + 1) a.count s.kept.1.1.1.0 pre.1.1)),
           s.ensures.knows,
         ),
       )
@@ -131,8 +131,8 @@ module _ (t : ℕ) where
       let w' = (world_of a.c s.last.0 s.last.1.0 s.last.1.1.0 s.last.1.1.1.0 s.last.1.1.1.1.0 s.last.1.1.1.1.1.0 (units_in s.last.1.1.1.1.1.1.0 s.last.1.1.1.1.1.1.1.0)) in
       let r = c.before.before.answer.given.0.0 in
       rw (c.failed.ensures, met.counted.ensures)
-      (went-in RunAnswer.BlockFailed (refusal_number r) (counted a.count s.result.told.sectors) s.result.told.link s.result.learnt w' _ _
-      (executed-failed (fetched a.left) a.count a.at w w' _ s.ensures.to r c.before.before.answer.given.1)
+      (went_in RunAnswer.BlockFailed (refusal_number r) (counted a.count s.result.told.sectors) s.result.told.link s.result.learnt w' _ _
+      (executed_failed (fetched a.left) a.count a.at w w' _ s.ensures.to r c.before.before.answer.given.1)
       (λ spent. absurd (failed_unspent spent)) s.ensures.knows (omega (arith, s.ok, (start done.before).pre.1.1.sectors)))
 
   execute-same-length-5 : execute-lts.Need-same-length-5 (step-reads.Asked, step-reads.Learnt, counted-reads.Asked, counted-reads.Learnt, failed-reads.Asked, failed-reads.Learnt, fetch-below t, fetch.Post, stopped-reads.Asked, stopped-reads.Learnt) (execute-at t) execute.Post
@@ -159,9 +159,9 @@ module _ (t : ℕ) where
       let w = (world_of a.c a.host.now a.image0.now a.image1.now a.events.now a.map0.now a.map1.now (units_in a.record0.now a.record1.now)) in
       let w' = (world_of a.c s.last.0 s.last.1.0 s.last.1.1.0 s.last.1.1.1.0 s.last.1.1.1.1.0 s.last.1.1.1.1.1.0 (units_in s.last.1.1.1.1.1.1.0 s.last.1.1.1.1.1.1.1.0)) in
       let f = next.fetch in
-      went-the-same _ _ _ _ _ f.result
-      (executed-on (fetched a.left) a.count a.at w w' _ s.ensures.to told.enum_told.given.1 way.if1.true)
-      (next-stepped a.left a.count a.at w w' _ s.ensures.to)
+      went_the_same _ _ _ _ _ f.result
+      (executed_on (fetched a.left) a.count a.at w w' _ s.ensures.to told.enum_told.given.1 way.if1.true)
+      (next_stepped a.left a.count a.at w w' _ s.ensures.to)
       (rw met.counted.ensures at f.ensures)
 
   execute-same-length-9 : execute-lts.Need-same-length-9 (step-reads.Asked, step-reads.Learnt, counted-reads.Asked, counted-reads.Learnt, failed-reads.Asked, failed-reads.Learnt, fetch-below t, fetch.Post, stopped-reads.Asked, stopped-reads.Learnt) (execute-at t) execute.Post
@@ -185,8 +185,8 @@ module _ (t : ℕ) where
       let w = (world_of a.c a.host.now a.image0.now a.image1.now a.events.now a.map0.now a.map1.now (units_in a.record0.now a.record1.now)) in
       let w' = (world_of a.c s.last.0 s.last.1.0 s.last.1.1.0 s.last.1.1.1.0 s.last.1.1.1.1.0 s.last.1.1.1.1.1.0 (units_in s.last.1.1.1.1.1.1.0 s.last.1.1.1.1.1.1.1.0)) in
       rw (c.stopped.ensures, met.counted.ensures)
-      (went-in RunAnswer.Done 0 (counted a.count s.result.told.sectors) s.result.told.link s.result.learnt w' _ _
-      (executed-done (fetched a.left) a.count a.at w w' _ s.ensures.to c.before.before.enum_told.given.1 c.before.if1.false)
+      (went_in RunAnswer.Done 0 (counted a.count s.result.told.sectors) s.result.told.link s.result.learnt w' _ _
+      (executed_done (fetched a.left) a.count a.at w w' _ s.ensures.to c.before.before.enum_told.given.1 c.before.if1.false)
       (λ spent. absurd (done_unspent spent)) s.ensures.knows (omega (arith, s.ok, (start done.before).pre.1.1.sectors)))
 
   -- The beginning of fetch, from the first test.
@@ -202,7 +202,7 @@ module _ (t : ℕ) where
       let a = first.args in
       let w = (world_of a.c a.host.now a.image0.now a.image1.now a.events.now a.map0.now a.map1.now (units_in a.record0.now a.record1.now)) in
       rw c.stopped.ensures
-      (went-in RunAnswer.AllowanceSpent 0 a.count a.at a.learnt w _ _
+      (went_in RunAnswer.AllowanceSpent 0 a.count a.at a.learnt w _ _
       (fetched_spent a.left a.count a.at w c.before.if1.true)
       (λ spent. next_spent a.left a.count a.at w c.before.if1.true) first.requires.1.1 first.requires.1.0.sectors)
 
@@ -223,7 +223,7 @@ module _ (t : ℕ) where
       let w = (world_of a.c a.host.now a.image0.now a.image1.now a.events.now a.map0.now a.map1.now (units_in a.record0.now a.record1.now)) in
       let held = asked.holds-block in
       rw c.stopped2.ensures
-      (went-in RunAnswer.LinkBad 0 a.count a.at a.learnt w _ _
+      (went_in RunAnswer.LinkBad 0 a.count a.at a.learnt w _ _
       (fetched_bad a.left a.count a.at w (omega arith) (denied held.result _ c.before.if2.true held.ensures))
       (λ spent. absurd (bad_unspent spent)) first.pre.1.1 first.pre.1.0.sectors)
 
@@ -263,7 +263,7 @@ module _ (t : ℕ) where
       let held = asked.holds-block in
       let e = next.execute in
       let one : a.left ≡ a.left - 1 + 1 = omega arith in
-      went-the-same _ _ _ _ _ e.result
+      went_the_same _ _ _ _ _ e.result
       (fetched_on a.left a.count a.at w (omega (arith, first.if1.false)) (granted held.result _ past.if2.false held.ensures))
       (ap (λ (n : ℕ). next_at n a.count a.at w) one)
       e.ensures

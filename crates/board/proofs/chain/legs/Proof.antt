@@ -8,7 +8,7 @@ use Rattle.wire.proofs.Promises.{denied, granted}
 use Rattle.board.specs.Chain.{fetched}
 use Rattle.board.specs.Records.{units_in}
 use Rattle.board.specs.Run.{world_of}
-use Rattle.board.proofs.Legs.{Between, between_last, between-on, spare_fewer}
+use Rattle.board.proofs.Legs.{Between, between_last, between_on, spare_fewer}
 use Rattle.board.proofs.Chains.{ended_the_same}
 use Rattle.board.proofs.chain.legs.Statement.{statement}
 use Rattle.board.proofs.chain.legs.Tie as tie
@@ -96,7 +96,7 @@ loop-again c =
     let f = done.fetch in
     let w = world_of a.c n.host n.image0 n.image1 n.events n.map0 n.map1 (units_in n.record0 n.record1) in
     let w' = world_of a.c f.last.0 f.last.1.0 f.last.1.1.0 f.last.1.1.1.0 f.last.1.1.1.1.0 f.last.1.1.1.1.1.0 (units_in f.last.1.1.1.1.1.1.0 f.last.1.1.1.1.1.1.1.0) in (
-      between-on 8 _ w n.known n.from n.rest n.tally (omega (arith, tested.loop-test.taken)) n.inv.0 w' f.result f.ensures
+      between_on 8 _ w n.known n.from n.rest n.tally (omega (arith, tested.loop-test.taken)) n.inv.0 w' f.result f.ensures
           (granted told.is-spent.result _ way.if1.false told.is-spent.ensures) f.kept.1.1.1.0,
       f.kept.0 ∙ n.inv.1,
       f.kept.1.0 ∙ n.inv.2,

@@ -4,7 +4,7 @@ use native.Mathlib.Omega.{arith}
 use Rattle.answers.specs.declared.RunAnswer.{RunAnswer}
 use Rattle.wire.proofs.Promises.{denied, granted}
 use Rattle.board.proofs.Chains.{came_refused, came_to, ended_the_same}
-use Rattle.board.proofs.Runs.{ran-allowance-bad, ran_chain, ran_events_short, ran_first_bad}
+use Rattle.board.proofs.Runs.{ran_allowance_bad, ran_chain, ran_events_short, ran_first_bad}
 use borrow.Author.Rules.{rules}
 use Rattle.board.proofs.chain.run.Statement.{statement}
 use Rattle.board.proofs.chain.run.Tie as tie
@@ -55,7 +55,7 @@ returns-2 c =
     let allowed = second.is-allowance in
     rw c.refused2.ensures
     (came_refused RunAnswer.AllowanceBad w _
-    (ran-allowance-bad a.first a.allowance w (granted room.result _ first.if1.false room.ensures) (denied allowed.result _ c.before.if2.true allowed.ensures)))
+    (ran_allowance_bad a.first a.allowance w (granted room.result _ first.if1.false room.ensures) (denied allowed.result _ c.before.if2.true allowed.ensures)))
 
 holds-block-requires : tie.Need-holds-block-requires
 holds-block-requires c κs = search rules

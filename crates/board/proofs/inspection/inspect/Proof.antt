@@ -4,7 +4,7 @@ use Prim.Native.Nat.{◌^◌}
 use native.Mathlib.Omega.{arith}
 use borrow.Author.Rules.{rules}
 use Rattle.unit.specs.declared.UnitNumber.TheVariants.{Zero, One}
-use Rattle.board.proofs.Parts.{InItsImage, image-below, part_cut, part_lies, part-place}
+use Rattle.board.proofs.Parts.{InItsImage, image_below, part_cut, part_lies, part_place}
 use Rattle.unit.specs.Standing.{unit_of}
 use Rattle.board.proofs.inspection.inspect.Statement.{statement}
 use Rattle.board.proofs.inspection.inspect.Tie as tie
@@ -28,7 +28,7 @@ add-end : tie.Need-overflow-add-end
 add-end c =
     let p = c.before.part_of.result in
     let a = (start c.before.before).args in
-    let fits = image-below a.image0.now a.image1.now p.unit (2 ^ 64) (omega arith) (omega arith) in
+    let fits = image_below a.image0.now a.image1.now p.unit (2 ^ 64) (omega arith) (omega arith) in
     omega (arith, lies c.before)
 
 enum_told : tie.Need-enum-told
@@ -50,7 +50,7 @@ returns c =
     let p = part.part_of in
     let is = c.before.enum_told.given.1 in
     rw (← p.ensures)
-    (part_cut a.image0.now a.image1.now p.result Zero is, part-place a.image0.ref_ptr a.image1.ref_ptr p.result Zero is)
+    (part_cut a.image0.now a.image1.now p.result Zero is, part_place a.image0.ref_ptr a.image1.ref_ptr p.result Zero is)
 
 enum-told-2 : tie.Need-enum-told-2
 enum-told-2 c = search rules
@@ -71,7 +71,7 @@ returns-2 c =
     let p = part.part_of in
     let is = c.before.enum-told2.given.1 in
     rw (← p.ensures)
-    (part_cut a.image0.now a.image1.now p.result One is, part-place a.image0.ref_ptr a.image1.ref_ptr p.result One is)
+    (part_cut a.image0.now a.image1.now p.result One is, part_place a.image0.ref_ptr a.image1.ref_ptr p.result One is)
 
 pub inspect-spec : {M : Type 1} → statement M
 inspect-spec =

@@ -5,9 +5,9 @@ use native.Mathlib.Omega.{arith}
 use borrow.Author.Rules.{rules}
 use Rattle.wire.proofs.Promises.{denied, granted}
 use Rattle.geometry.specs.Drive.{need}
-use Rattle.geometry.proofs.Answers.{at-sector, no_sector}
+use Rattle.geometry.proofs.Answers.{at_sector, no_sector}
 use Rattle.board.specs.Inspection.{Inspectable}
-use Rattle.board.proofs.Parts.{sector_not_there, sector-there}
+use Rattle.board.proofs.Parts.{sector_not_there, sector_there}
 use Rattle.board.proofs.inspection.sector_part.Statement.{statement}
 use Rattle.board.proofs.inspection.sector_part.Tie as tie
 use Rattle.unit.specs.Standing.{geometry, unit_of}
@@ -84,7 +84,7 @@ returns-3 c =
     let all = needed drive in
     let sector = told.first.given in
     let found =
-    at-sector (geometry (unit_of a.u a.table.now)) a.place sector.0.0 sector.0.1.0
+    at_sector (geometry (unit_of a.u a.table.now)) a.place sector.0.0 sector.0.1.0
     (sym (sector_is asked) ∙ sector.1) in
     let there : Inspectable (unit_of a.u a.table.now) a.long a.place =
     record {
@@ -92,7 +92,7 @@ returns-3 c =
       inside = found.0;
       image = omega arith;
     } in
-    rw (found.1.0, c.bytes-a-sector.ensures, g.ensures) (sym (sector-there a.unit (unit_of a.u a.table.now) a.long a.place there))
+    rw (found.1.0, c.bytes-a-sector.ensures, g.ensures) (sym (sector_there a.unit (unit_of a.u a.table.now) a.long a.place there))
 
 returns-4 : tie.Need-returns-4
 returns-4 c =

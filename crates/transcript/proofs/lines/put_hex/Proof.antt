@@ -1,7 +1,7 @@
 -- The word, and then two bytes, each the digit that its half of the byte asks for.
 use native.Mathlib.Omega.{arith}
 use lib.ListN.{length-set}
-use Rattle.transcript.proofs.Texts.{put_then, two-put}
+use Rattle.transcript.proofs.Texts.{put_then, two_put}
 use borrow.Author.Rules.{rules}
 use Rattle.transcript.proofs.lines.put_hex.Statement.{statement}
 use Rattle.transcript.proofs.lines.put_hex.Tie as tie
@@ -34,7 +34,7 @@ returns : tie.Need-returns
 returns c =
     let text = c.before.before in
     let put = text.before.before.put in
-    put_then put.ensures (rw (c.before.digit.ensures, c.digit2.ensures) (two-put put.new.0 put.result _ _))
+    put_then put.ensures (rw (c.before.digit.ensures, c.digit2.ensures) (two_put put.new.0 put.result _ _))
 
 pub put-hex-spec : {M : Type 1} → statement M
 put-hex-spec =

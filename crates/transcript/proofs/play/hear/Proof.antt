@@ -4,7 +4,7 @@ use mathlib.Core.Path.{ap, ◌∙◌}
 use native.Mathlib.Omega.{arith}
 use Rattle.transcript.specs.Session.{bytes_in, ending_of, run_heard, tag_of}
 use Rattle.transcript.specs.Steps.{SessionLent, held_in, lent_of, went}
-use Rattle.transcript.proofs.Plays.{host-given, image0-given, image1-given, run-heard}
+use Rattle.transcript.proofs.Plays.{host_given, image0_given, image1_given, run_heard_lem}
 use borrow.Author.Rules.{rules}
 use Rattle.transcript.proofs.play.hear.Statement.{statement}
 use Rattle.transcript.proofs.play.hear.Tie as tie
@@ -76,7 +76,7 @@ returns c =
     let read = matched.before.before in
     let begun = start read.before in
     rw (c.on.ensures, copied.copy.ensures, read.be16.ensures, matched.match.keys1)
-    (host-given begun.args.field.now begun.args.s (lent begun) _ begun.pre.0 begun.pre.1.whole)
+    (host_given begun.args.field.now begun.args.s (lent begun) _ begun.pre.0 begun.pre.1.whole)
 
 same-length-2 : tie.Need-same-length-2
 same-length-2 c = c.before.before.before.copy2.auto.1.1.0
@@ -88,7 +88,7 @@ returns-2 c =
     let read = matched.before.before in
     let begun = start read.before in
     rw (c.on2.ensures, copied.copy2.ensures, read.be16.ensures, matched.match.keys2)
-    (image0-given begun.args.field.now begun.args.s (lent begun) _ begun.pre.0 begun.pre.1.whole)
+    (image0_given begun.args.field.now begun.args.s (lent begun) _ begun.pre.0 begun.pre.1.whole)
 
 same-length-3 : tie.Need-same-length-3
 same-length-3 c = c.before.before.before.copy3.auto.1.1.0
@@ -100,7 +100,7 @@ returns-3 c =
     let read = matched.before.before in
     let begun = start read.before in
     rw (c.on3.ensures, copied.copy3.ensures, read.be16.ensures, matched.match.keys3)
-    (image1-given begun.args.field.now begun.args.s (lent begun) _ begun.pre.0 begun.pre.1.whole)
+    (image1_given begun.args.field.now begun.args.s (lent begun) _ begun.pre.0 begun.pre.1.whole)
 
 same-length-4 : tie.Need-same-length-4
 same-length-4 c = (ran c).run.auto.1.0
@@ -122,7 +122,7 @@ returns-4 c =
     let none = rest.match.rest in
     let field = begun.args.field.now in
     let held = held_in begun.args.s (lent begun) in
-    rw (run-heard held (tag_of field) (bytes_in field) none.0.0.1 none.0.1 none.1)
+    rw (run_heard_lem held (tag_of field) (bytes_in field) none.0.0.1 none.0.1 none.1)
     ((ran c).run.ensures ∙
     ap (λ n. went (run_heard (ending_of held (bytes_in field))) (begun.args.s.at + (3 + n)) (lent begun)) read.be16.ensures)
 

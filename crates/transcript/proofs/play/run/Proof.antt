@@ -7,8 +7,8 @@ use lib.ListN.{get_or}
 use lib.Seq.{length-take-le}
 use Rattle.transcript.specs.Session.{run_heard}
 use Rattle.transcript.specs.Steps.{SessionLent, held_in, lent_of, went}
-use Rattle.transcript.proofs.Plays.{blocks-few, run-ending, run-went}
-use Rattle.transcript.proofs.Texts.{run-line-short}
+use Rattle.transcript.proofs.Plays.{blocks_few, run_ending, run_went}
+use Rattle.transcript.proofs.Texts.{run_line_short}
 use borrow.Author.Rules.{rules}
 use Rattle.transcript.proofs.play.run.Statement.{statement}
 use Rattle.transcript.proofs.play.run.Tie as tie
@@ -76,7 +76,7 @@ run-requires c κs = search rules
 few : (c : tie.After-run) → c.run.result.blocks ≤ 64
 few c =
     let begun = start (asked c) in
-    blocks-few (asked c).be32.result (get_or begun.args.field.now 7 0) (held_in begun.args.s (lent begun)) c.run.ensures
+    blocks_few (asked c).be32.result (get_or begun.args.field.now 7 0) (held_in begun.args.s (lent begun)) c.run.ensures
 
 number-requires : tie.Need-number-requires
 number-requires c κs = search rules
@@ -92,7 +92,7 @@ put-blocks-requires c κs =
     let put = line c in
     let run = ran put.before in
     let r = run.run.result in
-    let short = run-line-short put.before.number.result r.blocks r.sectors (omega arith) (omega arith) (omega (arith, run.run.ok)) in (
+    let short = run_line_short put.before.number.result r.blocks r.sectors (omega arith) (omega arith) (omega (arith, run.run.ok)) in (
       omega (arith, put.put-run.ensures.after, put.put-run.kept.0, few run, short, (start (asked run)).requires.0.text),
       omega (arith, few run, run.run.kept.1.1.1.0),
     )
@@ -118,12 +118,12 @@ returns c =
     let a = begun.args in
     let run = at-run.run in
     let number = put.before.number in
-    run-went a.s (lent begun) a.at begun.pre.0 run.last.0 run.last.1.0 run.last.1.1.0 run.last.1.1.1.0
+    run_went a.s (lent begun) a.at begun.pre.0 run.last.0 run.last.1.0 run.last.1.1.0 run.last.1.1.1.0
     run.last.1.1.1.1.0 run.last.1.1.1.1.1.0 run.result run.ensures run.kept.0 run.kept.1.0 run.kept.1.1.0 number.ensures
     (omega (arith, number.ok)) (few at-run) (omega (arith, run.ok)) put.put-run.ensures
     blocks.put-blocks.ensures ∙
     ap (λ e. went (run_heard e) a.at (lent begun))
-    (run-ending a.field.now begun.pre.1.0 (held_in a.s (lent begun)) (asked at-run).be32.ensures)
+    (run_ending a.field.now begun.pre.1.0 (held_in a.s (lent begun)) (asked at-run).be32.ensures)
 
 pub run_spec : {M : Type 1} → statement M
 run_spec =

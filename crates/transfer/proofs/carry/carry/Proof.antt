@@ -7,7 +7,7 @@ use borrow.Author.Rules.{rules}
 use lib.ListN.{get_or, length}
 use Rattle.unit.specs.Standing.{unit_of}
 use Rattle.transfer.specs.Runs.{span_bytes, sum}
-use Rattle.transfer.proofs.AllPieces.{Before, a_piece, before_first, piece-carried, piece_fits}
+use Rattle.transfer.proofs.AllPieces.{Before, a_piece, before_first, piece_carried, piece_fits}
 use Rattle.transfer.proofs.carry.carry.Statement.{statement}
 use Rattle.transfer.proofs.carry.carry.Tie as tie
 
@@ -110,7 +110,7 @@ loop-again c =
     let a = (start (turn known)).args in
     let now = (turn known).before.loop in
     let all = (carried c).carry-piece in
-    piece-carried (unit_of a.u a.table.now) a.span a.to-host a.lengths.now a.addresses.now a.host.now a.image.now
+    piece_carried (unit_of a.u a.table.now) a.span a.to-host a.lengths.now a.addresses.now a.host.now a.image.now
     (start (turn known)).pre.1.1 now.i now.done now.host now.image now.c now.inv (left (turn known)) known.lesser.result (least known)
     all.last.0 all.last.1.0 all.result (omega arith) (omega arith) all.ensures
 

@@ -8,7 +8,7 @@ use lib.ListN.{length}
 use Rattle.unit.specs.Standing.{unit_of}
 use Rattle.transfer.specs.Runs.{Carried, behind, lent}
 use Rattle.transfer.proofs.Stores.{copied_run}
-use Rattle.transfer.proofs.Carrying.{carry-more, carry_none, on_here, run-held}
+use Rattle.transfer.proofs.Carrying.{carry_more, carry_none, on_here, run_held}
 use Rattle.transfer.proofs.carry.carry_piece.Statement.{statement}
 use Rattle.transfer.proofs.carry.carry_piece.Tie as tie
 use Rattle.unit.specs.Made.{bare}
@@ -69,7 +69,7 @@ copy-run-requires c κs =
     let n = (least c).lesser in (
       omega (arith, pre.memory, inv),
       rw (← inv.1.1.0) at
-          (run-held (unit_of a.u a.table.now) a.span (length a.image.now) _ n.result r.result pre.held r.ensures (omega arith) (omega (arith, r.ensures.some))),
+          (run_held (unit_of a.u a.table.now) a.span (length a.image.now) _ n.result r.result pre.held r.ensures (omega arith) (omega (arith, r.ensures.some))),
     )
 
 on-requires : tie.Need-on-requires invariant-loop decreases-loop
@@ -80,7 +80,7 @@ on-requires c κs =
     let r = known.before.ready in
     let n = known.lesser in
     let held =
-    run-held (unit_of a.u a.table.now) a.span (length a.image.now) _ n.result r.result begun.pre.held r.ensures (omega arith)
+    run_held (unit_of a.u a.table.now) a.span (length a.image.now) _ n.result r.result begun.pre.held r.ensures (omega arith)
     (omega (arith, r.ensures.some)) in
     (omega arith, omega (arith, begun.good.1.0.0))
 
@@ -102,7 +102,7 @@ loop-again c =
     let n = known.lesser in
     let done = copy.copy_run in
     let held =
-    run-held (unit_of a.u a.table.now) a.span (length a.image.now) _ n.result r.result pre.held r.ensures (omega arith)
+    run_held (unit_of a.u a.table.now) a.span (length a.image.now) _ n.result r.result pre.held r.ensures (omega arith)
     (omega (arith, r.ensures.some)) in
     let both : lent done.last.0 done.last.1.1.0 ≡ copied_run a.to-host (lent now.host now.image) r.result.at (a.at + now.done) n.result =
     λ i. lent (done.ensures.0 i) (done.ensures.1 i) in (
@@ -112,7 +112,7 @@ loop-again c =
         (
           omega arith,
           rw (c.on.ensures, both)
-              (carry-more (unit_of a.u a.table.now) a.span a.to-host (behind (bare a.u) a.from) a.at (lent a.host.now a.image.now)
+              (carry_more (unit_of a.u a.table.now) a.span a.to-host (behind (bare a.u) a.from) a.at (lent a.host.now a.image.now)
               now.done n.result (lent now.host now.image) now.c r.result now.inv.1.1.1
               (rw now.inv.1.1.1.on.here at r.ensures)
               (omega arith) (omega arith) (omega (arith, pre.memory))),

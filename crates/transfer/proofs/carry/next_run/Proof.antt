@@ -4,7 +4,7 @@ use Prim.Native.Nat.{◌^◌, ◌-◌}
 use mathlib.Core.Path.{◌≡◌, sym, ◌∙◌}
 use native.Mathlib.Omega.{arith}
 use Rattle.wire.proofs.Numbers.{product_below}
-use Rattle.geometry.proofs.Answers.{at-sector, no_sector}
+use Rattle.geometry.proofs.Answers.{at_sector, no_sector}
 use Rattle.transfer.proofs.Cursors.{cursor_begins}
 use Rattle.transfer.proofs.Tracks.{run_inside}
 use borrow.Author.Rules.{rules}
@@ -95,7 +95,7 @@ returns-2 c =
     let run = (ran known).run_at in
     let pre = begun.pre in
     let sector = known.first.given in
-    let at = at-sector (geometry (unit_of a.u a.table.now)) run.result.place sector.0.0 sector.0.1.0 (sym (sector_is known.before.before) ∙ sector.1) in
+    let at = at_sector (geometry (unit_of a.u a.table.now)) run.result.place sector.0.0 sector.0.1.0 (sym (sector_is known.before.before) ∙ sector.1) in
     rw (at.1.0, c.before.bytes-a-sector.ensures, c.before.before.geometry2.ensures)
     (cursor_begins (unit_of a.u a.table.now) a.span a.next (a.span.count - a.next) run.result (omega (arith, pre)) run.ensures (omega (arith, pre)) (omega (arith, pre)))
 

@@ -2,7 +2,7 @@
 -- What its places in a row come to is what its sectors come to.
 use native.Mathlib.Omega.{arith}
 use Rattle.unit.specs.Standing.{unit_of}
-use Rattle.transfer.proofs.Tracks.{run-comes, run_inside}
+use Rattle.transfer.proofs.Tracks.{run_comes, run_inside}
 use borrow.Author.Rules.{rules}
 use Rattle.transfer.proofs.reach.advance.Statement.{statement}
 use Rattle.transfer.proofs.reach.advance.Tie as tie
@@ -33,7 +33,7 @@ returns c =
       asked = run.ensures.asked;
       comes =
           rw (c.reach.ensures, c.before.geometry.ensures)
-          (run-comes (unit_of a.u a.table.now) a.v a.number a.most run.result (omega arith) run.ensures a.image.now a.heeds);
+          (run_comes (unit_of a.u a.table.now) a.v a.number a.most run.result (omega arith) run.ensures a.image.now a.heeds);
     }
 
 pub advance-spec : {M : Type 1} → statement M

@@ -4,8 +4,8 @@ use Prim.Native.Nat.{◌+◌, ◌-◌}
 use mathlib.Core.Path.{ap, sym, ◌∙◌}
 use native.Mathlib.Omega.{arith}
 use lib.ListN.{length}
-use Rattle.geometry.proofs.Answers.{at-sector, no_sector}
-use Rattle.geometry.proofs.Laws.{marks_consecutive, sector-in-image}
+use Rattle.geometry.proofs.Answers.{at_sector, no_sector}
+use Rattle.geometry.proofs.Laws.{marks_consecutive, sector_in_image}
 use Rattle.transfer.specs.Progress.{Progress}
 use Rattle.transfer.specs.Runs.{reached}
 use Rattle.transfer.proofs.Rows.{row_comes}
@@ -42,8 +42,8 @@ readable-requires : tie.Need-readable-requires
 readable-requires c κs =
     let a = (start (asked c)).args in
     let sector = c.before.mark.given in
-    let is = (at-sector a.g a.place sector.0.0 sector.0.1.0 (sym (asked c).sector.ensures ∙ sector.1)).1.1 in
-    let last = (sector-in-image a.g (length a.image.now) (a.place + (a.n - 1)) (omega arith) (omega arith)).1 in
+    let is = (at_sector a.g a.place sector.0.0 sector.0.1.0 (sym (asked c).sector.ensures ∙ sector.1)).1.1 in
+    let last = (sector_in_image a.g (length a.image.now) (a.place + (a.n - 1)) (omega arith) (omega arith)).1 in
     omega (arith, is, last, marks_consecutive a.g a.place (a.n - 1))
 
 cast-good : tie.Need-overflow-cast-good
@@ -61,7 +61,7 @@ returns-2 c =
     ∙ ap (λ (p : Progress). reached p)
     (sym
     (row_comes a.image.now a.g a.heeds a.place a.n sector.0.1.0
-    (at-sector a.g a.place sector.0.0 sector.0.1.0 (sym (asked (told c)).sector.ensures ∙ sector.1)).1.1
+    (at_sector a.g a.place sector.0.0 sector.0.1.0 (sym (asked (told c)).sector.ensures ∙ sector.1)).1.1
     found.result found.ensures))
 
 pub reach-spec : {M : Type 1} → statement M

@@ -5,7 +5,7 @@ use native.Mathlib.Omega.{arith}
 use borrow.Author.Rules.{rules}
 use Rattle.unit.specs.Standing.{unit_of}
 use Rattle.unit.specs.declared.Spot.{Spot}
-use Rattle.unit.proofs.Answers.{at-landing, no_landing}
+use Rattle.unit.proofs.Answers.{at_landing, no_landing}
 use Rattle.unit.proofs.Laws.{spot_inside}
 use Rattle.transfer.proofs.reach.run_at.Statement.{statement}
 use Rattle.transfer.proofs.reach.run_at.Tie as tie
@@ -42,7 +42,7 @@ returns-2 : tie.Need-returns-2
 returns-2 c =
     let a = (asked c).before.args in
     let spot = c.before.before.before.spot.given.0.0 in
-    let landed = at-landing (unit_of a.u a.table.now) a.v a.number spot (sym (asked c).land.ensures ∙ c.before.before.before.spot.given.1) in
+    let landed = at_landing (unit_of a.u a.table.now) a.v a.number spot (sym (asked c).land.ensures ∙ c.before.before.before.spot.given.1) in
     let inside = spot_inside (unit_of a.u a.table.now) a.v a.number (omega arith) in
     let is = landed.1 in
     record {

@@ -4,7 +4,7 @@ use Prim.Native.Nat.{◌-◌}
 use native.Mathlib.Omega.{arith}
 use borrow.Author.Rules.{rules}
 use Rattle.unit.specs.Standing.{unit_of}
-use Rattle.transfer.proofs.Survey.{Surveying, advanced_most, survey_begins, survey-ends, survey_grows, survey_on, survey-stopped}
+use Rattle.transfer.proofs.Survey.{Surveying, advanced_most, survey_begins, survey_ends, survey_grows, survey_on, survey_stopped}
 use Rattle.transfer.proofs.reach.survey.Statement.{statement}
 use Rattle.transfer.proofs.reach.survey.Tie as tie
 
@@ -62,7 +62,7 @@ returns c =
     let a = (start (at-loop (stopped c))).args in
     let now = (at-loop (stopped c)).loop in
     let m = (stopped c).advance in
-    survey-stopped a.image.now (unit_of a.u a.table.now) a.span.volume a.span.first a.span.count a.heeds now.done now.inv m.result m.ensures
+    survey_stopped a.image.now (unit_of a.u a.table.now) a.span.volume a.span.first a.span.count a.heeds now.done now.inv m.result m.ensures
     c.before.answer.given.0.0 c.before.answer.given.1
 
 enum_told : tie.Need-enum-told invariant-loop decreases-loop
@@ -86,7 +86,7 @@ returns-2 : tie.Need-returns-2 invariant-loop decreases-loop
 returns-2 c =
     let a = (start c.before.before).args in
     let now = c.before.before.loop in
-    survey-ends a.image.now (unit_of a.u a.table.now) a.span.volume a.span.first a.span.count a.heeds now.done now.invariant (omega arith)
+    survey_ends a.image.now (unit_of a.u a.table.now) a.span.volume a.span.first a.span.count a.heeds now.done now.invariant (omega arith)
 
 pub survey-spec : {M : Type 1} → statement M
 survey-spec =

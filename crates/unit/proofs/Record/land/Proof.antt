@@ -2,7 +2,7 @@
 -- If so, its address is on the drive, and landing there is landing.
 use mathlib.Core.Path.{◌∙◌}
 use borrow.Author.Rules.{rules}
-use Rattle.unit.proofs.Answers.{found-lands, not-found-lands}
+use Rattle.unit.proofs.Answers.{found_lands, not_found_lands}
 use Rattle.unit.proofs.Record.land.Statement.{statement}
 use Rattle.unit.proofs.Record.land.Tie as tie
 
@@ -19,10 +19,10 @@ enum_told : tie.Need-enum-told
 enum_told c = search rules
 
 returns : tie.Need-returns
-returns c = c.land-at.ensures ∙ found-lands _ _ _ _ (cc)
+returns c = c.land-at.ensures ∙ found_lands _ _ _ _ (cc)
 
 returns-2 : tie.Need-returns-2
-returns-2 c = not-found-lands _ _ _ (cc)
+returns-2 c = not_found_lands _ _ _ (cc)
 
 pub land-spec : {M : Type 1} → statement M
 land-spec =

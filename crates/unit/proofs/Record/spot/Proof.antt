@@ -2,7 +2,7 @@
 -- If so, its sector is below S, and the spot is the definition's.
 use native.Mathlib.Omega.{arith}
 use Rattle.geometry.proofs.Answers.{at_placed}
-use Rattle.unit.proofs.Answers.{at-its-spot, at_no_spot}
+use Rattle.unit.proofs.Answers.{at_its_spot, at_no_spot}
 use borrow.Author.Rules.{rules}
 use Rattle.unit.proofs.Record.spot.Statement.{statement}
 use Rattle.unit.proofs.Record.spot.Tie as tie
@@ -29,7 +29,7 @@ enum_told : tie.Need-enum-told
 enum_told c = search rules
 
 returns : tie.Need-returns
-returns c = rw c.before.sectors-a-track.ensures (at-its-spot _ _ _ (cc))
+returns c = rw c.before.sectors-a-track.ensures (at_its_spot _ _ _ (cc))
 
 returns-2 : tie.Need-returns-2
 returns-2 c = at_no_spot _ _ (cc)
