@@ -48,7 +48,7 @@ module _ (g : Geometry) where
   within_of_ends some low0 low1 aside =
       record {
         one_head = (ended v0 some).0;
-        ends = λ v. elim v [ Zero ↦ λ p. omega (arith, ended v0 some) | One ↦ λ p. omega (arith, end_present v1 p) ];
+        ends = λ v. elim v as (λ (w : VolumeNumber). Present (volume g w) → start (volume g w) + N (volume g w) ≤ 64) [ Zero ↦ λ p. omega (arith, ended v0 some) | One ↦ λ p. omega (arith, end_present v1 p) ];
         apart =
             λ p head h0 h1. ⊎_elim (λ e. omega (arith, end_present v1 p)) (λ e. omega (arith, ended v0 some)) aside;
       }

@@ -269,7 +269,7 @@ default_within =
       volumes =
           record {
             one_head = omega arith;
-            ends = λ v. elim v [ Zero ↦ λ p. omega arith | One ↦ λ p. omega arith ];
+            ends = λ v. elim v as (λ (w : VolumeNumber). Present (volume table11 w) → start (volume table11 w) + N (volume table11 w) ≤ 64) [ Zero ↦ λ p. omega arith | One ↦ λ p. omega arith ];
             apart = λ p. omega arith;
           };
     }
