@@ -1,6 +1,8 @@
 // The table of a unit's bad tracks and their spares: judged, searched, and added to.
 // It knows the shape of a drive, and no record: how many pairs of a table count is told beside it, and the table is lent.
 // It moves neither data nor heads, and changes a table by a pair at its end alone.
+#![tactic(auto)]
+
 ghost use Rattle.std.specs.Prelude.{◌≡◌, ℕ, ◌*◌, ◌≤◌, ◌<◌, min, get_or, length};
 ghost use Rattle.spares.specs.Lands.{Serves, served, InTable};
 ghost use Rattle.spares.specs.Table.{Free, Good, OneOf, one_pair_more, served_at, with_pair};
