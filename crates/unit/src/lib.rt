@@ -1,6 +1,8 @@
 // The unit record: when it counts as initialized, who holds its drive, and where a request lands on it.
 // It is the one door to where a sector stands: a spare serves for a bad track behind it, and the order of tracks is the geometry's.
 // It moves no data and sees no image; a record goes in and comes back by value, and its table is lent and left as it is.
+#![tactic(auto)]
+
 ghost use Rattle.std.specs.Prelude.{◌≡◌, ◌<◌};
 ghost use Rattle.geometry.specs.Drive.{C};
 ghost use Rattle.geometry.specs.Sectors.{OnDrive, numbered};
