@@ -1,6 +1,8 @@
 // The answers of a run and of a block, with the paper's numbers and the status byte.
 // An answer is an enum everywhere; its number is made here and nowhere else.
 // It knows no error bytes: those are a product's own.
+#![tactic(auto)]
+
 ghost use Rattle.std.specs.Prelude.{◌≡◌};
 ghost use Rattle.answers.specs.RunNumbers.{block_number};
 ghost use Rattle.answers.specs.Numbers.{refusal_number, status_of, run_number};

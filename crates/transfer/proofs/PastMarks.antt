@@ -1,7 +1,7 @@
 -- Bytes after the marks are not read: two images that hold the same sectors and marks lead a transfer to the same, and stores that reach no byte after
 -- the marks leave such images.
 -- A transfer on its drive looks at marks and at bytes of sectors alone, all of which lie below what the geometry needs.
-use Prim.Native.Nat.{ℕ, zero, suc, ◌*◌, ◌<◌}
+use Prim.Native.Nat.{ℕ, zero, suc, ◌+◌, ◌*◌, ◌<◌}
 use mathlib.Core.Bool.{Bool, true, false, not, ◌&&◌}
 use mathlib.Core.List.{List, [], ◌∷◌, ◌++◌}
 use mathlib.Core.Logic.{by_cases}
@@ -64,12 +64,12 @@ below_both n (x ∷ xs) ys first second = (first.0, below_both n xs ys first.1 s
 pub host_below : (n at : ℕ) (ns : List ℕ) → Below n (bytes_from host_byte at ns)
 unfolding bytes_from
 host_below n at [] = tt
-host_below n at (x ∷ xs) = ((tt, tt), host_below n _ xs)
+host_below n at (x ∷ xs) = ((tt, tt), host_below n (at + 1) xs)
 
 pub events_below : (n at : ℕ) (ns : List ℕ) → Below n (bytes_from event_byte at ns)
 unfolding bytes_from
 events_below n at [] = tt
-events_below n at (x ∷ xs) = ((tt, tt), events_below n _ xs)
+events_below n at (x ∷ xs) = ((tt, tt), events_below n (at + 1) xs)
 
 -- The data of a transfer on its drive.
 moved_below : (n : ℕ) (to_host : Bool) (disk host : ℕ) → disk < n → Below n (move to_host disk host ∷ [])

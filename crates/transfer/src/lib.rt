@@ -1,6 +1,8 @@
 // Moves sectors between a unit's image and pieces of host memory: first how far a transfer comes, then its bytes, run by run.
 // It knows units and pieces, and no block, no list element and no layout: any product's request is carried out here.
 // It changes no mark and no byte after the marks, and nothing at all where a request does not fit.
+#![tactic(auto)]
+
 ghost use Rattle.std.specs.Prelude.{◌&&◌, not, ◌≡◌, ◌+◌, ◌-◌, ◌^◌, ◌≤◌, ◌<◌, length};
 ghost use Rattle.geometry.specs.Drive.{S, drive_sectors, need, volume_sectors};
 ghost use Rattle.transfer.specs.Runs.{PiecesFit, lent};
