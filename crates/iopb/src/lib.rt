@@ -1,6 +1,8 @@
 // The layouts of the V/SMD 3200, declared once: block, options, UIB, error bytes, identity.
 // A block becomes a task for its unit here, and nothing above the task knows where a byte of it stood.
 // It judges nothing but whether a UIB can be read, and stores nothing.
+#![tactic(auto)]
+
 ghost use Rattle.std.specs.Prelude.{◌≡◌, ◌+◌, ◌≤◌, length};
 ghost use Rattle.iopb.specs.Errors.{error_byte, error_in, error_table};
 ghost use Rattle.iopb.specs.Identity.{identity_bytes};

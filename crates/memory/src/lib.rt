@@ -1,6 +1,8 @@
 // The elements of a list in host memory: they are judged, and copied out.
 // A list's place is tested before any of it is read, and the sum of its byte counts is made in 64 bits.
 // It changes nothing and knows no block and no drive.
+#![tactic(auto)]
+
 ghost use Rattle.std.specs.Prelude.{◌&&◌, ◌≡◌, ◌+◌, ◌*◌, ◌≤◌, length};
 ghost use Rattle.memory.specs.Lists.{element_at};
 ghost use Rattle.memory.specs.Pieces.{filled, pieces_of};

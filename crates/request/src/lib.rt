@@ -1,6 +1,8 @@
 // What a block asks, free of any block's layout: the one form in which every product's block is judged and carried out.
 // A product's own crate makes a task of its block, for the unit that it names; nothing here reads a byte.
 // What a run does besides (links, interrupts, events) is no part of it.
+#![tactic(auto)]
+
 use geometry::{Geometry, VolumeNumber};
 
 // Where a request begins in its volume: a logical number, or a physical address whose head is counted from the start head.
