@@ -1,6 +1,8 @@
 // The checks before transfer on a task, its unit's standing and the host memory: a refusal, or what is to be done.
 // Whatever is refused before a transfer is refused here, before anything is touched, by the first check that fails.
 // It changes nothing, holds for every input, and knows no block; a list's elements are the 3200's.
+#![tactic(auto)]
+
 ghost use Rattle.std.specs.Prelude.{◌&&◌, List, ◌≡◌, ℕ, ◌<◌};
 ghost use Rattle.geometry.specs.Drive.{B, S, need, volume, volume_sectors};
 ghost use Rattle.geometry.specs.Limits.{Present};
