@@ -1,6 +1,8 @@
 // One block in three movements: it is judged, performed, and finished with its status and its event entry.
 // It works on the record and the image of the unit that the block names, whichever that is, and on host memory and the event buffer.
 // It follows no link and counts no blocks: which block comes next is the chain's.
+#![tactic(auto)]
+
 ghost use Rattle.std.specs.Prelude.{List, [], ◌∷◌, ◌≡◌, ℕ, ◌+◌, ◌-◌, ◌*◌, ◌≤◌, ◌<◌, length};
 ghost use Rattle.iopb.specs.Identity.{identity_bytes};
 ghost use Rattle.iopb.specs.Layout.{block_at};
