@@ -1,6 +1,8 @@
 // The run of the V/SMD 3200: a chain of blocks, each fetched and executed, with its answer and its counts; and the inspection call.
 // What one block does is block's, and is used by its promise alone; here is which block comes next, and on whose drive.
 // It trusts no caller: any memory, images, records, address and allowance get an answer.
+#![tactic(auto)]
+
 use unit::Record;
 
 mod chain;
