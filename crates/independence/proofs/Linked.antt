@@ -20,6 +20,7 @@ use Rattle.independence.proofs.OneBlock.{In, by_block, none_onwards}
 use Rattle.board.specs.World.{World}
 
 in_first : (rs qs : List (ℕ × ℕ)) (x : ℕ) → In rs x → In (rs ++ qs) x
+in_first [] qs x there = elim there [ ]
 in_first (r ∷ rs) qs x (inl here) = inl here
 in_first (r ∷ rs) qs x (inr there) = inr (in_first rs qs x there)
 

@@ -12,8 +12,9 @@ use Rattle.answers.specs.declared.BlockAnswer.{BlockAnswer}
 use Rattle.answers.specs.declared.Refusal.{Refusal}
 use Rattle.block.specs.Steps.{transfer_with}
 use Rattle.geometry.specs.declared.Geometry.{Geometry}
+use Rattle.geometry.specs.declared.VolumeNumber.{VolumeNumber}
 use Rattle.geometry.specs.declared.VolumeNumber.TheVariants.{Zero, One}
-use Rattle.geometry.specs.Drive.{drive_heads, marks_at, need, volume, volume_sectors}
+use Rattle.geometry.specs.Drive.{N, drive_heads, marks_at, need, start, volume, volume_sectors}
 use Rattle.geometry.specs.Drive.Inside.{drive_heads_is, drive_sectors_is, marks_at_is, need_is, volume_sectors_is}
 use Rattle.geometry.specs.Limits.{Has, Present, SizesWithin}
 use Rattle.geometry.specs.Sectors.{first_byte}
@@ -62,7 +63,7 @@ module _ (cylinders sectors : ℕ) (sizes : SizesWithin (shaped cylinders sector
               volumes =
                   record {
                     one_head = omega arith;
-                    ends = λ v. elim v [ Zero ↦ λ p. omega arith | One ↦ λ p. omega arith ];
+                    ends = λ v. elim v as (λ (w : VolumeNumber). Present (volume g w) → start (volume g w) + N (volume g w) ≤ 64) [ Zero ↦ λ p. omega arith | One ↦ λ p. omega arith ];
                     apart = λ p. absurd (omega arith);
                   };
             };

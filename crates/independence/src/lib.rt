@@ -3,3 +3,4 @@
 // Pairs of chains show what its condition lets through and what goes wrong where a part of it fails: specs/TwoChains,
 // NotCounted, FromDisk and TwoControllers.
 // It has no code: it speaks of the definition of a run, and the crate two_chains of what runs.
+#![tactic(auto)]

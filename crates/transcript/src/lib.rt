@@ -1,6 +1,8 @@
 // The session, a field at a time: what is held goes in and comes back, and the lines that a field makes stand in a lent buffer.
 // What a field does to memory, images and records is board's run, by its promise; here are fields, states and text.
 // It reads no input and writes no output, and it trusts no caller: without room nothing is done.
+#![tactic(auto)]
+
 ghost use Rattle.std.specs.Prelude.{[], ◌≡◌};
 ghost use Rattle.transcript.specs.Session.{begin};
 ghost use Rattle.transcript.specs.Steps.{Fits, SessionRoom, lent_of, spoken, spoken_of, state_of};

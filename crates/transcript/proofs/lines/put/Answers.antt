@@ -1,0 +1,13 @@
+-- A copy of the whole part is its bytes stored one after the other.
+use mathlib.Core.Path.{refl, ◌∙◌}
+use native.Mathlib.Omega.{arith}
+use Rattle.block.proofs.Entries.{copy_written}
+use Rattle.transcript.proofs.lines.put.Goals as goal
+
+pub returns : goal.returns
+returns c =
+    let a = c.args in
+    record {
+      stored = c.copy.ensures ∙ copy_written a.bytes.now a.text.now a.at (omega arith);
+      after = refl;
+    }
