@@ -2,13 +2,13 @@
 -- goes on as the chain does, and a record that is left at every step is left as at the last.
 use Prim.Native.Nat.{ℕ, zero, suc, ◌+◌, ◌*◌, ◌^◌, ◌≤◌, ◌<◌}
 use mathlib.Core.Bool.{Bool, true, false, cond}
-use mathlib.Core.List.{List, [], ◌++◌}
+use mathlib.Core.List.{List, []}
 use mathlib.Core.Logic.{◌⊎◌, by_cases, if_neg, if_pos, inl, inr, ite, ⊎_elim}
 use mathlib.Core.Path.{◌≡◌, refl, sym, ap, subst, ◌∙◌}
 use native.Mathlib.Decide.{dec_le}
 use native.Mathlib.Omega.{arith}
-use denote.Ref.{Bor}
-use lib.ListN.{drop, get_or, length}
+use denote.Ref.{MutBor}
+use lib.ListN.{get_or, length}
 use lib.Seq.{length-sets}
 use Rattle.answers.specs.declared.BlockAnswer.{BlockAnswer}
 use Rattle.answers.specs.declared.BlockAnswer.TheVariants.{Ended, Failed}
@@ -502,7 +502,7 @@ vsmd_run_of_steps =
       some_result = λ controller at i l low.
           let s = stepped_as controller at i l in
           let m = s.lent in
-          let of : List ℕ → Bor (List ℕ) = λ b. record { ref_ptr = (0, 0); now = b } in (
+          let of : List ℕ → MutBor (List ℕ) = λ b. record { ref_ptr = (0, 0); ghost_name = 0; now = b } in (
             s,
             record {
               bytes = low;

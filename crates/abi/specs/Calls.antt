@@ -1,7 +1,7 @@
 -- What the exported calls do, in bytes: a run and an inspection as board defines them, on records that cross as bytes. A buffer that is
 -- too short for its layout, and a controller that there is not, are refused with a code each, and nothing is changed.
 use Rattle.std.specs.Prelude.{ℕ, zero, suc, List, length}
-use Rattle.std.specs.Borrow.{Bor}
+use Rattle.std.specs.Borrow.{MutBor}
 use Rattle.std.proofs.Math.Logic.{ite}
 use Rattle.std.proofs.Math.Decide.{dec_lt}
 use Rattle.answers.specs.Numbers.{run_number}
@@ -43,7 +43,7 @@ lent_of host image0 image1 events record0 record1 outcome =
 -- What is lent by seven slices, which the arguments of a run and of a step begin with, and what is left in them at exit.
 abbrev pub lent_in :
     {X : Type 0} →
-    Bor (List ℕ) × (Bor (List ℕ) × (Bor (List ℕ) × (Bor (List ℕ) × (Bor (List ℕ) × (Bor (List ℕ) × (Bor (List ℕ) × X)))))) → CallLent
+    MutBor (List ℕ) × (MutBor (List ℕ) × (MutBor (List ℕ) × (MutBor (List ℕ) × (MutBor (List ℕ) × (MutBor (List ℕ) × (MutBor (List ℕ) × X)))))) → CallLent
 lent_in a =
     lent_of a.0.now a.1.0.now a.1.1.0.now a.1.1.1.0.now a.1.1.1.1.0.now a.1.1.1.1.1.0.now
     a.1.1.1.1.1.1.0.now

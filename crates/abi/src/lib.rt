@@ -1,6 +1,8 @@
 // The static library for firmware in C or Rust: a run, a block by itself, an inspection, and where a sector stands, on byte slices and numbers.
 // Records and outcomes cross as bytes, by the layouts of specs/Layouts; what is done with them is board's, by its promise.
 // A buffer that is too short for its layout is refused, and nothing is changed. That pointers are good and apart only the caller knows.
+#![tactic(auto)]
+
 ghost use Rattle.std.specs.Prelude.{◌≡◌, ◌≤◌, length};
 ghost use Rattle.abi.specs.Calls.{called, called_as, called_of, controller_of, image_number, inspected_of, inspection, lent_of, made};
 ghost use Rattle.abi.specs.Layouts.{outcome_length, record_length};

@@ -63,17 +63,19 @@ two_runs_in_either_order :
     })
 two_runs_in_either_order one two s apart κ₁ κ₂ κ₃ κ₄ a₁ a₂ a₃ a₄ x₁ x₂ x₃ x₄ e₁ e₂ e₃ e₄ g₁ g₂ g₃ g₄ p₁ p₂ p₃ p₄ =
     let either = either_way one two s apart in
+    let after-first = leaving First one.controller s (world_of a₁.1.1.1.1.1.1.1.0 e₁.0.now e₁.1.0.now e₁.1.1.0.now e₁.1.1.1.0.now e₁.1.1.1.1.0.now e₁.1.1.1.1.1.0.now x₁.units) in
+    let after-second = leaving Second two.controller s (world_of a₃.1.1.1.1.1.1.1.0 e₃.0.now e₃.1.0.now e₃.1.1.0.now e₃.1.1.1.0.now e₃.1.1.1.1.0.now e₃.1.1.1.1.1.0.now x₃.units) in
     let first-left = leaves_so First one s _ g₁ x₁ _ p₁ in
     let second-left = leaves_so Second two s _ g₃ x₃ _ p₃ in
     record {
       of_first =
-          comes_so First one s _ g₁ x₁ _ p₁ ∙ first_same one two s either ∙ sym (ap (run_of First one).out second-left) ∙ sym (comes_so First one _ _ g₄ x₄ _ p₄);
+          comes_so First one s _ g₁ x₁ _ p₁ ∙ first_same one two s either ∙ sym (ap (run_of First one).out second-left) ∙ sym (comes_so First one after-second _ g₄ x₄ _ p₄);
       of_second =
-          comes_so Second two _ _ g₂ x₂ _ p₂ ∙ ap (run_of Second two).out first-left ∙ second_same one two s either ∙ sym (comes_so Second two s _ g₃ x₃ _ p₃);
+          comes_so Second two after-first _ g₂ x₂ _ p₂ ∙ ap (run_of Second two).out first-left ∙ second_same one two s either ∙ sym (comes_so Second two s _ g₃ x₃ _ p₃);
       left =
-          leaves_so Second two _ _ g₂ x₂ _ p₂
+          leaves_so Second two after-first _ g₂ x₂ _ p₂
           ∙ ap (run_of Second two).left first-left
           ∙ left_same one two s either
           ∙ sym (ap (run_of First one).left second-left)
-          ∙ sym (leaves_so First one _ _ g₄ x₄ _ p₄);
+          ∙ sym (leaves_so First one after-second _ g₄ x₄ _ p₄);
     }

@@ -1,6 +1,8 @@
 // Two chains run one after the other, each by either controller and with an event buffer of its own, in the order that is asked for.
 // Demand 3 is about the definition of a run (crate independence); here it is about what runs: both orders hand back the same.
 // It runs nothing by itself but board's run, twice, and asks nothing of the two chains.
+#![tactic(auto)]
+
 ghost use Rattle.std.specs.Prelude.{◌≡◌};
 ghost use Rattle.two_chains.specs.declared.Order.{Order};
 ghost use Rattle.two_chains.specs.Orders.{IsRunOf, both_of, chain_of, end_in, lent_to, ran_both, ran_both_of};

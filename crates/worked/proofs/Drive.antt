@@ -1,6 +1,6 @@
 -- The small drive's own numbers, and where a number in a volume stands on it.
 -- The geometry's shut definitions are opened by their equations, and what is left is arithmetic on numerals.
-use Prim.Native.Nat.{ℕ, ◌+◌, ◌*◌, ◌/◌, ◌%◌, ◌<◌}
+use Prim.Native.Nat.{ℕ, ◌+◌, ◌*◌, ◌/◌, ◌%◌, ◌≤◌, ◌<◌}
 use mathlib.Core.Bool.{Bool, true}
 use mathlib.Core.Path.{◌≡◌, refl, ap, ◌∙◌}
 use native.Mathlib.Omega.{arith}
@@ -20,7 +20,7 @@ use Rattle.spares.proofs.Laws.{empty_is_good}
 use Rattle.unit.proofs.Laws.{no_pairs_lands_there}
 use Rattle.unit.specs.Landing.{spot_of}
 use Rattle.unit.specs.Landing.Behind.{spot_at_is, spot_of_is}
-use Rattle.unit.specs.Standing.{CountsAsInitialized, no_tracks}
+use Rattle.unit.specs.Standing.{CountsAsInitialized, geometry, no_tracks}
 use Rattle.worked.specs.SmallDrive.{drive, unit, unit_by}
 
 -- The drive in either order: its sizes are the same.
@@ -38,7 +38,7 @@ counts_by by =
             volumes =
                 record {
                   one_head = omega arith;
-                  ends = λ v. elim v [ Zero ↦ λ p. omega arith | One ↦ λ p. omega arith ];
+                  ends = λ v. elim v as (λ (w : VolumeNumber). Present (volume (geometry (unit_by by)) w) → start (volume (geometry (unit_by by)) w) + N (volume (geometry (unit_by by)) w) ≤ 64) [ Zero ↦ λ p. omega arith | One ↦ λ p. omega arith ];
                   apart = λ p. omega arith;
                 };
           };
