@@ -114,16 +114,16 @@ pub record RunsAlike (allowance : ℕ) (l : CallLent) (outcome : List ℕ) : Typ
 -- What two promises say together, of a step and of a run.
 pub record RunOfSteps
     {ℓ₀ ℓ₁ ℓ₂ ℓ₃ m₀ m₁ m₂ m₃} {K : Type ℓ₀} {A : K → Type ℓ₁} {R : K → Type ℓ₂} {E : K → Type ℓ₃}
-    (StepPost : (κ : K) → A κ → R κ → E κ → Type 0) (step_given : (κ : K) → A κ → StepAsking) (step-seen : (κ : K) → R κ → E κ → Called)
+    (StepPost : (κ : K) → A κ → R κ → E κ → Type 0) (step_given : (κ : K) → A κ → StepAsking) (step_seen : (κ : K) → R κ → E κ → Called)
     {J : Type m₀} {B : J → Type m₁} {S : J → Type m₂} {F : J → Type m₃}
-    (RunPost : (κ : J) → B κ → S κ → F κ → Type 0) (run-given : (κ : J) → B κ → Asking) (run-seen : (κ : J) → S κ → F κ → Called) :
+    (RunPost : (κ : J) → B κ → S κ → F κ → Type 0) (run_given : (κ : J) → B κ → Asking) (run_seen : (κ : J) → S κ → F κ → Called) :
     Type (ℓ₀ ⊔ ℓ₁ ⊔ ℓ₂ ⊔ ℓ₃ ⊔ m₀ ⊔ m₁ ⊔ m₂ ⊔ m₃) where
   -- Whatever is asked for and lent, a step has a result that is allowed.
-  pub some_result : (controller at i : ℕ) (l : CallLent) → Bytes l → (s : Called) × StepBy StepPost step_given step-seen controller at i l s
+  pub some_result : (controller at i : ℕ) (l : CallLent) → Bytes l → (s : Called) × StepBy StepPost step_given step_seen controller at i l s
   -- A run and a loop of steps that begins with the first entry, each as its promise allows, by one controller, with one first block, one allowance and the same bytes
   -- lent, come to the same: in the number returned, in every byte that is lent to both, and in the outcome.
   pub same :
       (controller first allowance : ℕ) (l : CallLent) (outcome : List ℕ) (r : Called) → RunsAlike allowance l outcome →
-      Loop (StepBy StepPost step_given step-seen controller) outcome allowance nothing first l r →
-      (κ : J) (b : B κ) (x : S κ) (f : F κ) → run-given κ b ≡ asking controller first allowance (with_outcome l outcome) → RunPost κ b x f →
-      run-seen κ x f ≡ r
+      Loop (StepBy StepPost step_given step_seen controller) outcome allowance nothing first l r →
+      (κ : J) (b : B κ) (x : S κ) (f : F κ) → run_given κ b ≡ asking controller first allowance (with_outcome l outcome) → RunPost κ b x f →
+      run_seen κ x f ≡ r

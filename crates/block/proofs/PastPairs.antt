@@ -75,14 +75,14 @@ module _ (F : ℕ → List ℕ → List ℕ) (p : PastPairs F) where
 
     -- The transfer is the same.
     moving_past :
-        (to_host past-marks : Bool) (v : VolumeNumber) (first count : ℕ) (host_at : ℕ → ℕ) →
-        moving (past F u) to_host past-marks v first count host_at ≡ moving u to_host past-marks v first count host_at
-    moving_past to_host past-marks v first count host_at =
+        (to_host past_marks : Bool) (v : VolumeNumber) (first count : ℕ) (host_at : ℕ → ℕ) →
+        moving (past F u) to_host past_marks v first count host_at ≡ moving u to_host past_marks v first count host_at
+    moving_past to_host past_marks v first count host_at =
         λ i.
         record {
           geometry = geometry u;
           to_host = to_host;
-          heeds = to_host && not past-marks;
+          heeds = to_host && not past_marks;
           count = count;
           place = λ j. (spot_past v (first + j) i).place;
           host_at = host_at;

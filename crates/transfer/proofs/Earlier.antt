@@ -247,24 +247,24 @@ module _ (m : Buffers) (t : Transfer) where
 
 -- "82 and A2 ignore marks" (01, One run)
 pub writes_ignore_marks :
-    (u : UnitRecord) (past-marks : Bool) (v : VolumeNumber) (first count : ℕ) (host_at : ℕ → ℕ) →
-    (moving u false past-marks v first count host_at).heeds ≡ false
-writes_ignore_marks u past-marks v first count host_at = refl
+    (u : UnitRecord) (past_marks : Bool) (v : VolumeNumber) (first count : ℕ) (host_at : ℕ → ℕ) →
+    (moving u false past_marks v first count host_at).heeds ≡ false
+writes_ignore_marks u past_marks v first count host_at = refl
 
 -- Sectors of a volume, written, come whole; where no two of them stand in one place the image has the host's bytes in each.
 pub moving_writes_all :
-    (m : Buffers) (u : UnitRecord) (past-marks : Bool) (v : VolumeNumber) (first count : ℕ) (host_at : ℕ → ℕ) →
+    (m : Buffers) (u : UnitRecord) (past_marks : Bool) (v : VolumeNumber) (first count : ℕ) (host_at : ℕ → ℕ) →
     first + count ≤ volume_sectors (geometry u) v → need (geometry u) ≤ length m.image →
     ((i j : ℕ) → i < count → j < count → place_from u v first i ≡ place_from u v first j → i ≡ j) →
-    let t = moving u false past-marks v first count host_at in
+    let t = moving u false past_marks v first count host_at in
     (progress_on m.image t ≡ whole count) ×
     ((k : ℕ) → k < count * B (geometry u) → get_or (afterwards m t).image (on_disk t k) 0 ≡ get_or m.host (host_at k) 0)
-moving_writes_all m u past-marks v first count host_at inside long differ =
-    let t = moving u false past-marks v first count host_at in
-    let ignores = writes_ignore_marks u past-marks v first count host_at in (
+moving_writes_all m u past_marks v first count host_at inside long differ =
+    let t = moving u false past_marks v first count host_at in
+    let ignores = writes_ignore_marks u past_marks v first count host_at in (
       whole_unheeding m.image t ignores,
       image_has_all m t refl ignores
-          (λ j j<. (sector_in_image (geometry u) (length m.image) (t.place j) long (moving_on_drive u false past-marks v first count host_at inside j j<)).0)
+          (λ j j<. (sector_in_image (geometry u) (length m.image) (t.place j) long (moving_on_drive u false past_marks v first count host_at inside j j<)).0)
           differ,
     )
 

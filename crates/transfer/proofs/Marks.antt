@@ -28,9 +28,9 @@ StandsOnDrive t = (j : ℕ) → j < t.count → t.place j < drive_sectors t.geom
 
 -- Sectors of a volume do, and so do those of a track that the drive has.
 pub moving_on_drive :
-    (u : UnitRecord) (to_host past-marks : Bool) (v : VolumeNumber) (first count : ℕ) (host_at : ℕ → ℕ) →
-    first + count ≤ volume_sectors (geometry u) v → StandsOnDrive (moving u to_host past-marks v first count host_at)
-moving_on_drive u to_host past-marks v first count host_at inside j j< =
+    (u : UnitRecord) (to_host past_marks : Bool) (v : VolumeNumber) (first count : ℕ) (host_at : ℕ → ℕ) →
+    first + count ≤ volume_sectors (geometry u) v → StandsOnDrive (moving u to_host past_marks v first count host_at)
+moving_on_drive u to_host past_marks v first count host_at inside j j< =
     omega (arith, spot_inside u v (first + j) (omega arith))
 
 pub formatting_on_drive :
@@ -82,12 +82,12 @@ marks_stay m t on x from = unstored_stays (data_on m.image t) m (image_byte x) (
 
 -- That is so for sectors of a volume, and for a track that the drive has.
 pub moving_keeps_marks :
-    (m : Buffers) (u : UnitRecord) (to_host past-marks : Bool) (v : VolumeNumber) (first count : ℕ) (host_at : ℕ → ℕ) →
+    (m : Buffers) (u : UnitRecord) (to_host past_marks : Bool) (v : VolumeNumber) (first count : ℕ) (host_at : ℕ → ℕ) →
     first + count ≤ volume_sectors (geometry u) v → (x : ℕ) → marks_at (geometry u) ≤ x →
-    byte_in (after (data_on m.image (moving u to_host past-marks v first count host_at)) m) (image_byte x) ≡ byte_in m (image_byte x)
-moving_keeps_marks m u to_host past-marks v first count host_at inside =
-    marks_stay m (moving u to_host past-marks v first count host_at)
-    (moving_on_drive u to_host past-marks v first count host_at inside)
+    byte_in (after (data_on m.image (moving u to_host past_marks v first count host_at)) m) (image_byte x) ≡ byte_in m (image_byte x)
+moving_keeps_marks m u to_host past_marks v first count host_at inside =
+    marks_stay m (moving u to_host past_marks v first count host_at)
+    (moving_on_drive u to_host past_marks v first count host_at inside)
 
 pub formatting_keeps_marks :
     (m : Buffers) (u : UnitRecord) (spot : Spot) (at : ℕ) →

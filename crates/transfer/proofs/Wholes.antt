@@ -70,16 +70,16 @@ module _ (image : List ℕ) (u : UnitRecord) (s : Span) (heeds : Bool) where
       }
 
 -- The two results of a call.
-module _ (long : ℕ) (image : List ℕ) (u : UnitRecord) (s : Span) (to_host past-marks : Bool) (lengths addresses : List ℕ) where
+module _ (long : ℕ) (image : List ℕ) (u : UnitRecord) (s : Span) (to_host past_marks : Bool) (lengths addresses : List ℕ) where
   pub sectors_fit :
       SectorsFit (geometry u) s lengths addresses long (length image) →
-      sectors_result long image u s to_host past-marks lengths addresses ≡
-      made image (span_transfer u s to_host past-marks lengths addresses)
+      sectors_result long image u s to_host past_marks lengths addresses ≡
+      made image (span_transfer u s to_host past_marks lengths addresses)
   unfolding sectors_result
   sectors_fit fit = if_pos (sectors_fit? (geometry u) s lengths addresses long (length image)) fit _ _
 
   pub sectors_unfit :
       (SectorsFit (geometry u) s lengths addresses long (length image) → ⊥) →
-      sectors_result long image u s to_host past-marks lengths addresses ≡ misfit
+      sectors_result long image u s to_host past_marks lengths addresses ≡ misfit
   unfolding sectors_result
   sectors_unfit unfit = if_neg (sectors_fit? (geometry u) s lengths addresses long (length image)) unfit _ _

@@ -25,11 +25,11 @@ pub record Transfer : Type 0 where
 -- 81 and A1 "copy sectors to host memory"; 82 and A2 copy the other way. "At a non-zero mark they stop before that sector, or,
 -- with DE, move it and go on. 82 and A2 ignore marks."
 abbrev pub moving : UnitRecord → Bool → Bool → VolumeNumber → ℕ → ℕ → (ℕ → ℕ) → Transfer
-moving u to_host past-marks v first count host_at =
+moving u to_host past_marks v first count host_at =
     record {
       geometry = geometry u;
       to_host = to_host;
-      heeds = to_host && not past-marks;
+      heeds = to_host && not past_marks;
       count = count;
       place = λ j. (spot_of u v (first + j)).place;
       host_at = host_at;
@@ -60,7 +60,7 @@ move to_host disk host =
     (record { to = image_byte disk; value = copy_of (host_byte host) })
 
 -- How far the transfer comes on an image as it stood before, and the bytes that it moves there. A read stores nothing in the
--- image, and what a write stores there is no mark and nothing past the marks (the law marks-stay).
+-- image, and what a write stores there is no mark and nothing past the marks (the law marks_stay).
 abbrev pub progress_on : List ℕ → Transfer → Progress
 progress_on image t = progress (λ j. stops_at image t.geometry t.heeds (t.place j)) 0 t.count
 

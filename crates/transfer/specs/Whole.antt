@@ -36,8 +36,8 @@ moved_on image t = record { sectors = (progress_on image t).sectors; answer = (p
 
 -- The transfer of a span, to or from pieces.
 abbrev pub span_transfer : UnitRecord → Span → Bool → Bool → List ℕ → List ℕ → Transfer
-span_transfer u s to_host past-marks lengths addresses =
-    moving u to_host past-marks s.volume s.first s.count (piece_byte lengths addresses)
+span_transfer u s to_host past_marks lengths addresses =
+    moving u to_host past_marks s.volume s.first s.count (piece_byte lengths addresses)
 
 -- Each is decided.
 pub pieces_fit? : (long bytes : ℕ) (lengths addresses : List ℕ) → Dec (PiecesFit long bytes lengths addresses)
@@ -76,8 +76,8 @@ abbrev pub misfit : Result
 misfit = record { attempt = Attempt.Misfit; stores = [] }
 
 unfoldable pub sectors_result : ℕ → List ℕ → UnitRecord → Span → Bool → Bool → List ℕ → List ℕ → Result
-sectors_result long image u s to_host past-marks lengths addresses =
-    let t = span_transfer u s to_host past-marks lengths addresses in
+sectors_result long image u s to_host past_marks lengths addresses =
+    let t = span_transfer u s to_host past_marks lengths addresses in
     ite (sectors_fit? (geometry u) s lengths addresses long (length image)) (made image t) misfit
 
 unfoldable pub track_result : ℕ → List ℕ → UnitRecord → Spot → ℕ → Result

@@ -49,10 +49,10 @@ abbrev pub after_call : Which → Chain → Both → RunSeen → Both
 after_call t k s r = leaving t k.controller s r.left
 
 -- What four calls come to: the first chain's with the second's after it, and the second's with the first's after it.
-pub record CallsAlike (one two : Chain) (s : Both) (first then-second second then-first : RunSeen) : Type 0 where
-  pub of_first : first.came ≡ then-first.came
-  pub of_second : then-second.came ≡ second.came
-  pub left : after_call Second two (after_call First one s first) then-second ≡ after_call First one (after_call Second two s second) then-first
+pub record CallsAlike (one two : Chain) (s : Both) (first then_second second then_first : RunSeen) : Type 0 where
+  pub of_first : first.came ≡ then_first.came
+  pub of_second : then_second.came ≡ second.came
+  pub left : after_call Second two (after_call First one s first) then_second ≡ after_call First one (after_call Second two s second) then_first
 
 abbrev pub TwoCallsAlike {ℓ₀ ℓ₁ ℓ₂ ℓ₃} :
     {K : Type ℓ₀} {A : K → Type ℓ₁} {R : K → Type ℓ₂} {E : K → Type ℓ₃} →
