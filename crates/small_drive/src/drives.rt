@@ -1,6 +1,7 @@
 // The drives themselves: their sizes, and where their sectors stand.
 use crate::show::{decimal, line, text};
 use geometry::{Geometry, Sector, Volume, VolumeNumber};
+use std::io::Result;
 use unit::{Landing, Record};
 
 // The small drive: 10 cylinders of 4 sectors of 64 bytes, heads 0 and 1 in volume 0, head 2 in volume 1.
@@ -13,55 +14,51 @@ pub(crate) fn record(initialized: bool) -> Record {
     Record::new(initialized, small(), 0, 0)
 }
 
-fn byte(place: u64) {
+fn byte(rt: &impl Print, place: u64) -> Result<()> {
     match small().sector(place) {
         Sector::At { first, mark } => {
-            line(b"  byte ", first);
-            line(b"  mark ", mark);
+            line(rt, b"  byte ", first)?;
+            line(rt, b"  mark ", mark)
         }
-        Sector::Outside => {
-            text(b"  outside\n");
-        }
+        Sector::Outside => text(rt, b"  outside\n"),
     }
 }
 
-fn landing(name: &[u8], volume: VolumeNumber, number: u64) {
-    decimal(name, number);
+fn landing(rt: &impl Print, name: &[u8], volume: VolumeNumber, number: u64) -> Result<()> {
+    decimal(rt, name, number)?;
     let unit = record(true);
     match unit.land(&[0u32; 64], volume, number) {
         Landing::At(spot) => {
-            line(b" place ", spot.place);
-            byte(spot.place);
+            line(rt, b" place ", spot.place)?;
+            byte(rt, spot.place)
         }
-        Landing::Outside => {
-            text(b" place outside\n");
-        }
+        Landing::Outside => text(rt, b" place outside\n"),
     }
 }
 
-fn volume_0(number: u64) {
-    landing(b"volume 0 logical ", VolumeNumber::Zero, number);
+fn volume_0(rt: &impl Print, number: u64) -> Result<()> {
+    landing(rt, b"volume 0 logical ", VolumeNumber::Zero, number)
 }
 
-fn sizes(g: Geometry) {
-    line(b"heads ", g.heads() as u64);
-    line(b"sectors ", g.drive_sectors());
-    line(b"marks at ", g.marks_at());
-    line(b"image needs ", g.need());
+fn sizes(rt: &impl Print, g: Geometry) -> Result<()> {
+    line(rt, b"heads ", g.heads() as u64)?;
+    line(rt, b"sectors ", g.drive_sectors())?;
+    line(rt, b"marks at ", g.marks_at())?;
+    line(rt, b"image needs ", g.need())
 }
 
-pub(crate) fn small_drive() {
-    text(b"small drive\n");
-    sizes(small());
-    volume_0(0);
-    volume_0(7);
-    volume_0(8);
-    volume_0(79);
-    volume_0(80);
-    landing(b"volume 1 logical ", VolumeNumber::One, 0);
+pub(crate) fn small_drive(rt: &impl Print) -> Result<()> {
+    text(rt, b"small drive\n")?;
+    sizes(rt, small())?;
+    volume_0(rt, 0)?;
+    volume_0(rt, 7)?;
+    volume_0(rt, 8)?;
+    volume_0(rt, 79)?;
+    volume_0(rt, 80)?;
+    landing(rt, b"volume 1 logical ", VolumeNumber::One, 0)
 }
 
-pub(crate) fn table_11() {
-    text(b"default\n");
-    sizes(Geometry::default());
+pub(crate) fn table_11(rt: &impl Print) -> Result<()> {
+    text(rt, b"default\n")?;
+    sizes(rt, Geometry::default())
 }

@@ -2,12 +2,16 @@
 // counts them, and the part of an image that an inspection lends. What it prints is held to the file stdout beside it, whose numbers
 // follow from the paper and the manual. It proves nothing about the drive itself: the crates below are proved, and this shows them
 // at work.
+#![tactic(auto)]
+
 mod drives;
 mod inspection;
 mod show;
 
-fn main() {
-    drives::small_drive();
-    drives::table_11();
-    inspection::inspection();
+use std::io;
+
+fn main(rt: HostRuntime) -> io::Result<()> {
+    drives::small_drive(&rt)?;
+    drives::table_11(&rt)?;
+    inspection::inspection(&rt)
 }

@@ -1,16 +1,16 @@
 // Lines of output.
-use libc::STDOUT_FILENO;
+use std::io::Result;
 
-pub(crate) fn text(text: &[u8]) {
-    io::write_all(STDOUT_FILENO, text);
+pub(crate) fn text(rt: &impl Print, text: &[u8]) -> Result<()> {
+    rt.write_all(text)
 }
 
-pub(crate) fn decimal(text: &[u8], number: u64) {
-    io::write_all(STDOUT_FILENO, text);
-    io::print_decimal(STDOUT_FILENO, number);
+pub(crate) fn decimal(rt: &impl Print, text: &[u8], number: u64) -> Result<()> {
+    rt.write_all(text)?;
+    rt.print(number)
 }
 
-pub(crate) fn line(text: &[u8], number: u64) {
-    decimal(text, number);
-    io::write_all(STDOUT_FILENO, b"\n");
+pub(crate) fn line(rt: &impl Print, text: &[u8], number: u64) -> Result<()> {
+    decimal(rt, text, number)?;
+    rt.write_all(b"\n")
 }

@@ -1,0 +1,5 @@
+pub mod Ending
+pub mod Fields
+pub mod Reading
+pub mod Sessions
+pub mod Turns
