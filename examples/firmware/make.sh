@@ -4,7 +4,7 @@
 set -eu
 here=$(cd "$(dirname "$0")" && pwd -P)
 top=$here/../..
-bin=$(sh "$top/tools/kit")/on/$(uname -m)/toolchain/bin
+bin=$(sh "$top/tools/kit")/toolchain/bin
 words=$(sh "$top/tools/target" words "$1")
 parts=$2.parts
 mkdir -p "$parts"
