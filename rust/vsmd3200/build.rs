@@ -10,12 +10,11 @@ fn from_cargo(name: &str) -> String {
 }
 
 /// The name that `tools/build library --target` knows the machine by that is compiled for; none
-/// where it is the one that compiles, whose archive comes without a name.
+/// for x86-64 with a system, whose archive comes without a name.
 fn target() -> Option<String> {
-    let machine = from_cargo("CARGO_CFG_TARGET_ARCH");
     let bare = from_cargo("CARGO_CFG_TARGET_OS") == "none";
-    match machine.as_str() {
-        own if own == env::consts::ARCH && !bare => None,
+    match from_cargo("CARGO_CFG_TARGET_ARCH").as_str() {
+        "x86_64" if !bare => None,
         "x86_64" => Some("x86-64-bare".into()),
         "arm" => Some("armv7".into()),
         other => Some(other.into()),
