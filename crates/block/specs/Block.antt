@@ -86,7 +86,7 @@ abbrev pub held_after : Controller → (reserve : Bool) → BlockAnswer → Unit
 held_after c reserve Ended u = held_by u (reserved_by c reserve)
 held_after c reserve (Failed r) u = u
 
--- "86 does neither": of the commands that are let through it alone leaves the record as it was (judge, planOf).
+-- "86 does neither": of the commands that are let through it alone leaves the record as it was (judge, plan_of).
 abbrev pub holder_left : Controller → (reserve : Bool) → Leaving → BlockAnswer → UnitRecord → UnitRecord
 holder_left c reserve AsItWas answer u = u
 holder_left c reserve (HeadsAt x) answer u = held_after c reserve answer u

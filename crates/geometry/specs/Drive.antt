@@ -1,4 +1,4 @@
--- The shape of a drive (01, Geometry), in the paper's letters but for H, which is driveHeads: in a contract H is taken.
+-- The shape of a drive (01, Geometry), in the paper's letters but for H, which is drive_heads: in a contract H is taken.
 -- Ends and sizes are shut: other crates cite the laws of proofs/Laws, and Inside, the module below, opens them for this crate.
 use Rattle.std.specs.Prelude.{ℕ, ◌+◌, ◌*◌, max, Bool, true}
 use Rattle.std.proofs.Math.Logic.{ite}

@@ -118,7 +118,7 @@ module _ (a : Asked) where
       drive_held ∷ not_initialized ∷ volume_absent m.target.volume ∷ count_zero m.count ∷ sector_outside m.target m.count ∷ image_short ∷
       of_buffer m.buffer (m.count * B (geometry a.unit))
   checks_of Handshake = []
-  -- "UIB address odd or UIB not wholly in host memory", which the shape of a request says (iopb, shapeAt)
+  -- "UIB address odd or UIB not wholly in host memory", which the shape of a request says (iopb, shape_at)
   checks_of (Initialize Misplaced) = drive_held ∷ always UibMisplaced ∷ []
   checks_of (Initialize (Uib g)) = drive_held ∷ uib_outside_limits g ∷ []
   checks_of Restore = drive_held ∷ not_initialized ∷ []

@@ -19,7 +19,7 @@ returns-in_default c =
 pub readable-good-requires : goal.readable-good-requires
 readable-good-requires c =
     let a = c.args in
-    let is = (at_sector a.g a.place c.in-At.first c.in-At.mark (sym c.sector.ensures ∙ c.in-At.is)).1.1 in
+    let is = (at_sector a.g a.place _ _ (sym c.sector.ensures ∙ c.in-At.is)).1.1 in
     let last = (sector_in_image a.g (length a.image.now) (a.place + (a.n - 1)) (omega arith) (omega arith)).1 in
     omega (arith, is, last, marks_consecutive a.g a.place (a.n - 1))
 
@@ -30,6 +30,6 @@ returns c =
     c.came.ensures
     ∙ ap (λ (p : Progress). reached p)
     (sym
-    (row_comes a.image.now a.g a.heeds a.place a.n c.in-At.mark
-    (at_sector a.g a.place c.in-At.first c.in-At.mark (sym c.sector.ensures ∙ c.in-At.is)).1.1
+    (row_comes a.image.now a.g a.heeds a.place a.n _
+    (at_sector a.g a.place _ _ (sym c.sector.ensures ∙ c.in-At.is)).1.1
     found.result found.ensures))
