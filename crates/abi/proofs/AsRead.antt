@@ -1,5 +1,6 @@
 -- What goes by the tracks that count is told of a record as it is read: whether it counts as initialized, where what is asked for lands, and what an inspection
 -- hands back. The tracks that count are those that stand in the bytes, and nothing else is asked of a table.
+use Rattle.std.proofs.Common.{None, Some}
 use Prim.Native.Nat.{ℕ, zero, suc}
 use mathlib.Core.List.{List}
 use mathlib.Core.Logic.{by_cases, ite}
@@ -10,7 +11,6 @@ use Rattle.geometry.specs.declared.VolumeNumber.TheVariants.{Zero, One}
 use Rattle.geometry.specs.Answers.{on_drive?}
 use Rattle.geometry.specs.Drive.{volume_sectors}
 use Rattle.spares.specs.Lands.{counted}
-use Rattle.unit.specs.declared.Landing.{Landing}
 use Rattle.unit.specs.declared.UnitNumber.{UnitNumber}
 use Rattle.unit.specs.declared.UnitNumber.TheVariants as unit
 use Rattle.unit.specs.Answers.{landing, landing_at}
@@ -41,7 +41,7 @@ module _ (bytes : List ℕ) where
   unfolding landing
   number_as_read v n =
       let g = geometry (record_in bytes) in
-      ap (λ s. ite (dec_lt n (volume_sectors g v)) (Landing.At s) Landing.Outside)
+      ap (λ s. ite (dec_lt n (volume_sectors g v)) (Some s) None)
       (spot_alike (by_value (record_in bytes)) (tracks_read bytes) (tracks_in bytes) same v n)
 
   -- Where what is asked for lands.
@@ -52,7 +52,7 @@ module _ (bytes : List ℕ) where
   lands_as_read (Numbered (suc (suc volume)) n) = refl
   lands_as_read (Addressed a) =
       let g = geometry (record_in bytes) in
-      ap (λ b. ite (on_drive? g a) (Landing.At (spot_at g b)) Landing.Outside)
+      ap (λ b. ite (on_drive? g a) (Some (spot_at g b)) None)
       (landed_alike (by_value (record_in bytes)) (tracks_read bytes) (tracks_in bytes) same a)
 
   -- What is inspected of one unit,

@@ -18,16 +18,15 @@ use Rattle.abi.specs.Unread.{filled_in, read_in}
 use Rattle.abi.proofs.Unread.{fill, run_filled, world_read}
 use Rattle.board.specs.declared.Units.{Units}
 use Rattle.unit.specs.declared.Controller.{Controller}
-use Rattle.unit.specs.Standing.{unit_of}
 use Rattle.board.specs.Run.{CameTo, world_of}
 use Rattle.wire.specs.Storing.{written}
 
 -- A run that was made, from what the code ran and stored; what it left of tracks that were not read is as it stands in the bytes.
 answered_is :
-    (l : CallLent) (e : Ending) {c : Controller} {r : Outcome} {number : ℕ} {host image0 image1 events tracks0 tracks1 record0 record1 outcome : List ℕ} →
-    CameTo e (world_of c host image0 image1 events tracks0 tracks1 r.units) r →
-    record0 ≡ record_left l.record0 (filled_in l.record0 (unit_of r.units.zero tracks0)) →
-    record1 ≡ record_left l.record1 (filled_in l.record1 (unit_of r.units.one tracks1)) →
+    (l : CallLent) (e : Ending) {c : Controller} {r : Outcome} {number : ℕ} {host image0 image1 events record0 record1 outcome : List ℕ} {units : Units} →
+    CameTo e (world_of c host image0 image1 events units) r →
+    record0 ≡ record_left l.record0 (filled_in l.record0 units.zero) →
+    record1 ≡ record_left l.record1 (filled_in l.record1 units.one) →
     number ≡ run_number r.answer →
     outcome ≡ written l.outcome 0 (outcome_bytes number r.failed r.blocks r.sectors) →
     called_of number (lent_of host image0 image1 events record0 record1 outcome) ≡
@@ -48,13 +47,13 @@ answered_is l e came left0 left1 is_number left =
 -- And from what it read.
 pub made_is :
     (c : Controller) (first allowance : ℕ) (l : CallLent) (units : Units) {r : Outcome} {number : ℕ}
-    {tracks0 tracks1 host image0 image1 events tracks0' tracks1' record0 record1 outcome : List ℕ} →
-    unit_of units.zero tracks0 ≡ read_in l.record0 →
-    unit_of units.one tracks1 ≡ read_in l.record1 →
-    CameTo (ran first allowance (world_of c l.host l.image0 l.image1 l.events tracks0 tracks1 units))
-    (world_of c host image0 image1 events tracks0' tracks1' r.units) r →
-    record0 ≡ record_left l.record0 (filled_in l.record0 (unit_of r.units.zero tracks0')) →
-    record1 ≡ record_left l.record1 (filled_in l.record1 (unit_of r.units.one tracks1')) →
+    {host image0 image1 events record0 record1 outcome : List ℕ} {left : Units} →
+    units.zero ≡ read_in l.record0 →
+    units.one ≡ read_in l.record1 →
+    CameTo (ran first allowance (world_of c l.host l.image0 l.image1 l.events units))
+    (world_of c host image0 image1 events left) r →
+    record0 ≡ record_left l.record0 (filled_in l.record0 left.zero) →
+    record1 ≡ record_left l.record1 (filled_in l.record1 left.one) →
     number ≡ run_number r.answer →
     outcome ≡ written l.outcome 0 (outcome_bytes number r.failed r.blocks r.sectors) →
     called_of number (lent_of host image0 image1 events record0 record1 outcome) ≡ made c first allowance l

@@ -1,5 +1,6 @@
 -- A loop of steps comes to what a run comes to, in every byte. It goes along the loop: what a step leaves reads as the world that its block leaves, so that the loop
 -- goes on as the chain does, and a record that is left at every step is left as at the last.
+use Rattle.std.proofs.Common.{Err, Ok}
 use Prim.Native.Nat.{ℕ, zero, suc, ◌+◌, ◌*◌, ◌^◌, ◌≤◌, ◌<◌}
 use mathlib.Core.Bool.{Bool, true, false, cond}
 use mathlib.Core.List.{List, []}
@@ -10,10 +11,8 @@ use native.Mathlib.Omega.{arith}
 use denote.Ref.{MutBor}
 use lib.ListN.{get_or, length}
 use lib.Seq.{length-sets}
-use Rattle.answers.specs.declared.BlockAnswer.{BlockAnswer}
-use Rattle.answers.specs.declared.BlockAnswer.TheVariants.{Ended, Failed}
+use Rattle.answers.specs.Numbers.{BlockAnswer, refusal_number, run_number}
 use Rattle.answers.specs.declared.RunAnswer.{RunAnswer}
-use Rattle.answers.specs.Numbers.{refusal_number, run_number}
 use Rattle.answers.specs.RunNumbers.{block_number}
 use Rattle.answers.proofs.Laws.{refusals_in_range}
 use Rattle.board.specs.declared.chain.Count.{Count}
@@ -91,16 +90,16 @@ failed_last (suc n) some = refl
 ends_there :
     (a : BlockAnswer) (linked : Bool) (t : Count) (w : World) (next : Ending) → flag (goes_on a linked) ≡ 0 →
     follows a linked t w next ≡ ends (answer_to_last (block_number a)) (block_number a) t w
-ends_there Ended false t w next stops = refl
-ends_there Ended true t w next stops = absurd (omega arith)
-ends_there (Failed r) linked t w next stops =
+ends_there (Ok _) false t w next stops = refl
+ends_there (Ok _) true t w next stops = absurd (omega arith)
+ends_there (Err r) linked t w next stops =
     ap (λ (a : RunAnswer). ends a (refusal_number r) t w) (sym (failed_last (refusal_number r) (omega (arith, refusals_in_range r))))
 
 goes_there :
     (a : BlockAnswer) (linked : Bool) (t : Count) (w : World) (next : Ending) → (flag (goes_on a linked) ≡ 0 → ⊥) → follows a linked t w next ≡ next
-goes_there Ended false t w next follow = absurd (follow refl)
-goes_there Ended true t w next follow = refl
-goes_there (Failed r) linked t w next follow = absurd (follow refl)
+goes_there (Ok _) false t w next follow = absurd (follow refl)
+goes_there (Ok _) true t w next follow = refl
+goes_there (Err r) linked t w next follow = absurd (follow refl)
 
 -- ---- what one step leaves
 

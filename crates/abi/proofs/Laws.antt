@@ -1,5 +1,6 @@
 -- The layouts have the lengths that they say, and a record that was stored reads back as itself, its table with it.
 -- Stored from the first byte on, the layout's bytes stand at the head of the buffer, and each number is put together from its own.
+use Rattle.std.proofs.Common.{None, Some}
 use Prim.Native.Nat.{ℕ, ◌+◌, ◌*◌, ◌/◌, ◌%◌, ◌^◌, ◌≤◌, ◌<◌}
 use mathlib.Core.Bool.{Bool, true, false, not, ◌&&◌}
 use mathlib.Core.List.{List, [], ◌∷◌, ◌++◌}
@@ -14,8 +15,8 @@ use Rattle.geometry.specs.Drive.{B, C, S, goes_by_head}
 use Rattle.geometry.proofs.Same.{geometry_is}
 use Rattle.unit.proofs.Decided.{record_is, same_with_table?}
 use Rattle.unit.proofs.Holders.{holder_back}
-use Rattle.unit.specs.declared.Holder.{Holder}
-use Rattle.unit.specs.declared.Holder.TheVariants.{Nobody, TheFirst, TheSecond}
+use Rattle.unit.specs.declared.Controller.TheVariants.{First, Second}
+use Rattle.unit.specs.Holding.{Holder}
 use Rattle.unit.specs.Standing.{UnitRecord, by_value, cylinder, geometry, holder, initialized, pairs, table, unit_of}
 use Rattle.board.specs.Chain.{Ending}
 use Rattle.abi.specs.Calls.{record_left}
@@ -54,9 +55,9 @@ order_back true = refl
 order_back false = refl
 
 holder_low : (h : Holder) → leb (holder_number h) 2 ≡ true
-holder_low Nobody = refl
-holder_low TheFirst = refl
-holder_low TheSecond = refl
+holder_low None = refl
+holder_low (Some First) = refl
+holder_low (Some Second) = refl
 
 -- Flag, order and holder are read back, each whatever the others are.
 module _ (g : Geometry) (y : ℕ) (rest : List ℕ) (by : Bool) (h : Holder) where

@@ -29,7 +29,7 @@ left_anew bytes u other = if_neg (same_with_table? (record_in bytes) u) other _ 
 
 -- ---- where some tracks were not read
 
-module _ (bytes : List ℕ) (low : (i : ℕ) → get_or bytes i 0 < 256) (u : UnitRecord) (long : length (table u) ≡ 64) where
+module _ (bytes : List ℕ) (u : UnitRecord) (long : length (table u) ≡ 64) where
   abbrev k : ℕ
   k = known (pairs u) (table u)
 
@@ -75,9 +75,9 @@ module _ (bytes : List ℕ) (low : (i : ℕ) → get_or bytes i 0 < 256) (u : Un
         take_at (take k (table u)) (drop k (tracks_in bytes)) k (length-take-le k (table u) (omega (arith, (known_in_room (pairs u) (table u)).1)))
 
   -- To store those that are known is to store the record.
-  pub known_stored : written bytes 0 stored ≡ written bytes 0 (record_bytes (filled_in bytes u))
+  pub known_stored : ((i : ℕ) → get_or bytes i 0 < 256) → written bytes 0 stored ≡ written bytes 0 (record_bytes (filled_in bytes u))
   unfolding filled
-  known_stored =
+  known_stored low =
       let rest = track_bytes (drop k (tracks_in bytes)) in
       let all : record_bytes (filled_in bytes u) ≡ stored ++ rest =
       ap (λ (l : List ℕ). head_bytes u ++ l) (tracks_row (take k (table u)) (drop k (tracks_in bytes))) ∙ sym (append_assoc (head_bytes u) (track_bytes (take k (table u))) rest) in

@@ -1,8 +1,10 @@
 -- What a record's bytes come to, by cases, what the calls come to by it, and that what is asked for lands on the drive.
 -- The calls' definitions ask of the bytes what a reading does, so that each is a reading taken apart.
+use Rattle.std.proofs.Common.{None, Option, Some}
+use Rattle.std.specs.Prelude.{Err, Ok, Result}
 use Prim.Native.Nat.{ℕ, zero, suc, ◌≤◌, ◌<◌}
 use mathlib.Core.List.{List}
-use mathlib.Core.Logic.{apply_ite, if_neg, if_pos, ite}
+use mathlib.Core.Logic.{apply_ite, by_cases, if_neg, if_pos, ite}
 use mathlib.Core.Path.{◌≡◌, refl, sym, ◌∙◌, ap}
 use native.Mathlib.Decide.{dec_lt}
 use native.Mathlib.Omega.{arith}
@@ -11,81 +13,87 @@ use Rattle.wire.proofs.Promises.{never}
 use Rattle.geometry.specs.declared.VolumeNumber.{VolumeNumber}
 use Rattle.geometry.specs.declared.VolumeNumber.TheVariants.{Zero, One}
 use Rattle.geometry.specs.Drive.{drive_sectors, need}
-use Rattle.unit.specs.declared.Landing.{Landing}
 use Rattle.unit.specs.declared.Spot.{Spot}
 use Rattle.unit.specs.Answers.{landing}
-use Rattle.unit.specs.Made.{bare}
-use Rattle.unit.specs.Standing.{CountsAsInitialized, UnitRecord, by_value, geometry}
+use Rattle.unit.specs.Standing.{CountsAsInitialized, UnitRecord, geometry}
 use Rattle.unit.proofs.Answers.{at_address, at_landing}
 use Rattle.unit.proofs.Decided.{counts?}
 use Rattle.unit.proofs.Laws.{address_inside, spot_inside}
-use Rattle.abi.specs.declared.places.Reading.{Reading}
-use Rattle.abi.specs.declared.places.Reading.TheVariants.{Counts, Refused}
+use Rattle.abi.specs.declared.CallRefusal.{CallRefusal}
+use Rattle.abi.specs.declared.CallRefusal.TheVariants.{NotInitialized, Record0Short}
 use Rattle.abi.specs.declared.places.Wanted.{Wanted}
 use Rattle.abi.specs.declared.places.Wanted.TheVariants.{Numbered, Addressed}
-use Rattle.abi.specs.Calls.{record0_short}
 use Rattle.abi.specs.Layouts.{record_in, record_length}
-use Rattle.abi.specs.Places.{Located, Needed, locating, needed_of, needing, not_initialized, numbered_in, refusing, standing}
-use Rattle.abi.specs.Readings.{lands_as, reading}
+use Rattle.abi.specs.Places.{Located, Needed, locating, needed_of, needing, numbered_in, refusing, standing}
+use Rattle.abi.specs.Readings.{code_of, lands_as, reading}
+use Rattle.abi.specs.Unread.{read_in}
 
 module _ (bytes : List ℕ) where
-  pub read_short : length bytes < 276 → Refused record0_short ≡ reading bytes
+  pub read_short : length bytes < 276 → Err Record0Short ≡ reading bytes
   unfolding reading
   read_short short = sym (if_pos (dec_lt (length bytes) record_length) short _ _)
 
   module _ (long : 276 ≤ length bytes) where
-    pub read_counts : CountsAsInitialized (record_in bytes) → Counts (by_value (record_in bytes)) ≡ reading bytes
+    pub read_counts : CountsAsInitialized (record_in bytes) → Ok (read_in bytes) ≡ reading bytes
     unfolding reading
     read_counts so =
         sym (if_neg (dec_lt (length bytes) record_length) (λ h. omega arith) _ _ ∙ if_pos (counts? (record_in bytes)) so _ _)
 
-    pub read_not : (CountsAsInitialized (record_in bytes) → ⊥) → Refused not_initialized ≡ reading bytes
+    pub read_not : (CountsAsInitialized (record_in bytes) → ⊥) → Err NotInitialized ≡ reading bytes
     unfolding reading
     read_not not_so =
         sym (if_neg (dec_lt (length bytes) record_length) (λ h. omega arith) _ _ ∙ if_neg (counts? (record_in bytes)) not_so _ _)
 
+  -- A unit that was read is the one that is read there.
+  pub read_so : {u : UnitRecord} → reading bytes ≡ Ok u → u ≡ read_in bytes
+  unfolding reading
+  read_so is =
+      by_cases (dec_lt (length bytes) record_length) (λ short. absurd (never (cc (if_pos (dec_lt (length bytes) record_length) short _ _))))
+      (λ long.
+      by_cases (counts? (record_in bytes)) (λ so. cc (read_counts (omega arith) so)) (λ not_so. absurd (never (cc (read_not (omega arith) not_so)))))
+
   -- Whatever is made of a reading is made of each of its three cases.
   each_case :
-      {A : Type 0} (f : Reading → A) →
+      {A : Type 0} (f : Result UnitRecord CallRefusal → A) →
       f (reading bytes) ≡
-      ite (dec_lt (length bytes) record_length) (f (Refused record0_short))
-      (ite (counts? (record_in bytes)) (f (Counts (by_value (record_in bytes)))) (f (Refused not_initialized)))
+      ite (dec_lt (length bytes) record_length) (f (Err Record0Short))
+      (ite (counts? (record_in bytes)) (f (Ok (read_in bytes))) (f (Err NotInitialized)))
   unfolding reading
   each_case f =
       apply_ite f (dec_lt (length bytes) record_length) _ _ ∙
-      ap (ite (dec_lt (length bytes) record_length) (f (Refused record0_short))) (apply_ite f (counts? (record_in bytes)) _ _)
+      ap (ite (dec_lt (length bytes) record_length) (f (Err Record0Short))) (apply_ite f (counts? (record_in bytes)) _ _)
 
-  abbrev needed_by : ℕ → Reading → Needed
-  needed_by held (Counts u) = needed_of 0 (need (geometry (bare u)))
-  needed_by held (Refused code) = needed_of code held
+  abbrev needed_by : ℕ → Result UnitRecord CallRefusal → Needed
+  needed_by held (Ok u) = needed_of 0 (need (geometry u))
+  needed_by held (Err refusal) = needed_of (code_of refusal) held
 
-  pub needed_read : (held : ℕ) {r : Reading} → r ≡ reading bytes → needed_by held r ≡ needing bytes held
+  pub needed_read : (held : ℕ) {r : Result UnitRecord CallRefusal} → r ≡ reading bytes → needed_by held r ≡ needing bytes held
   unfolding needing
   needed_read held is = ap (needed_by held) is ∙ each_case (needed_by held)
 
-  abbrev located_by : (UnitRecord → Landing) → Located → Reading → Located
-  located_by lands held (Counts u) = standing (geometry (bare u)) (lands (record_in bytes)) held
-  located_by lands held (Refused code) = refusing code held
+  abbrev located_by : (UnitRecord → Option Spot) → Located → Result UnitRecord CallRefusal → Located
+  located_by lands held (Ok u) = standing (geometry u) (lands (record_in bytes)) held
+  located_by lands held (Err refusal) = refusing (code_of refusal) held
 
   pub located_read :
-      (lands : UnitRecord → Landing) (held : Located) {r : Reading} → r ≡ reading bytes →
+      (lands : UnitRecord → Option Spot) (held : Located) {r : Result UnitRecord CallRefusal} → r ≡ reading bytes →
       located_by lands held r ≡ locating lands bytes held
   unfolding locating
   located_read lands held is = ap (located_by lands held) is ∙ each_case (located_by lands held)
 
-pub no_volume : (volume n : ℕ) (u : UnitRecord) → (volume ≡ 0 → ⊥) → (volume ≡ 1 → ⊥) → Landing.Outside ≡ numbered_in volume n u
+pub no_volume : (volume n : ℕ) (u : UnitRecord) → (volume ≡ 0 → ⊥) → (volume ≡ 1 → ⊥) → None ≡ numbered_in volume n u
 no_volume zero n u not-zero not-one = absurd (not-zero refl)
 no_volume (suc zero) n u not-zero not-one = absurd (not-one refl)
 no_volume (suc (suc volume)) n u not-zero not-one = refl
 
 module _ (u : UnitRecord) (s : Spot) where
-  number_on_drive : (v : VolumeNumber) (n : ℕ) → landing u v n ≡ Landing.At s → s.place < drive_sectors (geometry u)
+  number_on_drive : (v : VolumeNumber) (n : ℕ) → landing u v n ≡ Some s → s.place < drive_sectors (geometry u)
   number_on_drive v n is =
       let at = at_landing u v n s is in
       rw at.1 (omega (arith, spot_inside u v n at.0))
 
   -- What is asked for lands on the drive, where there is such a sector.
-  pub lands_on_drive : (w : Wanted) → lands_as w u ≡ Landing.At s → s.place < drive_sectors (geometry u)
+  pub lands_on_drive : (w : Wanted) → lands_as w u ≡ Some s → s.place < drive_sectors (geometry u)
   lands_on_drive (Numbered zero n) is = number_on_drive Zero n is
   lands_on_drive (Numbered (suc zero) n) is = number_on_drive One n is
   lands_on_drive (Numbered (suc (suc volume)) n) is = absurd (never (cc))

@@ -1,5 +1,6 @@
 -- The calls that go by a record alone say what the library does otherwise: a sector stands where an inspection finds it, in an image as long as is said,
 -- and a number of a volume stands where its address does. Where the code is 0, the landing is known, and each of them goes by that.
+use Rattle.std.proofs.Common.{None, Option, Some}
 use Prim.Native.Nat.{ℕ, ◌+◌, ◌≤◌, ◌<◌}
 use mathlib.Core.List.{List}
 use mathlib.Core.Logic.{by_cases}
@@ -14,8 +15,6 @@ use Rattle.geometry.specs.Drive.{B, drive_sectors, need, volume_sectors}
 use Rattle.geometry.specs.Sectors.{address_of, first_byte, mark_byte}
 use Rattle.geometry.proofs.Answers.{found_inside}
 use Rattle.geometry.proofs.Laws.{sector_in_image}
-use Rattle.unit.specs.declared.Landing.{Landing}
-use Rattle.unit.specs.declared.Landing.TheVariants.{At, Outside}
 use Rattle.unit.specs.declared.Spot.{Spot}
 use Rattle.unit.specs.declared.UnitNumber.{UnitNumber}
 use Rattle.unit.specs.declared.UnitNumber.TheVariants as unit
@@ -52,10 +51,10 @@ module _ (bytes : List ℕ) (w : Wanted) (held : Located) where
   located = locating (lands_as w) bytes held
 
   by_landing :
-      record_length ≤ length bytes → CountsAsInitialized u → (l : Landing) → ((s : Spot) → l ≡ At s → s.place < drive_sectors (geometry u)) →
+      record_length ≤ length bytes → CountsAsInitialized u → (l : Option Spot) → ((s : Spot) → l ≡ Some s → s.place < drive_sectors (geometry u)) →
       (standing (geometry u) l held).code ≡ 0 → Told bytes (standing (geometry u) l held)
-  by_landing long so (At s) on is = record { long = long; counts = so; inside = on s refl; first = refl; mark = refl }
-  by_landing long so Outside on is = absurd (omega arith)
+  by_landing long so (Some s) on is = record { long = long; counts = so; inside = on s refl; first = refl; mark = refl }
+  by_landing long so None on is = absurd (omega arith)
 
   told : located.code ≡ 0 → Told bytes located
   told is =
@@ -116,7 +115,7 @@ module _ (bytes : List ℕ) (held : Located) where
   at_address_of v n = let a = address_of g v n in locating (addressed_by a.cylinder a.head a.sector) bytes held
 
   one_landing :
-      (lands : UnitRecord → Landing) (v : VolumeNumber) (n : ℕ) → lands (record_in bytes) ≡ landing (record_in bytes) v n → n < volume_sectors g v →
+      (lands : UnitRecord → Option Spot) (v : VolumeNumber) (n : ℕ) → lands (record_in bytes) ≡ landing (record_in bytes) v n → n < volume_sectors g v →
       locating lands bytes held ≡ at_address_of v n
   unfolding locating
   one_landing lands v n is inside =

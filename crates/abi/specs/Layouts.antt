@@ -16,14 +16,13 @@
 --   17        the holder: 00 nobody, 01 the first controller, 02 the second, any other not initialized
 --   18, 19    the pairs that count
 --   20..275   32 pairs of tracks, bad and spare: cylinder (2), head, 00
-use Rattle.std.specs.Prelude.{ℕ, zero, suc, ◌+◌, Bool, cond, not, ◌&&◌, List, [], ◌∷◌, ◌++◌, eqb, leb, get_or}
+use Rattle.std.specs.Prelude.{ℕ, zero, suc, ◌+◌, Bool, cond, not, ◌&&◌, List, [], ◌∷◌, ◌++◌, eqb, leb, get_or, None}
 use Rattle.wire.specs.Words.{be16, be32, four_bytes}
 use Rattle.geometry.specs.declared.Geometry.{Geometry}
 use Rattle.geometry.specs.declared.Volume.{Volume}
 use Rattle.geometry.specs.declared.VolumeNumber.TheVariants.{Zero, One}
 use Rattle.geometry.specs.Drive.{B, C, N, S, goes_by_head, geometry_of, start, volume, volume_of, with_increment}
-use Rattle.unit.specs.declared.Holder.{Holder}
-use Rattle.unit.specs.declared.Holder.TheVariants.{Nobody}
+use Rattle.unit.specs.Holding.{Holder}
 use Rattle.unit.specs.Standing.{UnitRecord, cylinder, geometry, held_by, holder, initialized, pairs, table}
 use Rattle.answers.specs.Numbers.{run_number}
 use Rattle.board.specs.Chain.{Ending}
@@ -46,7 +45,7 @@ says_initialized bytes = eqb (be32 bytes 0) 0x02010114 && (leb (get_or bytes 16 
 -- Who holds the drive (02, K10). The byte is believed where version and length are those of this layout, whatever the flag says; any other number
 -- is nobody's.
 abbrev pub holder_in : List ℕ → Holder
-holder_in bytes = cond (eqb (get_or bytes 0 0) 2 && eqb (be16 bytes 2) 0x0114) (holder_of (get_or bytes 17 0)) Nobody
+holder_in bytes = cond (eqb (get_or bytes 0 0) 2 && eqb (be16 bytes 2) 0x0114) (holder_of (get_or bytes 17 0)) None
 
 abbrev pub volume_in : List ℕ → ℕ → Volume
 volume_in bytes at = volume_of (get_or bytes at 0) (get_or bytes (at + 1) 0)

@@ -12,13 +12,11 @@
 --    6, 7   00
 --    8..11  sectors moved
 --   12..15  the link, of the block as it was fetched
-use Rattle.std.specs.Prelude.{ℕ, ◌+◌, ◌*◌, Bool, cond, false, List, length}
+use Rattle.std.specs.Prelude.{ℕ, ◌+◌, ◌*◌, Bool, cond, false, List, length, Err, Ok}
 use Rattle.std.proofs.Math.Logic.{ite}
 use Rattle.std.proofs.Math.Decide.{dec_lt}
-use Rattle.answers.specs.declared.BlockAnswer.{BlockAnswer}
-use Rattle.answers.specs.declared.BlockAnswer.TheVariants.{Ended, Failed}
+use Rattle.answers.specs.Numbers.{BlockAnswer, run_number}
 use Rattle.answers.specs.declared.RunAnswer.{RunAnswer}
-use Rattle.answers.specs.Numbers.{run_number}
 use Rattle.answers.specs.RunNumbers.{block_number}
 use Rattle.board.specs.World.{effect_at, world_after}
 use Rattle.iopb.specs.Layout.{block_at}
@@ -39,8 +37,8 @@ block_bad = run_number RunAnswer.FirstBad
 
 -- "running it with LK set and status 80 leads to fetching the next"
 abbrev pub goes_on : BlockAnswer → (link : Bool) → Bool
-goes_on Ended link = link
-goes_on (Failed r) link = false
+goes_on (Ok _) link = link
+goes_on (Err r) link = false
 
 -- It is laid out as an outcome is, with other things at 4, 5, 8 and 12.
 abbrev pub stepped_bytes : (answer : ℕ) → (follow : Bool) → (sectors link : ℕ) → List ℕ

@@ -2,17 +2,16 @@
 ghost use Rattle.std.specs.Prelude.{cond, [], ◌∷◌, ◌≡◌, ℕ, ◌+◌, ◌*◌, ◌≤◌, ◌<◌, min, get_or, length, take};
 ghost use Rattle.abi.specs.Calls.{record_left};
 ghost use Rattle.abi.specs.Layouts.{geometry_bytes, geometry_in, holder_in, opening_bytes, order_and_holder, order_byte, outcome_bytes, record_bytes, record_in, says_initialized, track_bytes, volume_bytes, volume_in, words_from};
-ghost use Rattle.abi.specs.Unread.{filled_in, known, nothing_read, read_in};
-ghost use Rattle.unit.specs.Made.{bare};
-ghost use Rattle.unit.specs.Standing.{by_value, unit_of};
+ghost use Rattle.abi.specs.Unread.{filled_in, known, read_in};
+ghost use Rattle.unit.specs.Standing.{by_value};
 ghost use Rattle.wire.specs.Promise.{Says};
 ghost use Rattle.wire.specs.Storing.{written};
 
 use geometry::{Geometry, Volume, VolumeNumber};
-use unit::{Holder, Record};
+use unit::{Controller, Record, Unit, holder_number, holder_of};
 
 // What stands in a table for a track that was not read: no track has this number.
-pub(crate) const UNREAD: u32 = 0xFFFF_FFFF;
+const UNREAD: u32 = 0xFFFF_FFFF;
 
 fn volume(bytes: &[u8], at: usize) -> Volume
     requires { at + 2 ≤ length bytes.now }
@@ -40,35 +39,24 @@ fn says_initialized(bytes: &[u8]) -> bool
     requires { 276 ≤ length bytes.now }
     ensures { result ≡ says_initialized bytes.now }
 {
-    if wire::be32(bytes, 0) != 0x0201_0114 {
-        return false;
-    }
-    if 1 < bytes[16] {
-        return false;
-    }
-    bytes[17] <= 2
+    wire::be32(bytes, 0) == 0x0201_0114 && bytes[16] <= 1 && bytes[17] <= 2
 }
 
 // Who holds the drive, by a record of this layout.
-fn holder(bytes: &[u8]) -> Holder
+fn holder(bytes: &[u8]) -> Option<Controller>
     requires { 276 ≤ length bytes.now }
-    ensures value { result ≡ holder_in bytes.now }
-    ensures bytes { (i : ℕ) → get_or bytes.now i 0 < 256 }
+    ensures { result ≡ holder_in bytes.now }
 {
-    if bytes[0] != 2 {
-        return Holder::Nobody;
+    if bytes[0] != 2 || wire::be16(bytes, 2) != 0x0114 {
+        return None;
     }
-    if wire::be16(bytes, 2) != 0x0114 {
-        return Holder::Nobody;
-    }
-    Holder::of(bytes[17] as u16)
+    holder_of(u16::from(bytes[17]))
 }
 
-// The record that stands in some bytes, but for its table. That each of them is a byte, as their type says, is told to whoever asks.
+// The record that stands in some bytes, but for its table.
 fn record(bytes: &[u8]) -> Record
     requires { 276 ≤ length bytes.now }
-    ensures value { result ≡ by_value (record_in bytes.now) }
-    ensures bytes { (i : ℕ) → get_or bytes.now i 0 < 256 }
+    ensures { result ≡ by_value (record_in bytes.now) }
 {
     Record::new(
         says_initialized(bytes),
@@ -85,33 +73,29 @@ fn read_tracks(bytes: &[u8], pairs: u16, table: &mut [u32; 64])
     ensures { table.new ≡ written table.old 0 (words_from bytes.now 20 (2 * min pairs 32)) }
 {
     let count = 2 * spares::in_room(pairs);
-    let mut i = 0;
-    while i < count {
-        table[i] = wire::be32(bytes, 20 + 4 * i);
-        i += 1;
+    for (i, track) in table[..count].iter_mut().enumerate() {
+        *track = wire::be32(bytes, 20 + 4 * i);
     }
 }
 
-// The record that stands in some bytes. Its tracks that count are put into a table of which nothing was read, and no other is looked at.
-pub(crate) fn unit_in(bytes: &[u8], table: &mut [u32; 64]) -> Record
-    requires { (276 ≤ length bytes.now) × (table.old ≡ nothing_read) }
-    ensures { unit_of result table.new ≡ read_in bytes.now }
+// The unit that stands in some bytes. Its tracks that count are read into a table of which nothing was read, and no other is looked at.
+pub(crate) fn unit_in(bytes: &[u8]) -> Unit
+    requires { 276 ≤ length bytes.now }
+    ensures { result ≡ read_in bytes.now }
 {
-    let u = record(bytes);
-    let pairs = u.pairs();
-    read_tracks(bytes, pairs, table);
-    u
+    let value = record(bytes);
+    let mut tracks = [UNREAD; 64];
+    read_tracks(bytes, value.pairs(), &mut tracks);
+    Unit { value, tracks }
 }
 
 // How many tracks at the head of a table are known: those of the pairs that count, and all of them once a block has cleared the table.
+#[tactic(auto, using(crate::proofs::Unread::known_all, crate::proofs::Unread::known_unread))]
 fn known_tracks(table: &[u32; 64], pairs: u16) -> usize
     ensures value { result ≡ known pairs table.now }
     ensures most { result ≤ 64 }
-    ensures long { length table.now ≡ 64 }
 {
-    // a slice tells its length
-    let tracks = &table[..];
-    if tracks[63] == UNREAD {
+    if table[63] == UNREAD {
         2 * spares::in_room(pairs)
     } else {
         64
@@ -123,29 +107,24 @@ fn holds_tracks(bytes: &[u8], m: usize, table: &[u32; 64]) -> bool
     requires { (276 ≤ length bytes.now) × (m ≤ 64) }
     ensures { Says result (words_from bytes.now 20 m ≡ take m table.now) }
 {
-    // a slice tells its length
-    let tracks = &table[..];
-    let mut k = 0;
-    while k < m {
-        if wire::be32(bytes, 20 + 4 * k) != tracks[k] {
+    for (k, track) in table[..m].iter().enumerate() {
+        if wire::be32(bytes, 20 + 4 * k) != *track {
             return false;
         }
-        k += 1;
     }
     true
 }
 
-// Whether a record, with the tracks that were not read as they stand in some bytes, is the one that stands there.
-fn stands_in(bytes: &[u8], u: Record, table: &[u32; 64]) -> bool
+// Whether a record, with the tracks that were not read as they stand in some bytes, is the one that stands there. That each of them is a byte, as their
+// type says, is told to whoever asks.
+fn stands_in(bytes: &[u8], u: &Unit) -> bool
     requires { 276 ≤ length bytes.now }
     ensures fact { let before = bytes.now in
-        Says result (record_in before ≡ filled_in before (unit_of u table.now)) }
+        Says result (record_in before ≡ filled_in before u.now) }
     ensures bytes { (i : ℕ) → get_or bytes.now i 0 < 256 }
 {
-    if !record(bytes).same(u) {
-        return false;
-    }
-    holds_tracks(bytes, known_tracks(table, u.pairs()), table)
+    record(bytes).same(u.value)
+        && holds_tracks(bytes, known_tracks(&u.tracks, u.pairs()), &u.tracks)
 }
 
 fn put_two(bytes: &mut [u8], at: usize, first: u8, second: u8)
@@ -167,14 +146,14 @@ fn put_volume(bytes: &mut [u8], at: usize, v: Volume)
 pub(crate) fn flag(yes: bool) -> u8
     ensures { result ≡ cond yes 0x01 0x00 }
 {
-    if yes { 0x01 } else { 0x00 }
+    u8::from(yes)
 }
 
 // The byte of an order.
 fn order_byte(by_head: bool) -> u8
     ensures { result ≡ order_byte by_head }
 {
-    if by_head { 0x00 } else { 0x01 }
+    u8::from(!by_head)
 }
 
 fn put_opening(bytes: &mut [u8], initialized: bool)
@@ -196,12 +175,12 @@ fn put_geometry(bytes: &mut [u8], g: Geometry)
     put_volume(bytes, 12, g.volume(VolumeNumber::One));
 }
 
-fn put_order_and_holder(bytes: &mut [u8], u: Record)
+fn put_order_and_holder(bytes: &mut [u8], u: &Unit)
     requires { 18 ≤ length bytes.old }
-    ensures { bytes.new ≡ written bytes.old 16 (order_and_holder (bare u)) }
+    ensures { bytes.new ≡ written bytes.old 16 (order_and_holder u.now) }
 {
     let order = order_byte(u.geometry().by_head());
-    put_two(bytes, 16, order, u.holder().number());
+    put_two(bytes, 16, order, holder_number(u.holder()));
 }
 
 // Stores the first m tracks of a table, and no others: bytes past them stay as they are.
@@ -209,37 +188,33 @@ fn put_tracks(bytes: &mut [u8], table: &[u32; 64], m: usize)
     requires { (276 ≤ length bytes.old) × (m ≤ 64) }
     ensures { bytes.new ≡ written bytes.old 20 (track_bytes (take m table.now)) }
 {
-    // a slice tells its length
-    let tracks = &table[..];
-    let mut i = 0;
-    while i < m {
-        wire::put32(bytes, 20 + 4 * i, tracks[i]);
-        i += 1;
+    for (i, track) in table[..m].iter().enumerate() {
+        wire::put32(bytes, 20 + 4 * i, *track);
     }
 }
 
 // Stores a record, its tracks as far as they are known: the others stand there.
-fn put_record(bytes: &mut [u8], u: Record, table: &[u32; 64])
+fn put_record(bytes: &mut [u8], u: &Unit)
     requires { (276 ≤ length bytes.old) × ((i : ℕ) → get_or bytes.old i 0 < 256) }
     ensures { let before = bytes.old in
-        bytes.new ≡ written before 0 (record_bytes (filled_in before (unit_of u table.now))) }
+        bytes.new ≡ written before 0 (record_bytes (filled_in before u.now)) }
 {
-    put_opening(bytes, u.initialized());
+    put_opening(bytes, u.value.initialized());
     put_geometry(bytes, u.geometry());
     wire::put16(bytes, 14, u.cylinder());
     put_order_and_holder(bytes, u);
     wire::put16(bytes, 18, u.pairs());
-    put_tracks(bytes, table, known_tracks(table, u.pairs()));
+    put_tracks(bytes, &u.tracks, known_tracks(&u.tracks, u.pairs()));
 }
 
 // Stores a record where it is another than the one that stands there. Tracks that were not read are those that stand there.
-pub(crate) fn leave_record(bytes: &mut [u8], u: Record, table: &[u32; 64])
+pub(crate) fn leave_record(bytes: &mut [u8], u: &Unit)
     requires { 276 ≤ length bytes.old }
     ensures { let before = bytes.old in
-        bytes.new ≡ record_left before (filled_in before (unit_of u table.now)) }
+        bytes.new ≡ record_left before (filled_in before u.now) }
 {
-    if !stands_in(bytes, u, table) {
-        put_record(bytes, u, table);
+    if !stands_in(bytes, u) {
+        put_record(bytes, u);
     }
 }
 

@@ -6,10 +6,10 @@
 ghost use Rattle.std.specs.Prelude.{◌≡◌, ◌≤◌, length};
 ghost use Rattle.abi.specs.Calls.{called, called_as, called_of, controller_of, image_number, inspected_of, inspection, lent_of, made};
 ghost use Rattle.abi.specs.Layouts.{outcome_length, record_length};
+ghost use Rattle.abi.specs.Readings.{Asked, code_of};
 ghost use Rattle.abi.specs.Stepping.{stepped_as};
 
 use board::Units;
-use layouts::UNREAD;
 use unit::{Controller, UnitNumber};
 
 mod layouts;
@@ -20,24 +20,27 @@ pub const RECORD_LEN: usize = 276;
 
 pub const OUTCOME_LEN: usize = 16;
 
-pub const STEPPED_LEN: usize = 16;
+// Why a call was refused. Its number is apart from the paper's, also where a caller keeps only the low byte.
+#[derive(Clone, Copy, PartialEq, Eq)]
+pub(crate) enum CallRefusal {
+    Record0Short = 0x1F1,
+    Record1Short = 0x1F2,
+    OutcomeShort = 0x1F3,
+    ControllerUnknown = 0x1F4,
+    SteppedShort = 0x1F5,
+    EntryShort = 0x1F6,
+    NotInitialized = 0x1F7,
+    SectorOutside = 0x1F8,
+}
 
-// What a call answers that was refused: apart from the paper's numbers, also where a caller keeps only the low byte.
-pub const RECORD0_SHORT: u32 = 0x1F1;
-
-pub const RECORD1_SHORT: u32 = 0x1F2;
-
-pub const OUTCOME_SHORT: u32 = 0x1F3;
-
-pub const CONTROLLER_UNKNOWN: u32 = 0x1F4;
-
-pub const STEPPED_SHORT: u32 = 0x1F5;
-
-pub const ENTRY_SHORT: u32 = 0x1F6;
-
-pub const NOT_INITIALIZED: u32 = 0x1F7;
-
-pub const SECTOR_OUTSIDE: u32 = 0x1F8;
+impl CallRefusal {
+    // The number that crosses to C.
+    pub(crate) fn code(self) -> u32
+        ensures { result ≡ code_of self }
+    {
+        self as u32
+    }
+}
 
 // The version of the layouts.
 #[unsafe(no_mangle)]
@@ -83,29 +86,17 @@ fn run(
         record1.new outcome.new in
         called_of result after ≡ made c first allowance before }
 {
-    let mut map0 = [UNREAD; 64];
-    let mut map1 = [UNREAD; 64];
-    let zero = layouts::unit_in(record0, &mut map0);
-    let one = layouts::unit_in(record1, &mut map1);
+    let zero = layouts::unit_in(record0);
+    let one = layouts::unit_in(record1);
+    let mut units = Units { zero, one };
     let done = board::run(
-        host,
-        image0,
-        image1,
-        events,
-        &mut map0,
-        &mut map1,
-        Units { zero, one },
-        c,
-        first,
-        allowance,
+        host, image0, image1, events, &mut units, c, first, allowance,
     );
-    let units = done.units;
-    layouts::leave_record(record0, units.zero, &map0);
-    layouts::leave_record(record1, units.one, &map1);
-    let answer = done.answer;
-    let number = answer.number();
+    layouts::leave_record(record0, &units.zero);
+    layouts::leave_record(record1, &units.one);
+    let number = done.answer.number();
     layouts::put_outcome(outcome, number, done.failed, done.blocks, done.sectors);
-    number as u32
+    u32::from(number)
 }
 
 // The controller with a number.
@@ -117,6 +108,32 @@ fn controller_of(number: u32) -> Controller
     } else {
         Controller::Second
     }
+}
+
+// What a run and a step ask before anything is done: how long the records are, and the third buffer, an outcome or what was stepped, for which each has a
+// refusal of its own; then the controller's number. Answers the controller.
+fn asked(
+    record0: usize,
+    record1: usize,
+    third: usize,
+    short: CallRefusal,
+    controller: u32,
+) -> Result<Controller, CallRefusal>
+    ensures { Asked record0 record1 third short controller result }
+{
+    if record0 < RECORD_LEN {
+        return Err(CallRefusal::Record0Short);
+    }
+    if record1 < RECORD_LEN {
+        return Err(CallRefusal::Record1Short);
+    }
+    if third < OUTCOME_LEN {
+        return Err(short);
+    }
+    if 1 < controller {
+        return Err(CallRefusal::ControllerUnknown);
+    }
+    Ok(controller_of(controller))
 }
 
 // Runs the chain from the first block on, as the controller with a number: 0 the first, 1 the second. Answers the run's answer, 0 to 6, or one of the four
@@ -140,30 +157,18 @@ pub extern "C" fn vsmd_run_as(
         record1.new outcome.new in
         called_of result after ≡ called_as controller first allowance before }
 {
-    if record0.len() < RECORD_LEN {
-        return RECORD0_SHORT;
+    match asked(
+        record0.len(),
+        record1.len(),
+        outcome.len(),
+        CallRefusal::OutcomeShort,
+        controller,
+    ) {
+        Ok(c) => run(
+            host, image0, image1, events, record0, record1, outcome, c, first, allowance,
+        ),
+        Err(refusal) => refusal.code(),
     }
-    if record1.len() < RECORD_LEN {
-        return RECORD1_SHORT;
-    }
-    if outcome.len() < OUTCOME_LEN {
-        return OUTCOME_SHORT;
-    }
-    if 1 < controller {
-        return CONTROLLER_UNKNOWN;
-    }
-    run(
-        host,
-        image0,
-        image1,
-        events,
-        record0,
-        record1,
-        outcome,
-        controller_of(controller),
-        first,
-        allowance,
-    )
 }
 
 // The same as the first controller. Its signature is older than the second: firmware that knows of one calls it with nine arguments.
@@ -211,32 +216,21 @@ pub extern "C" fn vsmd_step_as(
         record1.new stepped.new in
         called_of result after ≡ stepped_as controller at index before }
 {
-    if record0.len() < RECORD_LEN {
-        return RECORD0_SHORT;
-    }
-    if record1.len() < RECORD_LEN {
-        return RECORD1_SHORT;
-    }
-    if stepped.len() < STEPPED_LEN {
-        return STEPPED_SHORT;
-    }
-    if controller > 1 {
-        return CONTROLLER_UNKNOWN;
-    }
-    if (events.len() as u64) < 8 * (index as u64) + 8 {
-        return ENTRY_SHORT;
+    let c = match asked(
+        record0.len(),
+        record1.len(),
+        stepped.len(),
+        CallRefusal::SteppedShort,
+        controller,
+    ) {
+        Ok(c) => c,
+        Err(refusal) => return refusal.code(),
+    };
+    if (events.len() as u64) < 8 * u64::from(index) + 8 {
+        return CallRefusal::EntryShort.code();
     }
     step::step(
-        host,
-        image0,
-        image1,
-        events,
-        record0,
-        record1,
-        stepped,
-        controller_of(controller),
-        at,
-        index,
+        host, image0, image1, events, record0, record1, stepped, c, at, index,
     )
 }
 
@@ -268,18 +262,15 @@ pub extern "C" fn vsmd_inspect(
         image.old at.old bytes.old }
 {
     if record0.len() < RECORD_LEN {
-        return RECORD0_SHORT;
+        return CallRefusal::Record0Short.code();
     }
     if record1.len() < RECORD_LEN {
-        return RECORD1_SHORT;
+        return CallRefusal::Record1Short.code();
     }
-    let mut map0 = [UNREAD; 64];
-    let mut map1 = [UNREAD; 64];
-    let zero = layouts::unit_in(record0, &mut map0);
-    let one = layouts::unit_in(record1, &mut map1);
-    let part = board::part_of(Units { zero, one }, &map0, &map1, long0, long1, unit, place);
-    let which = part.unit;
-    *image = image_number(which);
+    let zero = layouts::unit_in(record0);
+    let one = layouts::unit_in(record1);
+    let part = board::part_of(&Units { zero, one }, long0, long1, unit, place);
+    *image = image_number(part.unit);
     *at = part.at;
     *bytes = part.bytes;
     0

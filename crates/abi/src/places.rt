@@ -3,24 +3,13 @@
 // No image and no other unit is looked at. No byte of the record is stored, and a number of the caller's only where there is one to tell.
 ghost use Rattle.std.specs.Prelude.{◌≡◌, ◌<◌};
 ghost use Rattle.geometry.specs.Drive.{drive_sectors};
-ghost use Rattle.unit.specs.declared.Landing.{Landing};
 ghost use Rattle.unit.specs.declared.Spot.{Spot};
-ghost use Rattle.unit.specs.Standing.{unit_of};
 ghost use Rattle.abi.specs.Places.{addressed_by, located_of, locating, needed_of, needing, numbered_in, standing};
-ghost use Rattle.abi.specs.Readings.{lands_as, reading, unit_read};
-ghost use Rattle.abi.specs.Unread.{nothing_read, read_in};
+ghost use Rattle.abi.specs.Readings.{lands_as, reading};
 
-use crate::layouts::UNREAD;
-use crate::{NOT_INITIALIZED, RECORD_LEN, RECORD0_SHORT, SECTOR_OUTSIDE, layouts};
-use geometry::{Address, Geometry, Sector, VolumeNumber};
-use unit::{Landing, Record};
-
-// What the bytes of a record come to: a unit that counts as initialized, or the code for why there is none.
-#[derive(Clone, Copy)]
-pub(crate) enum Reading {
-    Counts(Record),
-    Refused(u32),
-}
+use crate::{CallRefusal, RECORD_LEN, layouts};
+use geometry::{Address, Geometry, VolumeNumber};
+use unit::{Spot, Unit};
 
 // A sector as it is asked for.
 #[derive(Clone, Copy)]
@@ -29,64 +18,63 @@ pub(crate) enum Wanted {
     Addressed(Address),
 }
 
-// Reads a record, and its tracks that count into a table of which nothing was read.
-fn read(record: &[u8], table: &mut [u32; 64]) -> Reading
-    requires { table.old ≡ nothing_read }
-    ensures result { result ≡ reading «record».now }
-    ensures tracks { let u = read_in «record».now in
-        unit_read result table.new u ≡ u }
+// Reads a record, with its tracks that count: a unit that counts as initialized, or why there is none.
+fn read(record: &[u8]) -> Result<Unit, CallRefusal>
+    ensures { result ≡ reading «record».now }
 {
     if record.len() < RECORD_LEN {
-        return Reading::Refused(RECORD0_SHORT);
+        return Err(CallRefusal::Record0Short);
     }
-    let u = layouts::unit_in(record, table);
-    if u.counts_as_initialized(table) {
-        Reading::Counts(u)
+    let u = layouts::unit_in(record);
+    if u.counts_as_initialized() {
+        Ok(u)
     } else {
-        Reading::Refused(NOT_INITIALIZED)
+        Err(CallRefusal::NotInitialized)
     }
 }
 
 // Where the sector with a number in the volume with a number lands.
-fn numbered_in(u: Record, table: &[u32; 64], volume: u32, number: u64) -> Landing
-    ensures { result ≡ numbered_in volume number (unit_of u table.now) }
+fn numbered_in(u: &Unit, volume: u32, number: u64) -> Option<Spot>
+    ensures { result ≡ numbered_in volume number u.now }
 {
     match volume {
-        0 => u.land(table, VolumeNumber::Zero, number),
-        1 => u.land(table, VolumeNumber::One, number),
-        _ => Landing::Outside,
+        0 => u.land(VolumeNumber::Zero, number),
+        1 => u.land(VolumeNumber::One, number),
+        _ => None,
     }
 }
 
 // Where the sector that is asked for lands.
-fn lands(u: Record, table: &[u32; 64], wanted: Wanted) -> Landing
-    ensures { result ≡ lands_as wanted (unit_of u table.now) }
+fn lands(u: &Unit, wanted: Wanted) -> Option<Spot>
+    ensures { result ≡ lands_as wanted u.now }
 {
     match wanted {
-        Wanted::Numbered { volume, number } => numbered_in(u, table, volume, number),
-        Wanted::Addressed(a) => u.land_at(table, a),
+        Wanted::Numbered { volume, number } => numbered_in(u, volume, number),
+        Wanted::Addressed(a) => u.land_at(a),
     }
 }
 
 // Tells where a landing stands. One that is at a place is on the drive.
-fn stand(g: Geometry, landing: Landing, place: &mut u64, first: &mut u64, mark: &mut u64) -> u32
-    requires { (s : Spot) → landing ≡ Landing.At s → s.place < drive_sectors g }
+fn stand(
+    g: Geometry,
+    landing: Option<Spot>,
+    place: &mut u64,
+    first: &mut u64,
+    mark: &mut u64,
+) -> u32
+    requires { (s : Spot) → landing ≡ Some s → s.place < drive_sectors g }
     ensures { located_of result place.new first.new mark.new ≡
         standing g landing (located_of 0 place.old first.old mark.old) }
 {
-    let Landing::At(spot) = landing else {
-        return SECTOR_OUTSIDE;
+    let Some(spot) = landing else {
+        return CallRefusal::SectorOutside.code();
     };
-    let Sector::At {
-        first: begins,
-        mark: marked,
-    } = g.sector(spot.place)
-    else {
-        return SECTOR_OUTSIDE;
+    let Some(sector) = g.sector(spot.place) else {
+        unreachable!();
     };
     *place = spot.place;
-    *first = begins;
-    *mark = marked;
+    *first = sector.first;
+    *mark = sector.mark;
     0
 }
 
@@ -96,10 +84,9 @@ fn locate(record: &[u8], wanted: Wanted, place: &mut u64, first: &mut u64, mark:
         locating (lands_as wanted) «record».now
         (located_of 0 place.old first.old mark.old) }
 {
-    let mut table = [UNREAD; 64];
-    match read(record, &mut table) {
-        Reading::Counts(u) => stand(u.geometry(), lands(u, &table, wanted), place, first, mark),
-        Reading::Refused(code) => code,
+    match read(record) {
+        Ok(u) => stand(u.geometry(), lands(&u, wanted), place, first, mark),
+        Err(refusal) => refusal.code(),
     }
 }
 
@@ -155,13 +142,10 @@ pub extern "C" fn vsmd_sector_at(
 pub extern "C" fn vsmd_image_need(record: &[u8], bytes: &mut u64) -> u32
     ensures { needed_of result bytes.new ≡ needing «record».now bytes.old }
 {
-    let mut table = [UNREAD; 64];
-    match read(record, &mut table) {
-        Reading::Counts(u) => {
-            let need = u.geometry().need();
-            *bytes = need;
-            0
-        }
-        Reading::Refused(why) => why,
-    }
+    let u = match read(record) {
+        Ok(u) => u,
+        Err(refusal) => return refusal.code(),
+    };
+    *bytes = u.geometry().need();
+    0
 }

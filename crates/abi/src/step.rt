@@ -7,55 +7,45 @@ ghost use Rattle.answers.specs.RunNumbers.{block_number};
 ghost use Rattle.abi.specs.Calls.{called_of, lent_of, record_left};
 ghost use Rattle.abi.specs.Stepping.{block_bad, goes_on, stepped_bytes, stepped_once};
 ghost use Rattle.abi.specs.Unread.{filled_in};
-ghost use Rattle.unit.specs.Standing.{unit_of};
 ghost use Rattle.wire.proofs.Decided.{in_memory?};
 ghost use Rattle.wire.specs.Storing.{written};
 
 use crate::layouts;
-use crate::layouts::UNREAD;
-use answers::BlockAnswer;
-use board::{Single, Stepped, Units};
+use answers::{Refusal, RunAnswer, block_number};
+use board::{Stepped, Units};
 use unit::Controller;
 
-// What a step answers where the block cannot be fetched: the paper's number.
-pub(crate) const BLOCK_BAD: u32 = 3;
-
 // Whether the block's link is to be followed.
-fn goes_on(answer: BlockAnswer, link: bool) -> bool
+fn goes_on(answer: Result<(), Refusal>, link: bool) -> bool
     ensures { result ≡ goes_on answer link }
 {
-    match answer {
-        BlockAnswer::Ended => link,
-        BlockAnswer::Failed(_) => false,
-    }
+    answer.is_ok() && link
 }
 
 // Leaves the records, and what the caller goes by next.
-fn leave(
-    record0: &mut [u8],
-    record1: &mut [u8],
-    stepped: &mut [u8],
-    s: Stepped,
-    map0: &[u32; 64],
-    map1: &[u32; 64],
-)
+fn leave(record0: &mut [u8], record1: &mut [u8], stepped: &mut [u8], s: Stepped, units: &Units)
     requires { (276 ≤ length record0.old) × ((276 ≤ length record1.old) × (16 ≤ length stepped.old)) }
     ensures zero { let before = record0.old in
-        record0.new ≡ record_left before (filled_in before (unit_of s.units.zero map0.now)) }
+        record0.new ≡ record_left before (filled_in before units.now.zero) }
     ensures one { let before = record1.old in
-        record1.new ≡ record_left before (filled_in before (unit_of s.units.one map1.now)) }
+        record1.new ≡ record_left before (filled_in before units.now.one) }
     ensures told { stepped.new ≡ written stepped.old 0
         (stepped_bytes (block_number s.answer) (goes_on s.answer s.linked) s.sectors s.link) }
 {
-    let units = s.units;
-    layouts::leave_record(record0, units.zero, map0);
-    layouts::leave_record(record1, units.one, map1);
+    layouts::leave_record(record0, &units.zero);
+    layouts::leave_record(record1, &units.one);
     let answer = s.answer;
     let follow = layouts::flag(goes_on(answer, s.linked));
-    layouts::put_outcome(stepped, answer.number(), follow, s.sectors as u32, s.link);
+    layouts::put_outcome(
+        stepped,
+        block_number(answer),
+        follow,
+        u32::from(s.sectors),
+        s.link,
+    );
 }
 
-// A step, once the buffers of the layouts and the event buffer are known to be long enough.
+// A step, once the buffers of the layouts and the event buffer are known to be long enough. A block that cannot be fetched has the paper's number.
 pub(crate) fn step(
     host: &mut [u8],
     image0: &mut [u8],
@@ -76,27 +66,15 @@ pub(crate) fn step(
         record1.new stepped.new in
         called_of result after ≡ ite (in_memory? host.old at 28) (stepped_once c at i before) (called_of block_bad before) }
 {
-    let mut map0 = [UNREAD; 64];
-    let mut map1 = [UNREAD; 64];
-    let zero = layouts::unit_in(record0, &mut map0);
-    let one = layouts::unit_in(record1, &mut map1);
-    let done = board::run_one(
-        host,
-        image0,
-        image1,
-        events,
-        &mut map0,
-        &mut map1,
-        Units { zero, one },
-        c,
-        at,
-        i,
-    );
+    let zero = layouts::unit_in(record0);
+    let one = layouts::unit_in(record1);
+    let mut units = Units { zero, one };
+    let done = board::run_one(host, image0, image1, events, &mut units, c, at, i);
     match done {
-        Single::Ran(s) => {
-            leave(record0, record1, stepped, s, &map0, &map1);
+        Some(s) => {
+            leave(record0, record1, stepped, s, &units);
             0
         }
-        Single::NoRoom => BLOCK_BAD,
+        None => u32::from(RunAnswer::FirstBad.number()),
     }
 }

@@ -4,8 +4,8 @@ use mathlib.Core.Path.{◌∙◌, sym}
 use Rattle.wire.specs.Promise.{OneResult}
 use Rattle.answers.proofs.RunAnswer.number.Reads as run-number
 use Rattle.answers.proofs.Refusal.number.Reads as refusal-number
-use Rattle.answers.proofs.BlockAnswer.number.Reads as block-number
-use Rattle.answers.proofs.BlockAnswer.status.Reads as status
+use Rattle.answers.proofs.block_number.Reads as block-number
+use Rattle.answers.proofs.status.Reads as status
 
 run_number_once : OneResult run-number.Post
 run_number_once κ a x y e f p q = p ∙ sym q

@@ -1,7 +1,5 @@
 -- The number of each answer, of a run and of a block (01, Answer numbers; 02, K5 and K10), and the status of a block.
-use Rattle.std.specs.Prelude.{ℕ}
-use Rattle.answers.specs.declared.BlockAnswer.{BlockAnswer}
-use Rattle.answers.specs.declared.BlockAnswer.TheVariants.{Ended, Failed}
+use Rattle.std.specs.Prelude.{ℕ, Result, Err, Ok}
 use Rattle.answers.specs.declared.Refusal.{Refusal}
 use Rattle.answers.specs.declared.RunAnswer.{RunAnswer}
 use Rattle.answers.specs.declared.RunAnswer.TheVariants.{Done, EventsShort, AllowanceBad, FirstBad, BlockFailed, LinkBad, AllowanceSpent}
@@ -53,7 +51,11 @@ refusal_number TableFull = 23
 -- "drive held" (02, K10)
 refusal_number DriveHeld = 24
 
+-- How a block ended: well, or failed for a reason.
+abbrev pub BlockAnswer : Type 0
+BlockAnswer = Result (Unit {0}) Refusal
+
 -- "status 80", and "Block answers, in order, status 82", in hex.
 abbrev pub status_of : BlockAnswer → ℕ
-status_of Ended = 0x80
-status_of (Failed r) = 0x82
+status_of (Ok _) = 0x80
+status_of (Err r) = 0x82

@@ -1,5 +1,5 @@
 // The answers of a run and of a block, with the paper's numbers and the status byte.
-// An answer is an enum everywhere; its number is made here and nowhere else.
+// An answer is an enum everywhere; its number stands here and nowhere else.
 // It knows no error bytes: those are a product's own.
 #![tactic(auto)]
 
@@ -8,41 +8,34 @@ ghost use Rattle.answers.specs.RunNumbers.{block_number};
 ghost use Rattle.answers.specs.Numbers.{refusal_number, status_of, run_number};
 
 // How a run ended.
-#[derive(Clone, Copy)]
+#[derive(Clone, Copy, PartialEq, Eq)]
 pub enum RunAnswer {
-    Done,
-    EventsShort,
-    AllowanceBad,
-    FirstBad,
-    BlockFailed,
-    LinkBad,
-    AllowanceSpent,
+    Done = 0,
+    EventsShort = 1,
+    AllowanceBad = 2,
+    FirstBad = 3,
+    BlockFailed = 4,
+    LinkBad = 5,
+    AllowanceSpent = 6,
 }
 
 // Why a block failed.
-#[derive(Clone, Copy)]
+#[derive(Clone, Copy, PartialEq, Eq)]
 pub enum Refusal {
-    CommandUnknown,
-    NotInitialized,
-    UibMisplaced,
-    UibOutsideLimits,
-    VolumeAbsent,
-    CountZero,
-    SectorOutside,
-    ImageShort,
-    ListBad,
-    DataMisplaced,
-    Unreadable,
-    TracksTaken,
-    TableFull,
-    DriveHeld,
-}
-
-// How a block ended.
-#[derive(Clone, Copy)]
-pub enum BlockAnswer {
-    Ended,
-    Failed(Refusal),
+    CommandUnknown = 10,
+    NotInitialized = 11,
+    UibMisplaced = 12,
+    UibOutsideLimits = 13,
+    VolumeAbsent = 14,
+    CountZero = 15,
+    SectorOutside = 16,
+    ImageShort = 17,
+    ListBad = 18,
+    DataMisplaced = 19,
+    Unreadable = 20,
+    TracksTaken = 22,
+    TableFull = 23,
+    DriveHeld = 24,
 }
 
 impl RunAnswer {
@@ -50,15 +43,7 @@ impl RunAnswer {
     pub fn number(self) -> u8
         ensures { result ≡ run_number self }
     {
-        match self {
-            RunAnswer::Done => 0,
-            RunAnswer::EventsShort => 1,
-            RunAnswer::AllowanceBad => 2,
-            RunAnswer::FirstBad => 3,
-            RunAnswer::BlockFailed => 4,
-            RunAnswer::LinkBad => 5,
-            RunAnswer::AllowanceSpent => 6,
-        }
+        self as u8
     }
 }
 
@@ -67,43 +52,23 @@ impl Refusal {
     pub fn number(self) -> u8
         ensures { result ≡ refusal_number self }
     {
-        match self {
-            Refusal::CommandUnknown => 10,
-            Refusal::NotInitialized => 11,
-            Refusal::UibMisplaced => 12,
-            Refusal::UibOutsideLimits => 13,
-            Refusal::VolumeAbsent => 14,
-            Refusal::CountZero => 15,
-            Refusal::SectorOutside => 16,
-            Refusal::ImageShort => 17,
-            Refusal::ListBad => 18,
-            Refusal::DataMisplaced => 19,
-            Refusal::Unreadable => 20,
-            Refusal::TracksTaken => 22,
-            Refusal::TableFull => 23,
-            Refusal::DriveHeld => 24,
-        }
+        self as u8
     }
 }
 
-impl BlockAnswer {
-    // The failed block's number, and 0 for one that did not fail.
-    pub fn number(self) -> u8
-        ensures { result ≡ block_number self }
-    {
-        match self {
-            BlockAnswer::Ended => 0,
-            BlockAnswer::Failed(refusal) => refusal.number(),
-        }
+// The failed block's number, and 0 for one that ended.
+pub fn block_number(answer: Result<(), Refusal>) -> u8
+    ensures { result ≡ block_number answer }
+{
+    match answer {
+        Ok(()) => 0,
+        Err(refusal) => refusal.number(),
     }
+}
 
-    // The final status byte.
-    pub fn status(self) -> u8
-        ensures { result ≡ status_of self }
-    {
-        match self {
-            BlockAnswer::Ended => 0x80,
-            BlockAnswer::Failed(_) => 0x82,
-        }
-    }
+// The final status byte of a block that ended so.
+pub fn status(answer: Result<(), Refusal>) -> u8
+    ensures { result ≡ status_of answer }
+{
+    if answer.is_ok() { 0x80 } else { 0x82 }
 }

@@ -1,17 +1,17 @@
 -- A block's effect in its movements: what acting on its verdict comes to, with the holder that is left, and then the finish.
 -- A verdict refuses or has a plan, and of both it is so by definition. Bytes stored in a row are written into one buffer; rows follow one another.
+use Rattle.answers.specs.declared.Refusal.{Refusal}
+use Rattle.judge.specs.declared.Plan.{Plan}
+use Rattle.std.proofs.Common.{Err, Ok, Result}
 use Prim.Native.Nat.{ℕ, ◌+◌, ◌-◌, ◌*◌}
 use mathlib.Core.Bool.{Bool}
 use mathlib.Core.List.{List, [], ◌∷◌, ◌++◌}
 use mathlib.Core.Path.{◌≡◌, refl, sym, ap, ◌∙◌}
 use lib.IntN.{ℤ}
 use lib.ListN.{length}
-use Rattle.answers.specs.declared.BlockAnswer.{BlockAnswer}
-use Rattle.answers.specs.Numbers.{status_of}
+use Rattle.answers.specs.Numbers.{BlockAnswer, status_of}
 use Rattle.judge.specs.declared.Report.{Report}
 use Rattle.judge.specs.declared.Report.TheVariants.{Nothing as Silent, Identity, Formatted}
-use Rattle.judge.specs.declared.Verdict.{Verdict}
-use Rattle.judge.specs.declared.Verdict.TheVariants.{Refused, Do}
 use Rattle.judge.specs.Given.{on}
 use Rattle.judge.specs.Verdict.{verdict}
 use Rattle.iopb.specs.Ask.{task_of}
@@ -81,12 +81,12 @@ reported_row at (Formatted n) = (at + 7, ((n - 1) ∷ 0x00 ∷ n ∷ [], refl))
 
 module _ (c : Controller) (host : List ℕ) (d : Drive) (at i : ℕ) where
   -- What a block comes to by its verdict is what acting on that comes to, held and finished.
-  abbrev pub finished_by : Verdict → Effect
+  abbrev pub finished_by : Result Plan Refusal → Effect
   finished_by v = finished c (block_at host at) at i v (acted_on host d at v)
 
-  judged_finished : (v : Verdict) → judged c host d at i v ≡ finished_by v
-  judged_finished (Refused r) = refl
-  judged_finished (Do plan) = refl
+  judged_finished : (v : Result Plan Refusal) → judged c host d at i v ≡ finished_by v
+  judged_finished (Err r) = refl
+  judged_finished (Ok plan) = refl
 
   pub effect_finished : effect_on c host d at i ≡ finished_by (verdict (on c d.unit (length d.image) (task_of host (block_at host at)) host))
   unfolding effect_on
@@ -94,7 +94,7 @@ module _ (c : Controller) (host : List ℕ) (d : Drive) (at i : ℕ) where
 
 -- The effect of a block that was read, and whose verdict is known.
 pub effect_judged :
-    (c : Controller) (host : List ℕ) (d : Drive) (at i : ℕ) (b : Block) (v : Verdict) → b ≡ block_at host at →
+    (c : Controller) (host : List ℕ) (d : Drive) (at i : ℕ) (b : Block) (v : Result Plan Refusal) → b ≡ block_at host at →
     verdict (on c d.unit (length d.image) (task_of host b) host) ≡ v →
     effect_on c host d at i ≡ finished c b at i v (acted_on host d at v)
 effect_judged c host d at i b v is judgement = effect_finished c host d at i ∙ rw (← judgement, is)

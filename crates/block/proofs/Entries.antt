@@ -10,8 +10,7 @@ use lib.IntN.{ℤ}
 use lib.ListN.{length, set}
 use lib.Seq.{sets, sets-eq, take-length}
 use Rattle.wire.specs.Copy.{copied}
-use Rattle.answers.specs.declared.BlockAnswer.{BlockAnswer}
-use Rattle.answers.specs.Numbers.{status_of}
+use Rattle.answers.specs.Numbers.{BlockAnswer, status_of}
 use Rattle.iopb.specs.declared.Block.{Block}
 use Rattle.iopb.specs.Errors.{error_byte}
 use Rattle.wire.specs.Words.{four_bytes}

@@ -12,6 +12,7 @@ use Rattle.wire.specs.Memory.{InMemory}
 use Rattle.geometry.specs.Drive.{B}
 use Rattle.memory.specs.Lists.{ListGood, Ranges, element_of, total}
 use Rattle.memory.specs.Pieces.{addresses_of, filled, lengths_of, pieces_of}
+use Rattle.memory.specs.declared.Pieces.{Pieces}
 use Rattle.memory.specs.Readable.{list_place?}
 use Rattle.memory.proofs.Slots.{address_slot, addresses_long, length_slot, lengths_long}
 use Rattle.judge.specs.declared.Job.{Job}
@@ -140,16 +141,22 @@ module _ (host image : List ℕ) (u : UnitRecord) (j : Job) (good : JobGood u (l
     pub list_good : ListGood host at n (j.span.count * B (geometry u))
     list_good = (rw is at good.buffer).0
 
-    -- The elements are copied out as they stand.
-    pub copied_out : pieces_of host at n ≡ filled host at n
-    unfolding pieces_of
-    copied_out = if_pos (list_place? host at n) (record { most = list_good.most; place = list_good.place }) _ _
-
     pub elements_fit : SectorsFit (geometry u) j.span (take n (lengths_of host at n)) (take n (addresses_of host at n)) (length host) (length image)
     elements_fit = fits_with _ _ (list_fits host at n (j.span.count * B (geometry u)) list_good (rw is at good.buffer).1)
 
-    pub slots_enough : (n ≤ length (lengths_of host at n)) × (n ≤ length (addresses_of host at n))
-    slots_enough = (omega (arith, list_good.most, lengths_long host at n), omega (arith, list_good.most, addresses_long host at n))
+    -- The elements are copied out as they stand, and there are slots enough for them.
+    pub record CopiedOut (p : Pieces) : Type 0 where
+      pub out : p ≡ filled host at n
+      pub lengths : n ≤ length p.lengths
+
+    pub copied_out : (p : Pieces) → p ≡ pieces_of host at n → CopiedOut p
+    unfolding pieces_of
+    copied_out p is =
+        let out = is ∙ if_pos (list_place? host at n) (record { most = list_good.most; place = list_good.place }) _ _ in
+        record {
+          out = out;
+          lengths = rw out (omega (arith, list_good.most, lengths_long host at n));
+        }
 
 -- A track that fits.
 pub track_fits :

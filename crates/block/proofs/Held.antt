@@ -1,13 +1,13 @@
 -- Who holds the drive is all that changes with the holder.
 -- Each leaving and each ending has the record as it was, or with another holder.
+use Rattle.std.proofs.Common.{Err, Ok}
 use mathlib.Core.Bool.{Bool, true, false}
 use mathlib.Core.Path.{◌≡◌, refl, ap, ◌∙◌}
-use Rattle.answers.specs.declared.BlockAnswer.{BlockAnswer}
-use Rattle.answers.specs.declared.BlockAnswer.TheVariants.{Ended, Failed}
+use Rattle.answers.specs.Numbers.{BlockAnswer}
 use Rattle.judge.specs.declared.Leaving.{Leaving}
 use Rattle.judge.specs.declared.Leaving.TheVariants.{AsItWas, HeadsAt, HeadsAtLastTried, Fresh, Mapped}
 use Rattle.unit.specs.declared.Controller.{Controller}
-use Rattle.unit.specs.declared.Holder.{Holder}
+use Rattle.unit.specs.Holding.{Holder}
 use Rattle.unit.specs.Standing.{CountsAsInitialized, UnitRecord, by_value, held_by, table}
 use Rattle.wire.specs.Promise.{Says}
 use Rattle.block.specs.declared.Performed.{Performed}
@@ -23,8 +23,8 @@ module _ (c : Controller) (reserve : Bool) where
   -- What another holder keeps, a block's end keeps.
   module _ (P : UnitRecord → Type 0) (kept : (u : UnitRecord) (h : Holder) → P u → P (held_by u h)) where
     ended_keeps : (answer : BlockAnswer) (u : UnitRecord) → P u → P (held_after c reserve answer u)
-    ended_keeps Ended u now = kept u _ now
-    ended_keeps (Failed r) u now = now
+    ended_keeps (Ok _) u now = kept u _ now
+    ended_keeps (Err r) u now = now
 
     pub holder_keeps : (l : Leaving) (answer : BlockAnswer) (u : UnitRecord) → P u → P (holder_left c reserve l answer u)
     holder_keeps AsItWas answer u now = now
@@ -35,8 +35,8 @@ module _ (c : Controller) (reserve : Bool) where
 
   -- What goes by value goes by what went by value.
   ended_by_value : (answer : BlockAnswer) (u : UnitRecord) → by_value (held_after c reserve answer (bare (by_value u))) ≡ by_value (held_after c reserve answer u)
-  ended_by_value Ended u = refl
-  ended_by_value (Failed r) u = refl
+  ended_by_value (Ok _) u = refl
+  ended_by_value (Err r) u = refl
 
   pub held_by_value :
       (l : Leaving) (answer : BlockAnswer) (u : UnitRecord) →

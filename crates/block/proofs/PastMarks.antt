@@ -1,14 +1,15 @@
 -- Bytes after the marks are not read by a block either: on two images that hold the same sectors and marks, in its record's geometry, it comes to the same
 -- and leaves such images.
 -- The judge asks whether an image is long enough, what is moved stands on the drive, and no other store reaches the image.
+use Rattle.answers.specs.declared.Refusal.{Refusal}
+use Rattle.std.proofs.Common.{Err, Ok, Result}
 use Prim.Native.Nat.{ℕ, ◌+◌, ◌*◌}
 use mathlib.Core.List.{List, [], ◌∷◌, ◌++◌}
 use mathlib.Core.Path.{◌≡◌, refl, sym, ap, ◌∙◌}
 use native.Mathlib.Omega.{arith}
 use lib.ListN.{length}
 use lib.IntN.{ℤ}
-use Rattle.answers.specs.declared.BlockAnswer.{BlockAnswer}
-use Rattle.answers.specs.Numbers.{status_of}
+use Rattle.answers.specs.Numbers.{BlockAnswer, status_of}
 use Rattle.geometry.specs.Drive.{need}
 use Rattle.iopb.specs.Ask.{task_of}
 use Rattle.iopb.specs.declared.Block.{Block}
@@ -17,8 +18,6 @@ use Rattle.iopb.specs.Layout.{block_at}
 use Rattle.judge.specs.declared.Moving.{Moving}
 use Rattle.judge.specs.declared.Moving.TheVariants.{Nothing, Sectors, Track}
 use Rattle.judge.specs.declared.Plan.{Plan}
-use Rattle.judge.specs.declared.Verdict.{Verdict}
-use Rattle.judge.specs.declared.Verdict.TheVariants.{Refused, Do}
 use Rattle.judge.specs.Fits.{MovingFits}
 use Rattle.judge.specs.Given.{on}
 use Rattle.judge.specs.Verdict.{verdict}
@@ -56,23 +55,23 @@ moving_geometry u host (Track spot at) = refl
 
 module _
     (c : Controller) (host : List ℕ) (u : UnitRecord) (image other : List ℕ) (alike : SameSectors (geometry u) image other) (at i : ℕ) where
-  verdict_on : List ℕ → Verdict
+  verdict_on : List ℕ → Result Plan Refusal
   verdict_on im = verdict (on c u (length im) (task_of host (block_at host at)) host)
 
   one_verdict : verdict_on image ≡ verdict_on other
   unfolding verdict_on
   one_verdict = long_enough_alike c u (length image) (length other) host alike.long alike.other_long (task_of host (block_at host at))
 
-  stands : (p : Plan) → verdict_on image ≡ Do p → StandsOnDrive (transfer_of host u p.moving)
+  stands : (p : Plan) → verdict_on image ≡ Ok p → StandsOnDrive (transfer_of host u p.moving)
   unfolding verdict_on
   stands p is = moving_stands u (length image) host p.moving (plan_fits _ p is).moving
 
   same_sectors : (m : Moving) → SameSectors (transfer_of host u m).geometry image other
   same_sectors m = rw (moving_geometry u host m) alike
 
-  one_performance : (v : Verdict) → verdict_on image ≡ v → acted_on host (drive_with u image) at v ≡ acted_on host (drive_with u other) at v
-  one_performance (Refused r) is = refl
-  one_performance (Do p) is =
+  one_performance : (v : Result Plan Refusal) → verdict_on image ≡ v → acted_on host (drive_with u image) at v ≡ acted_on host (drive_with u other) at v
+  one_performance (Err r) is = refl
+  one_performance (Ok p) is =
       let t = transfer_of host u p.moving in
       let comes = comes_alike t (stands p is) image other (same_sectors p.moving) in
       let moved = data_alike t (stands p is) image other (same_sectors p.moving) in
@@ -93,9 +92,9 @@ module _
       ∙ sym (effect_finished c host (drive_with u other) at i)
 
   -- No store of the block reaches a byte after the marks, or takes one from there.
-  stores_below : (v : Verdict) → verdict_on image ≡ v → Below (need (geometry u)) (acted_on host (drive_with u image) at v).stores
-  stores_below (Refused r) is = tt
-  stores_below (Do p) is =
+  stores_below : (v : Result Plan Refusal) → verdict_on image ≡ v → Below (need (geometry u)) (acted_on host (drive_with u image) at v).stores
+  stores_below (Err r) is = tt
+  stores_below (Ok p) is =
       let t = transfer_of host u p.moving in
       let moved : Below (need (geometry u)) (data_on image t) = rw (moving_geometry u host p.moving) at (data_below image t (stands p is)) in
       let n = need (geometry u) in

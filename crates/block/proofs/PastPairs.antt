@@ -1,5 +1,7 @@
 -- What stands in a unit's table past the pairs that count is nothing to a block: it does the same whatever stands there, and leaves it alone, but for an 87 and an 85.
 -- The verdict is the same, and so are the places of the sectors; of the record that is left an 87 has cleared the table, and an 85 has stored its pair.
+use Rattle.answers.specs.declared.Refusal.{Refusal}
+use Rattle.std.proofs.Common.{Err, Ok, Result}
 use Prim.Native.Nat.{ℕ, ◌+◌, ◌%◌, ◌<◌}
 use mathlib.Core.Bool.{Bool, false, not, ◌&&◌}
 use mathlib.Core.List.{List, ◌++◌}
@@ -7,8 +9,7 @@ use mathlib.Core.Logic.{if_pos}
 use mathlib.Core.Path.{◌≡◌, refl, sym, ap, ◌∙◌}
 use native.Mathlib.Decide.{dec_lt}
 use lib.ListN.{length}
-use Rattle.answers.specs.declared.BlockAnswer.{BlockAnswer}
-use Rattle.answers.specs.declared.BlockAnswer.TheVariants.{Ended, Failed}
+use Rattle.answers.specs.Numbers.{BlockAnswer}
 use Rattle.geometry.specs.declared.VolumeNumber.{VolumeNumber}
 use Rattle.spares.specs.Lands.{counted}
 use Rattle.spares.specs.Table.{with_pair}
@@ -19,8 +20,6 @@ use Rattle.judge.specs.declared.Leaving.TheVariants.{AsItWas, HeadsAt, HeadsAtLa
 use Rattle.judge.specs.declared.Moving.{Moving}
 use Rattle.judge.specs.declared.Moving.TheVariants.{Nothing, Sectors, Track}
 use Rattle.judge.specs.declared.Plan.{Plan}
-use Rattle.judge.specs.declared.Verdict.{Verdict}
-use Rattle.judge.specs.declared.Verdict.TheVariants.{Refused, Do}
 use Rattle.judge.specs.Fits.{LeavingFits}
 use Rattle.judge.specs.Given.{Asked, on}
 use Rattle.judge.specs.Verdict.{verdict}
@@ -54,8 +53,8 @@ past_effect F e = record { stores = e.stores; unit = past F e.unit; answer = e.a
 module _ (F : ℕ → List ℕ → List ℕ) (p : PastPairs F) where
   -- Another holder is no matter of the table.
   ended_past : (c : Controller) (reserve : Bool) (answer : BlockAnswer) (u : UnitRecord) → held_after c reserve answer (past F u) ≡ past F (held_after c reserve answer u)
-  ended_past c reserve Ended u = refl
-  ended_past c reserve (Failed r) u = refl
+  ended_past c reserve (Ok _) u = refl
+  ended_past c reserve (Err r) u = refl
 
   holder_past :
       (c : Controller) (reserve : Bool) (l : Leaving) (answer : BlockAnswer) (u : UnitRecord) →
@@ -145,6 +144,6 @@ module _ (F : ℕ → List ℕ → List ℕ) (p : PastPairs F) where
         (verdict_alike c u (length image) host (F (pairs u) (table u)) (sym (same_pairs u long)) long (p.long (pairs u) (table u) long) asked.task))
         ∙ by_verdict (verdict asked) refl
       where
-        by_verdict : (v : Verdict) → verdict asked ≡ v → judged c host (drive_with (past F u) image) at i v ≡ past_effect F (judged c host (drive_with u image) at i v)
-        by_verdict (Refused r) is = refl
-        by_verdict (Do plan) is = performed_past plan (plan_fits asked plan is).leaving
+        by_verdict : (v : Result Plan Refusal) → verdict asked ≡ v → judged c host (drive_with (past F u) image) at i v ≡ past_effect F (judged c host (drive_with u image) at i v)
+        by_verdict (Err r) is = refl
+        by_verdict (Ok plan) is = performed_past plan (plan_fits asked plan is).leaving

@@ -1,5 +1,7 @@
 -- Word 1 and the entry that a block leaves are those of its own answer, and the entry of a refused block says travel 0.
 -- They are stored last, and each byte of a row stands where it was stored.
+use Rattle.judge.specs.declared.Plan.{Plan}
+use Rattle.std.proofs.Common.{Err, Result}
 use Prim.Native.Nat.{ℕ, ◌+◌, ◌*◌, ◌≤◌, ◌<◌}
 use mathlib.Core.List.{List, [], ◌∷◌, ◌++◌}
 use mathlib.Core.Path.{◌≡◌, refl, sym, ap, ◌∙◌}
@@ -7,15 +9,12 @@ use native.Mathlib.Omega.{arith}
 use lib.IntN.{ℤ, pos}
 use lib.ListN.{get_or, length, length-append, take, get_or-append}
 use lib.Seq.{get_or-append-add, length-take-le, sets, sets-eq}
-use Rattle.answers.specs.declared.BlockAnswer.{BlockAnswer}
+use Rattle.answers.specs.Numbers.{BlockAnswer, status_of}
 use Rattle.answers.specs.declared.Refusal.{Refusal}
-use Rattle.answers.specs.Numbers.{status_of}
 use Rattle.iopb.specs.Ask.{task_of}
 use Rattle.iopb.specs.declared.Block.{Block}
 use Rattle.iopb.specs.Errors.{error_byte}
 use Rattle.iopb.specs.Layout.{block_at}
-use Rattle.judge.specs.declared.Verdict.{Verdict}
-use Rattle.judge.specs.declared.Verdict.TheVariants.{Refused}
 use Rattle.judge.specs.Given.{on}
 use Rattle.judge.specs.Verdict.{verdict}
 use Rattle.transfer.specs.Stores.{Buffers, after}
@@ -78,7 +77,7 @@ module _ (host : List ℕ) (d : Drive) (at i : ℕ) (events : List ℕ) (room : 
 
   module _ (c : Controller) where
     -- How the block was judged, what performing it came to, and what is left.
-    abbrev judgement : Verdict
+    abbrev judgement : Result Plan Refusal
     judgement = verdict (on c d.unit (length d.image) (task_of host (block_at host at)) host)
 
     abbrev performance : Performance
@@ -92,6 +91,6 @@ module _ (host : List ℕ) (d : Drive) (at i : ℕ) (events : List ℕ) (room : 
     its_answer_is_told = rw (effect_finished c host d at i) (finished_tells performance)
 
     -- Of a block refused before transfer: its answer is that of the refusal, and travel is zero.
-    pub refusal_is_told : (r : Refusal) → judgement ≡ Refused r → Tells (block_at host at) at i (BlockAnswer.Failed r) (pos 0) left
+    pub refusal_is_told : (r : Refusal) → judgement ≡ Err r → Tells (block_at host at) at i (Err r) (pos 0) left
     refusal_is_told r refused =
-        rw (effect_judged c host d at i (block_at host at) (Refused r) refl refused) (finished_tells (acted_on host d at (Refused r)))
+        rw (effect_judged c host d at i (block_at host at) (Err r) refl refused) (finished_tells (acted_on host d at (Err r)))

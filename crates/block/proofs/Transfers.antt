@@ -3,18 +3,25 @@
 use Prim.Native.Nat.{ℕ, zero, suc, ◌+◌}
 use mathlib.Core.Bool.{Bool, true, false}
 use mathlib.Core.List.{List, [], ◌∷◌, ◌++◌}
-use mathlib.Core.Path.{◌≡◌, refl, sym, ap, ◌∙◌}
+use mathlib.Core.Path.{◌≡◌, refl, sym, ap, subst, ◌∙◌}
+use lib.ListN.{length}
 use native.Mathlib.Nat.{zero-mul}
-use Rattle.transfer.specs.Data.{Transfer, data_on, move}
+use Rattle.geometry.specs.declared.Geometry.{Geometry}
+use Rattle.transfer.specs.Data.{Transfer, data_on, formatting, move}
 use Rattle.transfer.specs.Progress.{progress}
 use Rattle.transfer.specs.Runs.{lent}
 use Rattle.transfer.specs.Stores.{Buffers, Store, after, up_to}
 use Rattle.transfer.proofs.Stores.{after_more}
+use Rattle.transfer.specs.Whole.{TrackFits, made, sectors_result, span_transfer, track_result}
+use Rattle.transfer.proofs.Filling.{track_fit}
+use Rattle.transfer.proofs.Wholes.{sectors_fit}
+use Rattle.judge.specs.declared.Job.{Job}
 use Rattle.judge.specs.declared.Moving.{Moving}
 use Rattle.block.specs.Block.{begun}
-use Rattle.block.specs.Steps.{Stores, three, transfer_with}
+use Rattle.unit.specs.declared.Spot.{Spot}
+use Rattle.block.specs.Steps.{Ready, Stores, three, transfer_with}
 use Rattle.block.proofs.Effects.{host_written, then_made}
-use Rattle.unit.specs.Standing.{UnitRecord}
+use Rattle.unit.specs.Standing.{UnitRecord, geometry}
 use Rattle.wire.specs.Storing.{written}
 
 abbrev beside : Buffers → List ℕ → Buffers
@@ -61,3 +68,21 @@ unfolding after data_on progress up_to
 nothing_made u at host image data_at events =
     then_made (begun at) (data_on image (transfer_with u Moving.Nothing data_at)) (three host image events) _ _
     (sym (host_written (0x81 ∷ 0x00 ∷ []) host image events (at + 2))) (rw zero-mul refl)
+
+-- What is ready is made.
+module _ (u : UnitRecord) {m : Moving} (lengths addresses : List ℕ) (long : ℕ) (image : List ℕ) (ready : Ready u m lengths addresses long (length image)) where
+  pub sectors_ready :
+      (j : Job) → m ≡ Moving.Sectors j →
+      sectors_result long image u j.span j.to_host j.past_marks lengths addresses ≡ made image (span_transfer u j.span j.to_host j.past_marks lengths addresses)
+  sectors_ready j is =
+      sectors_fit long image u j.span j.to_host j.past_marks lengths addresses
+      (subst (λ (x : Moving). Ready u x lengths addresses long (length image)) is ready)
+
+  -- A track is told by the drive's geometry alone.
+  pub track_ready :
+      (v : UnitRecord) → geometry u ≡ geometry v → (spot : Spot) (at : ℕ) → m ≡ Moving.Track spot at →
+      track_result long image v spot at ≡ made image (formatting v spot at)
+  track_ready v same spot at is =
+      track_fit image v spot at long
+      (subst (λ (g : Geometry). TrackFits g spot at long (length image)) same
+      (subst (λ (x : Moving). Ready u x lengths addresses long (length image)) is ready))

@@ -1,9 +1,7 @@
 -- What one block does (01, One run): it is judged, and then refused or performed. Its stores in order, and what becomes of its unit's record.
-use Rattle.std.specs.Prelude.{ℕ, ◌+◌, ◌-◌, ◌*◌, Bool, false, List, [], ◌∷◌, ◌++◌, ℤ, pos, length}
-use Rattle.answers.specs.declared.BlockAnswer.{BlockAnswer}
-use Rattle.answers.specs.declared.BlockAnswer.TheVariants.{Ended, Failed}
+use Rattle.std.specs.Prelude.{ℕ, ◌+◌, ◌-◌, ◌*◌, Bool, false, List, [], ◌∷◌, ◌++◌, ℤ, pos, length, Err, Ok, Result}
+use Rattle.answers.specs.Numbers.{BlockAnswer, status_of}
 use Rattle.answers.specs.declared.Refusal.{Refusal}
-use Rattle.answers.specs.Numbers.{status_of}
 use Rattle.geometry.specs.declared.VolumeNumber.{VolumeNumber}
 use Rattle.request.specs.declared.Buffer.{Buffer}
 use Rattle.request.specs.declared.Buffer.TheVariants.{Piece, List as Elements}
@@ -28,8 +26,6 @@ use Rattle.judge.specs.declared.Moving.TheVariants.{Nothing, Sectors, Track}
 use Rattle.judge.specs.declared.Plan.{Plan}
 use Rattle.judge.specs.declared.Report.{Report}
 use Rattle.judge.specs.declared.Report.TheVariants.{Nothing as Silent, Identity, Formatted}
-use Rattle.judge.specs.declared.Verdict.{Verdict}
-use Rattle.judge.specs.declared.Verdict.TheVariants.{Refused, Do}
 use Rattle.judge.specs.Given.{on}
 use Rattle.judge.specs.Verdict.{verdict}
 use Rattle.block.specs.Events.{entry, travel_to}
@@ -83,8 +79,8 @@ travelled old (Mapped bad spare) new = pos 0
 -- Who holds the drive afterwards: "RV on a successful block takes or keeps the drive; a successful block without RV gives it up .. A failed block leaves
 -- the holder as it was" (02, K10).
 abbrev pub held_after : Controller → (reserve : Bool) → BlockAnswer → UnitRecord → UnitRecord
-held_after c reserve Ended u = held_by u (reserved_by c reserve)
-held_after c reserve (Failed r) u = u
+held_after c reserve (Ok _) u = held_by u (reserved_by c reserve)
+held_after c reserve (Err r) u = u
 
 -- "86 does neither": of the commands that are let through it alone leaves the record as it was (judge, plan_of).
 abbrev pub holder_left : Controller → (reserve : Bool) → Leaving → BlockAnswer → UnitRecord → UnitRecord
@@ -121,7 +117,7 @@ module _ (c : Controller) (host : List ℕ) (d : Drive) (at i : ℕ) where
   -- "For 10 to 19", and for 22 to 24 (02, K5 and K10), "only the block's word 1 and its event entry change"; travel is "zero for .. a block refused
   -- before transfer".
   abbrev pub refused : Refusal → Effect
-  refused r = record { stores = finish (block_at host at) at i (Failed r) (pos 0); unit = d.unit; answer = Failed r; sectors = 0 }
+  refused r = record { stores = finish (block_at host at) at i (Err r) (pos 0); unit = d.unit; answer = Err r; sectors = 0 }
 
   -- Its stores in order: 81 and 00, the data, the words that are reported, the final status and error, the event entry. The holder changes with the record.
   abbrev pub performed : Plan → Effect
@@ -138,9 +134,9 @@ module _ (c : Controller) (host : List ℕ) (d : Drive) (at i : ℕ) where
         sectors = p.sectors;
       }
 
-  abbrev pub judged : Verdict → Effect
-  judged (Refused r) = refused r
-  judged (Do plan) = performed plan
+  abbrev pub judged : Result Plan Refusal → Effect
+  judged (Err r) = refused r
+  judged (Ok plan) = performed plan
 
 -- What it does: "The 28 bytes are copied out, then judged."
 unfoldable pub effect_on : Controller → List ℕ → Drive → ℕ → ℕ → Effect

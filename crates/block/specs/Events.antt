@@ -1,8 +1,6 @@
 -- The event entry of a block (01, One run: "status, error, level, vector, then travel").
-use Rattle.std.specs.Prelude.{ℕ, ◌+◌, ◌-◌, ◌^◌, cond, List, ◌∷◌, ℤ, pos, negsuc, ◌-ℤ◌}
-use Rattle.answers.specs.declared.BlockAnswer.{BlockAnswer}
-use Rattle.answers.specs.declared.BlockAnswer.TheVariants.{Ended, Failed}
-use Rattle.answers.specs.Numbers.{status_of}
+use Rattle.std.specs.Prelude.{ℕ, ◌+◌, ◌-◌, ◌^◌, cond, List, ◌∷◌, ℤ, pos, negsuc, ◌-ℤ◌, Err, Ok}
+use Rattle.answers.specs.Numbers.{BlockAnswer, status_of}
 use Rattle.iopb.specs.declared.Block.{Block}
 use Rattle.iopb.specs.Errors.{error_byte}
 use Rattle.wire.specs.Words.{four_bytes}
@@ -21,8 +19,8 @@ abbrev pub level_of : Block → ℕ
 level_of b = cond b.options.interrupt b.level 0
 
 abbrev pub vector_of : Block → BlockAnswer → ℕ
-vector_of b Ended = cond b.options.interrupt b.normal_vector 0
-vector_of b (Failed r) = cond b.options.interrupt b.error_vector 0
+vector_of b (Ok _) = cond b.options.interrupt b.normal_vector 0
+vector_of b (Err r) = cond b.options.interrupt b.error_vector 0
 
 -- The 8 bytes.
 abbrev pub entry : Block → BlockAnswer → ℤ → List ℕ

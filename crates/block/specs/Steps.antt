@@ -1,7 +1,7 @@
 -- What the functions of one block promise, between the code and the definitions of Block.
-use Rattle.std.specs.Prelude.{ℕ, ◌+◌, ◌*◌, ◌≤◌, Bool, true, false, List, [], ◌++◌, ◌≡◌, ℤ, pos, length}
+use Rattle.std.specs.Prelude.{ℕ, ◌+◌, ◌*◌, ◌≤◌, Bool, true, false, List, [], ◌++◌, ◌≡◌, ℤ, pos, length, Err, None, Ok, Option, Result, Some}
 use Rattle.std.proofs.Math.Logic.{ite}
-use Rattle.answers.specs.declared.BlockAnswer.{BlockAnswer}
+use Rattle.answers.specs.Numbers.{BlockAnswer}
 use Rattle.answers.specs.declared.Refusal.{Refusal}
 use Rattle.geometry.specs.declared.VolumeNumber.{VolumeNumber}
 use Rattle.iopb.specs.declared.Block.{Block}
@@ -9,16 +9,12 @@ use Rattle.judge.specs.declared.Leaving.{Leaving}
 use Rattle.judge.specs.declared.Moving.{Moving}
 use Rattle.judge.specs.declared.Moving.TheVariants.{Nothing, Sectors, Track}
 use Rattle.judge.specs.declared.Plan.{Plan}
-use Rattle.judge.specs.declared.Verdict.{Verdict}
-use Rattle.judge.specs.declared.Verdict.TheVariants.{Refused, Do}
 use Rattle.transfer.specs.declared.Moved.{Moved}
 use Rattle.transfer.specs.Data.{Transfer, data_on, formatting, moving, progress_on}
 use Rattle.transfer.specs.Stores.{Buffers, Store, after}
 use Rattle.transfer.specs.Whole.{SectorsFit, TrackFits, moved_on}
 use Rattle.block.specs.declared.BlockTold.{BlockTold}
 use Rattle.block.specs.declared.Done.{Done}
-use Rattle.block.specs.declared.Known.{Known}
-use Rattle.block.specs.declared.Known.TheVariants.{Unasked, Counts}
 use Rattle.block.specs.declared.Performed.{Performed}
 use Rattle.block.specs.Block.{Drive, Effect, begun, finish, holder_left, left_by, reported, transfer_of, travelled}
 use Rattle.wire.specs.Promise.{Says}
@@ -83,18 +79,18 @@ carried_out host d at plan =
     }
 
 abbrev pub turned_down : Drive → Refusal → Performance
-turned_down d r = record { stores = []; unit = d.unit; answer = BlockAnswer.Failed r; sectors = 0; travel = pos 0 }
+turned_down d r = record { stores = []; unit = d.unit; answer = Err r; sectors = 0; travel = pos 0 }
 
-abbrev pub acted_on : List ℕ → Drive → ℕ → Verdict → Performance
-acted_on host d at (Refused r) = turned_down d r
-acted_on host d at (Do plan) = carried_out host d at plan
+abbrev pub acted_on : List ℕ → Drive → ℕ → Result Plan Refusal → Performance
+acted_on host d at (Err r) = turned_down d r
+acted_on host d at (Ok plan) = carried_out host d at plan
 
 -- The record then has the holder that is left, and the block is finished.
-abbrev pub held_unit : Controller → (reserve : Bool) → Verdict → BlockAnswer → UnitRecord → UnitRecord
-held_unit c reserve (Refused r) answer u = u
-held_unit c reserve (Do plan) answer u = holder_left c reserve plan.leaving answer u
+abbrev pub held_unit : Controller → (reserve : Bool) → Result Plan Refusal → BlockAnswer → UnitRecord → UnitRecord
+held_unit c reserve (Err r) answer u = u
+held_unit c reserve (Ok plan) answer u = holder_left c reserve plan.leaving answer u
 
-abbrev pub finished : Controller → Block → ℕ → ℕ → Verdict → Performance → Effect
+abbrev pub finished : Controller → Block → ℕ → ℕ → Result Plan Refusal → Performance → Effect
 finished c b at i v p =
     record {
       stores = p.stores ++ finish b at i p.answer p.travel;
@@ -122,9 +118,9 @@ pub record Performs (p : Performance) (host image host' image' ts' : List ℕ) (
   pub stored : Stores p.stores host image host' image'
 
 -- What is known of a unit before a block is so.
-abbrev pub Knows : Known → UnitRecord → Type 0
-Knows Unasked u = Unit {0}
-Knows (Counts b) u = Says b (CountsAsInitialized u)
+abbrev pub Knows : Option Bool → UnitRecord → Type 0
+Knows None u = Unit {0}
+Knows (Some b) u = Says b (CountsAsInitialized u)
 
 -- What a block tells, with the answer whether its unit counts as initialized now, and its link.
 abbrev pub told_of : Block → (counts : Bool) → BlockAnswer → (sectors : ℕ) → BlockTold
@@ -135,8 +131,8 @@ told_of b counts answer sectors =
 abbrev pub done_of : Block → Effect → Done
 done_of b e = record { unit = by_value e.unit; told = told_of b (ite (counts? e.unit) true false) e.answer e.sectors }
 
--- A block's effect is what was done: what is returned, the table, and every byte.
-pub record Did (b : Block) (e : Effect) (m m' : Buffers) (ts' : List ℕ) (d : Done) : Type 0 where
-  pub result : d ≡ done_of b e
-  pub table : ts' ≡ table e.unit
+-- A block's effect is what was done: what is told, the unit, and every byte.
+pub record Did (b : Block) (e : Effect) (m m' : Buffers) (u' : UnitRecord) (told : BlockTold) : Type 0 where
+  pub result : told ≡ told_of b (ite (counts? e.unit) true false) e.answer e.sectors
+  pub unit : u' ≡ e.unit
   pub stored : m' ≡ after e.stores m

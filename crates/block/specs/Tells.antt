@@ -1,7 +1,6 @@
 -- What a block has left of its answer when it has ended (01, One run): in its own word 1, and in its event entry, byte by byte; and the range of a travel.
 use Rattle.std.specs.Prelude.{ℕ, ◌+◌, ◌*◌, ◌<◌, ◌≡◌, ℤ, pos, negsuc, ◌≤ℤ◌, get_or}
-use Rattle.answers.specs.declared.BlockAnswer.{BlockAnswer}
-use Rattle.answers.specs.Numbers.{status_of}
+use Rattle.answers.specs.Numbers.{BlockAnswer, status_of}
 use Rattle.iopb.specs.declared.Block.{Block}
 use Rattle.iopb.specs.Errors.{error_byte}
 use Rattle.transfer.specs.Stores.{Buffers}

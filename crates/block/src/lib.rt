@@ -10,44 +10,34 @@ ghost use Rattle.geometry.specs.Drive.{B};
 ghost use Rattle.judge.specs.declared.Moving.{Moving};
 ghost use Rattle.judge.specs.declared.Report.{Report};
 ghost use Rattle.judge.specs.Fits.{JobGood, LeavingFits, MovingFits, PlanFits, ReportFits, SpanGood};
-ghost use Rattle.answers.specs.declared.BlockAnswer.{BlockAnswer};
 ghost use Rattle.request.specs.declared.Buffer.{Buffer};
 ghost use Rattle.block.specs.Block.{effect_on, finish, held_after, holder_left, left_by, reported, transfer_of, travelled};
 ghost use Rattle.block.specs.Steps.{Carries, Did, Knows, Made, Performs, Ready, BlockRoom, Stores, carried_out, drive_with, performed_of, table_by, three, told_of, transfer_with, turned_down};
-ghost use Rattle.transfer.specs.declared.Attempt.{Attempt};
 ghost use Rattle.transfer.specs.declared.Moved.{Moved};
 ghost use Rattle.transfer.specs.Progress.{last_tried};
 ghost use Rattle.transfer.specs.Runs.{piece_byte};
 ghost use Rattle.transfer.specs.Stores.{after};
 ghost use Rattle.unit.specs.Landing.{spot_of};
 ghost use Rattle.wire.specs.Promise.{Says};
-ghost use Rattle.unit.specs.Standing.{CountsAsInitialized, UnitRecord, by_value, cylinder, geometry, unit_of};
+ghost use Rattle.unit.specs.Standing.{CountsAsInitialized, UnitRecord, by_value, cylinder, geometry, unit_of, table};
 ghost use Rattle.unit.specs.Made.{bare};
 ghost use Rattle.wire.specs.Storing.{written};
 
-use answers::{BlockAnswer, Refusal};
+use answers::Refusal;
 use events::{put_event, travel};
 use iopb::Block;
-use judge::{Job, Leaving, Moving, Plan, Report, Standing, Verdict};
+use judge::{Job, Leaving, Moving, Plan, Report, Standing};
 use request::Buffer;
-use transfer::{Attempt, Moved};
-use unit::{Controller, Landing, Record, Span};
-use wire::lesser;
+use transfer::Moved;
+use unit::{Controller, Record, Span, Unit};
 
 mod events;
-
-// Whether a unit counts as initialized, where that has been asked before: a table of many pairs is long to look through.
-#[derive(Clone, Copy)]
-pub enum Known {
-    Unasked,
-    Counts(bool),
-}
 
 // What a block tells: whether its unit counts as initialized now, its answer and its sectors, and what it said of the next.
 #[derive(Clone, Copy)]
 pub struct BlockTold {
     pub counts: bool,
-    pub answer: BlockAnswer,
+    pub answer: Result<(), Refusal>,
     pub sectors: u16,
     pub linked: bool,
     pub link: u32,
@@ -64,7 +54,7 @@ pub struct Done {
 #[derive(Clone, Copy)]
 struct Performed {
     unit: Record,
-    answer: BlockAnswer,
+    answer: Result<(), Refusal>,
     sectors: u16,
     travel: i32,
 }
@@ -110,39 +100,28 @@ fn put_report(host: &mut [u8], at: usize, report: Report)
 }
 
 fn nothing_moved() -> Moved
-    ensures { result ≡ record { sectors = 0; answer = BlockAnswer.Ended } }
+    ensures { result ≡ record { sectors = 0; answer = Ok tt } }
 {
     Moved {
         sectors: 0,
-        answer: BlockAnswer::Ended,
-    }
-}
-
-// What was moved, of an attempt that was made. The judge lets no request through that does not fit.
-fn moved_by(a: Attempt) -> Moved
-    ensures { (m : Moved) → a ≡ Attempt.Made m → result ≡ m }
-{
-    match a {
-        Attempt::Made(m) => m,
-        Attempt::Misfit => nothing_moved(),
+        answer: Ok(()),
     }
 }
 
 // Marks the block as running, and moves what is to be moved, to or from pieces that were found before: the block's own status word may
-// lie under its list.
+// lie under its list. The judge lets no request through that does not fit.
 fn begin(
     host: &mut [u8],
     image: &mut [u8],
-    u: Record,
-    table: &[u32; 64],
+    u: &Unit,
     at: usize,
     moving: Moving,
     lengths: &[u32],
     addresses: &[u32],
 ) -> Moved
-    requires { (at + 28 ≤ length host.old) × Ready (unit_of u table.now) moving lengths.now addresses.now (length host.old)
+    requires { (at + 28 ≤ length host.old) × Ready u.now moving lengths.now addresses.now (length host.old)
         (length image.old) }
-    ensures { Made (transfer_with (unit_of u table.now) moving (piece_byte lengths.now addresses.now)) at
+    ensures { Made (transfer_with u.now moving (piece_byte lengths.now addresses.now)) at
         host.old image.old host.new image.new result }
 {
     put_status(host, at, 0x81, 0x00);
@@ -150,33 +129,33 @@ fn begin(
         Moving::Nothing => nothing_moved(),
         Moving::Sectors(job) => {
             let span = job.span;
-            moved_by(transfer::move_sectors(
+            transfer::move_sectors(
                 host,
                 image,
                 u,
-                table,
                 span,
                 job.to_host,
                 job.past_marks,
                 lengths,
                 addresses,
-            ))
+            )
+            .unwrap()
         }
         Moving::Track(spot, buffer) => {
-            moved_by(transfer::format_track(host, image, u, spot, buffer))
+            transfer::format_track(host, image, u, spot, buffer).unwrap()
         }
     }
 }
 
-fn sector_bytes(u: Record) -> u32
-    ensures { (result ≡ B (geometry (bare u))) × (result < 65536) }
+fn sector_bytes(u: &Unit) -> u32
+    ensures { (result ≡ B (geometry u.now)) × (result < 65536) }
 {
     u.geometry().bytes_a_sector() as u32
 }
 
 // The bytes of a job's sectors, all in one piece: an element's byte count would be too narrow for them.
-fn job_bytes(u: Record, span: Span) -> u32
-    ensures { result ≡ span.count * B (geometry (bare u)) }
+fn job_bytes(u: &Unit, span: Span) -> u32
+    ensures { result ≡ span.count * B (geometry u.now) }
 {
     (span.count as u32) * sector_bytes(u)
 }
@@ -185,15 +164,14 @@ fn job_bytes(u: Record, span: Span) -> u32
 fn in_one_piece(
     host: &mut [u8],
     image: &mut [u8],
-    u: Record,
-    table: &[u32; 64],
+    u: &Unit,
     at: usize,
     job: Job,
     address: u32,
 ) -> Moved
-    requires { (at + 28 ≤ length host.old) × ((job.buffer ≡ Buffer.Piece address) × JobGood (unit_of u table.now) (length image.old)
+    requires { (at + 28 ≤ length host.old) × ((job.buffer ≡ Buffer.Piece address) × JobGood u.now (length image.old)
         host.old job) }
-    ensures { Made (transfer_of host.old (unit_of u table.now) (Moving.Sectors job)) at host.old
+    ensures { Made (transfer_of host.old u.now (Moving.Sectors job)) at host.old
         image.old host.new image.new result }
 {
     let span = job.span;
@@ -203,7 +181,6 @@ fn in_one_piece(
         host,
         image,
         u,
-        table,
         at,
         Moving::Sectors(job),
         &lengths,
@@ -215,16 +192,15 @@ fn in_one_piece(
 fn through_list(
     host: &mut [u8],
     image: &mut [u8],
-    u: Record,
-    table: &[u32; 64],
+    u: &Unit,
     at: usize,
     job: Job,
     address: u32,
     elements: u8,
 ) -> Moved
-    requires { (at + 28 ≤ length host.old) × ((job.buffer ≡ Buffer.List address elements) × JobGood (unit_of u table.now)
+    requires { (at + 28 ≤ length host.old) × ((job.buffer ≡ Buffer.List address elements) × JobGood u.now
         (length image.old) host.old job) }
-    ensures { Made (transfer_of host.old (unit_of u table.now) (Moving.Sectors job)) at host.old
+    ensures { Made (transfer_of host.old u.now (Moving.Sectors job)) at host.old
         image.old host.new image.new result }
 {
     let pieces = memory::copy_out(host, address, elements);
@@ -235,7 +211,6 @@ fn through_list(
         host,
         image,
         u,
-        table,
         at,
         Moving::Sectors(job),
         &lengths[..n],
@@ -243,104 +218,83 @@ fn through_list(
     )
 }
 
-fn carry_job(
-    host: &mut [u8],
-    image: &mut [u8],
-    u: Record,
-    table: &[u32; 64],
-    at: usize,
-    job: Job,
-) -> Moved
-    requires { (at + 28 ≤ length host.old) × JobGood (unit_of u table.now) (length image.old) host.old job }
-    ensures { Made (transfer_of host.old (unit_of u table.now) (Moving.Sectors job)) at host.old
+fn carry_job(host: &mut [u8], image: &mut [u8], u: &Unit, at: usize, job: Job) -> Moved
+    requires { (at + 28 ≤ length host.old) × JobGood u.now (length image.old) host.old job }
+    ensures { Made (transfer_of host.old u.now (Moving.Sectors job)) at host.old
         image.old host.new image.new result }
 {
     let buffer = job.buffer;
     match buffer {
-        Buffer::Piece(address) => in_one_piece(host, image, u, table, at, job, address),
+        Buffer::Piece(address) => in_one_piece(host, image, u, at, job, address),
         Buffer::List { at: list, elements } => through_list(
-            host, image, u, table, at, job, list, elements,
+            host, image, u, at, job, list, elements,
         ),
     }
 }
 
 // What needs no pieces: nothing to be moved, or a track, which is told by an address.
-fn without_pieces(
-    host: &mut [u8],
-    image: &mut [u8],
-    u: Record,
-    table: &[u32; 64],
-    at: usize,
-    moving: Moving,
-) -> Moved
-    requires { (at + 28 ≤ length host.old) × Ready (unit_of u table.now) moving (0 ∷ []) (0 ∷ []) (length host.old)
+fn without_pieces(host: &mut [u8], image: &mut [u8], u: &Unit, at: usize, moving: Moving) -> Moved
+    requires { (at + 28 ≤ length host.old) × Ready u.now moving (0 ∷ []) (0 ∷ []) (length host.old)
         (length image.old) }
-    ensures { Made (transfer_with (unit_of u table.now) moving (piece_byte (0 ∷ []) (0 ∷ []))) at host.old
+    ensures { Made (transfer_with u.now moving (piece_byte (0 ∷ []) (0 ∷ []))) at host.old
         image.old host.new image.new result }
 {
     let none = [0u32];
-    begin(host, image, u, table, at, moving, &none, &none)
+    begin(host, image, u, at, moving, &none, &none)
 }
 
 // Finds the pieces of what is to be moved, marks the block, and moves it.
-fn carry(
-    host: &mut [u8],
-    image: &mut [u8],
-    u: Record,
-    table: &[u32; 64],
-    at: usize,
-    moving: Moving,
-) -> Moved
-    requires { (at + 28 ≤ length host.old) × MovingFits (unit_of u table.now) (length image.old) host.old moving }
-    ensures { Made (transfer_of host.old (unit_of u table.now) moving) at host.old image.old
+fn carry(host: &mut [u8], image: &mut [u8], u: &Unit, at: usize, moving: Moving) -> Moved
+    requires { (at + 28 ≤ length host.old) × MovingFits u.now (length image.old) host.old moving }
+    ensures { Made (transfer_of host.old u.now moving) at host.old image.old
         host.new image.new result }
 {
     match moving {
-        Moving::Nothing => without_pieces(host, image, u, table, at, moving),
-        Moving::Sectors(job) => carry_job(host, image, u, table, at, job),
-        Moving::Track(_, _) => without_pieces(host, image, u, table, at, moving),
+        Moving::Nothing => without_pieces(host, image, u, at, moving),
+        Moving::Sectors(job) => carry_job(host, image, u, at, job),
+        Moving::Track(_, _) => without_pieces(host, image, u, at, moving),
     }
 }
 
 // The cylinder of the last sector tried of a span, of which so many sectors came.
-fn last_tried(u: Record, table: &[u32; 64], span: Span, sectors: u16) -> u16
-    requires { SpanGood (unit_of u table.now) span }
-    ensures { result ≡ (spot_of (unit_of u table.now) span.volume (span.first + last_tried sectors span.count)).cylinder }
+fn last_tried(u: &Unit, span: Span, sectors: u16) -> u16
+    requires { SpanGood u.now span }
+    ensures { result ≡ (spot_of u.now span.volume (span.first + last_tried sectors span.count)).cylinder }
 {
     let volume = span.volume;
     // a volume's sectors are counted in 64 bits, so the sum below is too
     let _all = u.geometry().volume_sectors(volume);
-    let last = lesser(sectors as u64, (span.count - 1) as u64);
-    let Landing::At(spot) = u.land(table, volume, span.first + last) else {
-        return 0;
+    let last = u64::from(sectors.min(span.count - 1));
+    let Some(spot) = u.land(volume, span.first + last) else {
+        unreachable!();
     };
     spot.cylinder
 }
 
 // The unit's record once so many sectors are moved.
-fn left(u: Record, table: &[u32; 64], leaving: Leaving, sectors: u16) -> Record
-    requires { LeavingFits (unit_of u table.now) leaving }
-    ensures { result ≡ by_value (left_by (unit_of u table.now) sectors leaving) }
+fn left(u: &Unit, leaving: Leaving, sectors: u16) -> Record
+    requires { LeavingFits u.now leaving }
+    ensures { result ≡ by_value (left_by u.now sectors leaving) }
 {
     match leaving {
-        Leaving::AsItWas => u,
-        Leaving::HeadsAt(cylinder) => u.moved_to(cylinder),
-        Leaving::HeadsAtLastTried(span) => u.moved_to(last_tried(u, table, span, sectors)),
+        Leaving::AsItWas => u.value,
+        Leaving::HeadsAt(cylinder) => u.value.moved_to(cylinder),
+        Leaving::HeadsAtLastTried(span) => u.value.moved_to(last_tried(u, span, sectors)),
         Leaving::Fresh(g) => Record::fresh(g),
-        Leaving::Mapped(_, _) => u.one_pair_more(),
+        Leaving::Mapped(_, _) => u.value.one_pair_more(),
     }
 }
 
 // The unit's table with it: a new record has none of its pairs, and a pair more stands at the end.
-fn leave_table(u: Record, table: &mut [u32; 64], leaving: Leaving)
-    ensures { (moved : ℕ) → table.new ≡ table_by (unit_of u table.old) moved leaving }
+fn leave_table(u: &mut Unit, leaving: Leaving)
+    ensures { (moved : ℕ) → table u.new ≡ table_by u.old moved leaving }
 {
     match leaving {
         Leaving::AsItWas => {}
         Leaving::HeadsAt(_) => {}
         Leaving::HeadsAtLastTried(_) => {}
-        Leaving::Fresh(_) => *table = [0; 64],
-        Leaving::Mapped(bad, spare) => spares::add(table, u.pairs(), bad, spare),
+        Leaving::Fresh(_) => u.tracks = [0; 64],
+        Leaving::Mapped(bad, spare) => spares::add(&mut u.tracks, u.value.pairs(), bad, spare),
     }
 }
 
@@ -372,58 +326,44 @@ fn gone(u: Record, leaving: Leaving, new: Record) -> i32
 }
 
 // The stores of an accepted block in their order: the mark and what is moved, and then what is reported.
-fn carry_and_report(
-    host: &mut [u8],
-    image: &mut [u8],
-    u: Record,
-    table: &[u32; 64],
-    at: usize,
-    plan: Plan,
-) -> Moved
-    requires { (at + 28 ≤ length host.old) × PlanFits (unit_of u table.now) (length image.old) host.old plan }
-    ensures { Carries host.old (drive_with (unit_of u table.now) image.old) at plan host.new
+fn carry_and_report(host: &mut [u8], image: &mut [u8], u: &Unit, at: usize, plan: Plan) -> Moved
+    requires { (at + 28 ≤ length host.old) × PlanFits u.now (length image.old) host.old plan }
+    ensures { Carries host.old (drive_with u.now image.old) at plan host.new
         image.new result }
 {
     let moving = plan.moving;
     let report = plan.report;
-    let m = carry(host, image, u, table, at, moving);
+    let m = carry(host, image, u, at, moving);
     put_report(host, at, report);
     m
 }
 
 // What an accepted block does: it knows no events, and not how many blocks came before.
-fn perform(
-    host: &mut [u8],
-    image: &mut [u8],
-    u: Record,
-    table: &mut [u32; 64],
-    at: usize,
-    plan: Plan,
-) -> Performed
-    requires { (at + 28 ≤ length host.old) × PlanFits (unit_of u table.old) (length image.old) host.old plan }
-    ensures { Performs (carried_out host.old (drive_with (unit_of u table.old) image.old) at plan)
-        host.old image.old host.new image.new table.new result }
+fn perform(host: &mut [u8], image: &mut [u8], u: &mut Unit, at: usize, plan: Plan) -> Performed
+    requires { (at + 28 ≤ length host.old) × PlanFits u.old (length image.old) host.old plan }
+    ensures { Performs (carried_out host.old (drive_with u.old image.old) at plan)
+        host.old image.old host.new image.new (table u.new) result }
 {
+    let old = u.value;
     let leaving = plan.leaving;
-    let m = carry_and_report(host, image, u, table, at, plan);
-    let unit = left(u, table, leaving, m.sectors);
-    leave_table(u, table, leaving);
-    let answer = m.answer;
+    let m = carry_and_report(host, image, u, at, plan);
+    let unit = left(u, leaving, m.sectors);
+    leave_table(u, leaving);
     Performed {
         unit,
-        answer,
+        answer: m.answer,
         sectors: m.sectors,
-        travel: gone(u, leaving, unit),
+        travel: gone(old, leaving, unit),
     }
 }
 
 // Who holds the drive once a block has ended so: one that failed leaves that as it was.
-fn held_after(u: Record, c: Controller, reserve: bool, answer: BlockAnswer) -> Record
+fn held_after(u: Record, c: Controller, reserve: bool, answer: Result<(), Refusal>) -> Record
     ensures { result ≡ by_value (held_after c reserve answer (bare u)) }
 {
     match answer {
-        BlockAnswer::Ended => u.held_by(c.reserves(reserve)),
-        BlockAnswer::Failed(_) => u,
+        Ok(()) => u.held_by(c.reserves(reserve)),
+        Err(_) => u,
     }
 }
 
@@ -433,7 +373,7 @@ fn holder_left(
     c: Controller,
     reserve: bool,
     leaving: Leaving,
-    answer: BlockAnswer,
+    answer: Result<(), Refusal>,
 ) -> Record
     ensures { result ≡ by_value (holder_left c reserve leaving answer (bare u)) }
 {
@@ -472,7 +412,7 @@ fn refuse(u: Record, r: Refusal) -> Performed
 {
     Performed {
         unit: u,
-        answer: BlockAnswer::Failed(r),
+        answer: Err(r),
         sectors: 0,
         travel: 0,
     }
@@ -496,7 +436,7 @@ fn finish(
     let answer = p.answer;
     let unit = p.unit;
     let options = b.options;
-    put_status(host, at, answer.status(), iopb::error_byte(answer));
+    put_status(host, at, answers::status(answer), iopb::error_byte(answer));
     put_event(events, i, b, answer, p.travel);
     let told = BlockTold {
         counts,
@@ -508,52 +448,59 @@ fn finish(
     Done { unit, told }
 }
 
-// Whether a unit counts as initialized, asked where it is not known.
-fn settled(known: Known, u: Record, table: &[u32; 64]) -> bool
-    requires { Knows known (unit_of u table.now) }
-    ensures { Says result (CountsAsInitialized (unit_of u table.now)) }
+// Leaves what a block came to in its unit, whose table has been left, and hands on what it tells.
+fn leave(unit: &mut Unit, done: Done) -> BlockTold
+    ensures unit { unit.new ≡ unit_of done.unit (table unit.old) }
+    ensures told { result ≡ done.told }
+{
+    unit.value = done.unit;
+    done.told
+}
+
+// Whether a unit counts as initialized, asked where it is not known: a table of many pairs is long to look through.
+fn settled(known: Option<bool>, u: &Unit) -> bool
+    requires { Knows known u.now }
+    ensures { Says result (CountsAsInitialized u.now) }
 {
     match known {
-        Known::Unasked => u.counts_as_initialized(table),
-        Known::Counts(counts) => counts,
+        None => u.counts_as_initialized(),
+        Some(counts) => counts,
     }
 }
 
-// The block at an address, on its unit's record and image, run after i others.
+// The block at an address, on its unit and its image, run after i others.
 pub fn run_block(
     host: &mut [u8],
     image: &mut [u8],
     events: &mut [u8],
     c: Controller,
-    u: Record,
-    known: Known,
-    table: &mut [u32; 64],
+    unit: &mut Unit,
+    known: Option<bool>,
     at: usize,
     i: usize,
-) -> Done
-    requires { BlockRoom host.old events.old at i × Knows known (unit_of u table.old) }
+) -> BlockTold
+    requires { BlockRoom host.old events.old at i × Knows known unit.old }
     ensures { let before = three host.old image.old events.old in
         let after = three host.new image.new events.new in
-        let drive = drive_with (unit_of u table.old) image.old in
-        Did (block_at host.old at) (effect_on c host.old drive at i) before after table.new result }
+        let drive = drive_with unit.old image.old in
+        Did (block_at host.old at) (effect_on c host.old drive at i) before after unit.new result }
 {
     let b = Block::read(host, at);
-    let options = b.options;
-    let counts = settled(known, u, table);
+    let counts = settled(known, unit);
     let standing = Standing {
-        record: u,
+        unit: &*unit,
         counts,
         image: image.len(),
         controller: c,
     };
-    match judge::judge(iopb::task(b, host), standing, table, host) {
-        Verdict::Refused(r) => finish(host, events, b, at, i, refuse(u, r), counts),
-        Verdict::Do(plan) => {
-            let leaving = plan.leaving;
-            let then = counts_then(counts, leaving);
-            let p = perform(host, image, u, table, at, plan);
-            let p = hold(p, c, options.reserve, leaving);
-            finish(host, events, b, at, i, p, then)
+    match judge::judge(iopb::task(b, host), standing, host) {
+        Err(r) => finish(host, events, b, at, i, refuse(unit.value, r), counts).told,
+        Ok(plan) => {
+            let then = counts_then(counts, plan.leaving);
+            let p = perform(host, image, unit, at, plan);
+            let p = hold(p, c, b.options.reserve, plan.leaving);
+            let done = finish(host, events, b, at, i, p, then);
+            leave(unit, done)
         }
     }
 }

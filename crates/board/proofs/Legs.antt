@@ -1,5 +1,6 @@
 -- A chain in legs comes to what it comes to in one: after a leg that has spent its allowance the chain goes on from there, and a leg that ended otherwise ended it.
 -- Both go along the leg's allowance: a block that leads on does so whatever is left, and any other ends the chain whatever is left.
+use Rattle.std.proofs.Common.{Err, Ok}
 use Prim.Native.Nat.{ℕ, zero, suc, ◌+◌, ◌-◌, ◌*◌, ◌≤◌}
 use mathlib.Core.Bool.{Bool, true, false}
 use mathlib.Core.List.{List}
@@ -9,14 +10,13 @@ use native.Mathlib.Nat.{add-zero, suc-add, zero-add}
 use native.Mathlib.Numerals.{add-one}
 use native.Mathlib.Omega.{arith}
 use lib.ListN.{length}
-use Rattle.answers.specs.declared.BlockAnswer.{BlockAnswer}
-use Rattle.answers.specs.declared.BlockAnswer.TheVariants.{Ended, Failed}
+use Rattle.answers.specs.Numbers.{BlockAnswer}
 use Rattle.answers.specs.declared.RunAnswer.{RunAnswer}
 use Rattle.wire.proofs.Decided.{in_memory?}
 use Rattle.wire.proofs.Promises.{never}
 use Rattle.iopb.specs.Layout.{block_at}
 use Rattle.board.specs.declared.chain.Count.{Count}
-use Rattle.board.specs.declared.chain.End.{End}
+use Rattle.board.specs.declared.chain.Outcome.{Outcome}
 use Rattle.board.specs.declared.chain.Learnt.{Learnt}
 use Rattle.board.specs.declared.chain.Leg.{Leg}
 use Rattle.board.specs.declared.chain.Stepped.{Stepped}
@@ -35,9 +35,9 @@ by_next d a linked t u w v rest = ite d (follows a linked t w rest) (ends RunAns
 only_the_rest :
     {P : Type 0} (d : Dec P) (a : BlockAnswer) (linked : Bool) (t u : Count) (w v : World) (rest : Ending) →
     (by_next d a linked t u w v rest).answer ≡ RunAnswer.AllowanceSpent → (other : Ending) → by_next d a linked t u w v other ≡ other
-only_the_rest (yes p) Ended true t u w v rest spent other = refl
-only_the_rest (yes p) Ended false t u w v rest spent other = absurd (never cc)
-only_the_rest (yes p) (Failed r) linked t u w v rest spent other = absurd (never cc)
+only_the_rest (yes p) (Ok _) true t u w v rest spent other = refl
+only_the_rest (yes p) (Ok _) false t u w v rest spent other = absurd (never cc)
+only_the_rest (yes p) (Err r) linked t u w v rest spent other = absurd (never cc)
 only_the_rest (no n) a linked t u w v rest spent other = absurd (never cc)
 
 -- Where it is not, another rest that differs only where it is spent changes nothing.
@@ -46,9 +46,9 @@ rest_alike :
     ((rest.answer ≡ RunAnswer.AllowanceSpent → ⊥) → other ≡ rest) →
     ((by_next d a linked t u w v rest).answer ≡ RunAnswer.AllowanceSpent → ⊥) →
     by_next d a linked t u w v other ≡ by_next d a linked t u w v rest
-rest_alike (yes p) Ended true t u w v rest other alike unspent = alike unspent
-rest_alike (yes p) Ended false t u w v rest other alike unspent = refl
-rest_alike (yes p) (Failed r) linked t u w v rest other alike unspent = refl
+rest_alike (yes p) (Ok _) true t u w v rest other alike unspent = alike unspent
+rest_alike (yes p) (Ok _) false t u w v rest other alike unspent = refl
+rest_alike (yes p) (Err r) linked t u w v rest other alike unspent = refl
 rest_alike (no n) a linked t u w v rest other alike unspent = refl
 
 module _ (t : Count) (at : ℕ) (w : World) where
@@ -161,7 +161,7 @@ module _ (m left : ℕ) (t : Count) (at : ℕ) (w w' : World) (r : Leg) (less : 
   whole = omega arith
 
   answers : (fetched m t at w).answer ≡ r.end.answer
-  answers = ap (λ (e : End). e.answer) (sym went.ended.result)
+  answers = ap (λ (e : Outcome). e.answer) (sym went.ended.result)
 
   -- It ended the chain.
   pub leg_last : (r.end.answer ≡ RunAnswer.AllowanceSpent → ⊥) → EndedIn (fetched left t at w) w' r.end
@@ -181,7 +181,7 @@ module _ (m left : ℕ) (t : Count) (at : ℕ) (w w' : World) (r : Leg) (less : 
         (events events' : List ℕ) → length events' ≡ length events → Spare events left t → Spare events' (left - m) (count_of r.end)
     leg_spare events events' same spare =
         let run : r.end.blocks ≡ t.blocks + m =
-        ap (λ (e : End). e.blocks) went.ended.result ∙ leg_blocks m t at w (answers ∙ spent) in
+        ap (λ (e : Outcome). e.blocks) went.ended.result ∙ leg_blocks m t at w (answers ∙ spent) in
         record {
           entries = omega (arith, spare.entries, same, run);
           blocks = omega (arith, spare.blocks, run);

@@ -1,12 +1,10 @@
 -- A chain of blocks, and the run (01, One run and Answer numbers 0 to 6).
-use Rattle.std.specs.Prelude.{ℕ, zero, suc, ◌+◌, Bool, true, false, length}
+use Rattle.std.specs.Prelude.{ℕ, zero, suc, ◌+◌, Bool, true, false, length, Err, Ok}
 use Rattle.std.proofs.Math.Logic.{ite}
 use Rattle.std.proofs.Math.Logic.Dec.{and as dec_and, not as dec_not}
 use Rattle.std.proofs.Math.Decide.{dec_le, dec_lt}
-use Rattle.answers.specs.declared.BlockAnswer.{BlockAnswer}
-use Rattle.answers.specs.declared.BlockAnswer.TheVariants.{Ended, Failed}
+use Rattle.answers.specs.Numbers.{BlockAnswer, refusal_number}
 use Rattle.answers.specs.declared.RunAnswer.{RunAnswer}
-use Rattle.answers.specs.Numbers.{refusal_number}
 use Rattle.iopb.specs.Layout.{block_at}
 use Rattle.wire.proofs.Decided.{in_memory?}
 use Rattle.board.specs.declared.chain.Count.{Count}
@@ -31,10 +29,10 @@ counted t sectors = record { blocks = t.blocks + 1; sectors = t.sectors + sector
 -- leads to fetching the next"; "A failed block's link isn't followed".
 abbrev pub follows : BlockAnswer → Bool → Count → World → Ending → Ending
 -- 4, "a block ended 82"
-follows (Failed r) link t w next = ends RunAnswer.BlockFailed (refusal_number r) t w
+follows (Err r) link t w next = ends RunAnswer.BlockFailed (refusal_number r) t w
 -- 0, "last block had no link and ended 80"
-follows Ended false t w next = ends RunAnswer.Done 0 t w
-follows Ended true t w next = next
+follows (Ok _) false t w next = ends RunAnswer.Done 0 t w
+follows (Ok _) true t w next = next
 
 -- The block at an address, as it stands now: its options and its link are those of the copy.
 abbrev pub executed : (Count → ℕ → World → Ending) → Count → ℕ → World → Ending

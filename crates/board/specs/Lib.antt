@@ -1,7 +1,6 @@
 pub mod Chain
 pub mod Ends
 pub mod Inspection
-pub mod Records
 pub mod Run
 pub mod Steps
 pub mod World

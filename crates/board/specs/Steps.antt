@@ -1,35 +1,26 @@
 -- What the functions of a chain promise, between the code and the definitions of Block and Chain.
-use Rattle.std.specs.Prelude.{ℕ, zero, suc, ◌+◌, ◌*◌, ◌≤◌, List, ◌≡◌, length}
+use Rattle.std.specs.Prelude.{ℕ, zero, suc, ◌+◌, ◌*◌, ◌≤◌, List, ◌≡◌, length, None, Option, Some}
 use Rattle.answers.specs.declared.RunAnswer.{RunAnswer}
 use Rattle.wire.specs.Memory.{InMemory}
 use Rattle.iopb.specs.Layout.{block_at}
-use Rattle.block.specs.declared.Known.TheVariants.{Unasked}
 use Rattle.block.specs.Steps.{Knows}
 use Rattle.unit.specs.Standing.{UnitRecord}
 use Rattle.board.specs.declared.Units.{Units}
 use Rattle.board.specs.declared.chain.Count.{Count}
-use Rattle.board.specs.declared.chain.End.{End}
 use Rattle.board.specs.declared.chain.Outcome.{Outcome}
 use Rattle.board.specs.declared.chain.Learnt.{Learnt}
 use Rattle.board.specs.declared.chain.Leg.{Leg}
-use Rattle.board.specs.declared.chain.Single.{Single}
-use Rattle.board.specs.declared.chain.Single.TheVariants.{Ran, NoRoom}
 use Rattle.board.specs.declared.chain.Went.{Went}
 use Rattle.board.specs.declared.chain.Stepped.{Stepped}
 use Rattle.block.specs.declared.BlockTold.{BlockTold}
 use Rattle.board.specs.Ends.{end_of}
 use Rattle.board.specs.Chain.{Ending, counted, fetched}
 use Rattle.board.specs.World.{World, effect_at, world_after}
-use Rattle.board.specs.Run.{units_of, world_of}
+use Rattle.board.specs.Run.{world_of}
 
--- What a run came to, made of how its chain ended and of the records that it left.
-abbrev pub outcome_with : End → Units → Outcome
-outcome_with r units =
-    record { answer = r.answer; failed = r.failed; blocks = r.blocks; sectors = r.sectors; units = units }
-
--- What a block told, with the records of both units.
-abbrev pub stepped_of : BlockTold → Units → Stepped
-stepped_of t units = record { units = units; answer = t.answer; sectors = t.sectors; linked = t.linked; link = t.link }
+-- What a block told, as its caller goes by it.
+abbrev pub stepped_of : BlockTold → Stepped
+stepped_of t = record { answer = t.answer; sectors = t.sectors; linked = t.linked; link = t.link }
 
 -- A block of a chain: the world after it, and what the chain goes by.
 pub record SteppedTo (w : World) (at i : ℕ) (w' : World) (s : Stepped) : Type 0 where
@@ -44,23 +35,23 @@ abbrev pub KnowsBoth : Learnt → (u0 u1 : UnitRecord) → Type 0
 KnowsBoth l u0 u1 = Knows l.zero u0 × Knows l.one u1
 
 pub record SteppedOn (w : World) (at i : ℕ) (w' : World) (s : Went) : Type 0 where
-  pub to : SteppedTo w at i w' (stepped_of s.told (units_of w'))
+  pub to : SteppedTo w at i w' (stepped_of s.told)
   pub knows : KnowsBoth s.learnt w'.drive0.unit w'.drive1.unit
 
 abbrev pub nothing_learnt : Learnt
-nothing_learnt = record { zero = Unasked; one = Unasked }
+nothing_learnt = record { zero = None; one = None }
 
 -- A chain that has come to its end: what is returned, and the world. Along the chain the records are in the world alone.
-pub record EndedIn (e : Ending) (w : World) (r : End) : Type 0 where
+pub record EndedIn (e : Ending) (w : World) (r : Outcome) : Type 0 where
   pub result : r ≡ end_of e
   pub world : w ≡ e.world
 
 -- How a leg of a chain ended, with the address and the knowledge that the chain goes on with.
-abbrev pub leg_of : End → ℕ → Learnt → Leg
+abbrev pub leg_of : Outcome → ℕ → Learnt → Leg
 leg_of e at learnt = record { end = e; at = at; learnt = learnt }
 
 -- What was counted up to an end.
-abbrev pub count_of : End → Count
+abbrev pub count_of : Outcome → Count
 count_of e = record { blocks = e.blocks; sectors = e.sectors }
 
 -- The address that a chain comes to fetch once so much of its allowance is spent, where each block so far led to the next.
@@ -92,9 +83,9 @@ pub record Fetchable (w : World) (at i : ℕ) : Type 0 where
   pub place : InMemory w.host at 28
   pub entry : 8 * i + 8 ≤ length w.events
 
-abbrev pub RanOne : World → ℕ → ℕ → (host image0 image1 events tracks0 tracks1 : List ℕ) → Single → Type 0
-RanOne w at i host image0 image1 events tracks0 tracks1 (Ran s) =
-    Fetchable w at i × SteppedTo w at i (world_of w.controller host image0 image1 events tracks0 tracks1 s.units) s
-RanOne w at i host image0 image1 events tracks0 tracks1 NoRoom =
+abbrev pub RanOne : World → ℕ → ℕ → (host image0 image1 events : List ℕ) → Units → Option Stepped → Type 0
+RanOne w at i host image0 image1 events units (Some s) =
+    Fetchable w at i × SteppedTo w at i (world_of w.controller host image0 image1 events units) s
+RanOne w at i host image0 image1 events units None =
     (Fetchable w at i → ⊥) ×
-    (world_of w.controller host image0 image1 events tracks0 tracks1 (units_of w) ≡ w)
+    (world_of w.controller host image0 image1 events units ≡ w)

@@ -3,40 +3,33 @@ ghost use Rattle.std.specs.Prelude.{◌≡◌, ◌+◌, ◌*◌, ◌≤◌, leng
 ghost use Rattle.board.specs.Ends.{ended_of};
 ghost use Rattle.board.specs.Chain.{counted, executed, fetched, nothing, ran};
 ghost use Rattle.board.specs.Steps.{EndedIn, KnowsBoth, RanOne, Spare, SteppedOn, WentLeg, WentOn};
-ghost use Rattle.board.specs.Steps.{leg_of, next_at, nothing_learnt, stepped_of, outcome_with};
-ghost use Rattle.block.specs.Block.{effect_on};
-ghost use Rattle.block.specs.Steps.{Did, Knows, BlockRoom, drive_with, three};
-ghost use Rattle.board.specs.Records.{unit_in, units_in};
-ghost use Rattle.iopb.specs.Layout.{block_at};
+ghost use Rattle.board.specs.Steps.{leg_of, next_at, nothing_learnt, stepped_of};
+ghost use Rattle.block.specs.Steps.{BlockRoom};
 ghost use Rattle.wire.specs.Memory.{InMemory};
 ghost use Rattle.wire.specs.Promise.{Says};
 ghost use Rattle.answers.specs.declared.RunAnswer.{RunAnswer};
 ghost use Rattle.answers.specs.Numbers.{refusal_number};
 ghost use Rattle.board.specs.Run.{CameTo, world_of};
-ghost use Rattle.unit.specs.Standing.{by_value};
-ghost use Rattle.block.specs.declared.Done.{Done};
 
 use crate::Units;
-use crate::records::units_of;
-use answers::{BlockAnswer, Refusal, RunAnswer};
-use block::{BlockTold, Known, run_block};
-use unit::{Controller, Record, UnitNumber};
+use answers::{Refusal, RunAnswer};
+use block::{BlockTold, run_block};
+use unit::{Controller, UnitNumber};
 
-// What a block alone came to: the records that it left, what it told, and what it said of the next.
+// What a block alone came to: what it told, and what it said of the next.
 #[derive(Clone, Copy)]
 pub struct Stepped {
-    pub units: Units,
-    pub answer: BlockAnswer,
+    pub answer: Result<(), Refusal>,
     pub sectors: u16,
     pub linked: bool,
     pub link: u32,
 }
 
-// Of which units a chain knows whether they count as initialized. It asks once, where a block names the unit, and every block tells anew.
+// Of each unit, whether it counts as initialized, where the chain knows. It asks once, where a block names the unit, and every block tells anew.
 #[derive(Clone, Copy)]
 pub(crate) struct Learnt {
-    pub zero: Known,
-    pub one: Known,
+    pub zero: Option<bool>,
+    pub one: Option<bool>,
 }
 
 // A block of a chain: what the chain goes by after it, and what it has learnt.
@@ -53,9 +46,10 @@ pub struct Count {
     pub sectors: u32,
 }
 
-// How a chain ended, but for the records: these are left where they are lent. `failed` is as in an outcome.
+// What a run came to: how its chain ended. The units are left where they are lent. `failed` is the failed block's number with the answer BlockFailed, and 0
+// with any other.
 #[derive(Clone, Copy)]
-pub struct End {
+pub struct Outcome {
     pub answer: RunAnswer,
     pub failed: u8,
     pub blocks: u32,
@@ -65,7 +59,7 @@ pub struct End {
 // A leg of a chain: how it ended, and, where its allowance is spent, from which address and with what knowledge the chain goes on.
 #[derive(Clone, Copy)]
 pub(crate) struct Leg {
-    pub end: End,
+    pub end: Outcome,
     pub at: u32,
     pub learnt: Learnt,
 }
@@ -73,92 +67,38 @@ pub(crate) struct Leg {
 // How many blocks fetch and execute run before the stack is given back.
 const LEG: u32 = 8;
 
-// What a run came to. `failed` is the failed block's number with the answer BlockFailed, and 0 with any other.
-#[derive(Clone, Copy)]
-pub struct Outcome {
-    pub answer: RunAnswer,
-    pub failed: u8,
-    pub blocks: u32,
-    pub sectors: u32,
-    pub units: Units,
-}
-
-// A block on the drive of one unit. The unit's record goes by value here alone: what stands in the functions below stays on the stack while the
-// rest of the chain runs.
-fn work_on(
-    host: &mut [u8],
-    image: &mut [u8],
-    events: &mut [u8],
-    c: Controller,
-    held: &mut [u16; Record::NUMBERS],
-    known: Known,
-    map: &mut [u32; 64],
-    at: usize,
-    i: usize,
-) -> BlockTold
-    requires { BlockRoom host.old events.old at i × Knows known (unit_in held.old map.old) }
-    ensures { (
-        let before = three host.old image.old events.old in
-        let after = three host.new image.new events.new in
-        let drive = drive_with (unit_in held.old map.old) image.old in
-        let done : Done = record { unit = by_value (unit_in held.new map.new); told = result } in
-        Did (block_at host.old at) (effect_on c host.old drive at i) before after map.new done) }
-{
-    let done = run_block(
-        host,
-        image,
-        events,
-        c,
-        Record::of_numbers(held),
-        known,
-        map,
-        at,
-        i,
-    );
-    *held = done.unit.numbers();
-    done.told
-}
-
 // One block of a chain, on the drive of its request's unit.
 pub(crate) fn step(
     host: &mut [u8],
     image0: &mut [u8],
     image1: &mut [u8],
     events: &mut [u8],
-    map0: &mut [u32; 64],
-    map1: &mut [u32; 64],
-    record0: &mut [u16; Record::NUMBERS],
-    record1: &mut [u16; Record::NUMBERS],
+    units: &mut Units,
     c: Controller,
     learnt: Learnt,
     at: usize,
     i: usize,
 ) -> Went
-    requires { BlockRoom host.old events.old at i × KnowsBoth learnt (unit_in record0.old map0.old)
-        (unit_in record1.old map1.old) }
-    ensures { let before = world_of c host.old image0.old image1.old events.old map0.old
-        map1.old (units_in record0.old record1.old) in
-        let after = world_of c host.new image0.new image1.new events.new map0.new
-        map1.new (units_in record0.new record1.new) in
+    requires { BlockRoom host.old events.old at i × KnowsBoth learnt units.old.zero units.old.one }
+    ensures { let before = world_of c host.old image0.old image1.old events.old units.old in
+        let after = world_of c host.new image0.new image1.new events.new units.new in
         SteppedOn before at i after result }
 {
-    let zero = learnt.zero;
-    let one = learnt.one;
     match iopb::unit_at(host, at) {
         UnitNumber::Zero => {
-            let told = work_on(host, image0, events, c, record0, zero, map0, at, i);
-            let zero = Known::Counts(told.counts);
+            let told = run_block(host, image0, events, c, &mut units.zero, learnt.zero, at, i);
+            let zero = Some(told.counts);
             Went {
                 told,
-                learnt: Learnt { zero, one },
+                learnt: Learnt { zero, ..learnt },
             }
         }
         UnitNumber::One => {
-            let told = work_on(host, image1, events, c, record1, one, map1, at, i);
-            let one = Known::Counts(told.counts);
+            let told = run_block(host, image1, events, c, &mut units.one, learnt.one, at, i);
+            let one = Some(told.counts);
             Went {
                 told,
-                learnt: Learnt { zero, one },
+                learnt: Learnt { one, ..learnt },
             }
         }
     }
@@ -169,8 +109,8 @@ fn unasked() -> Learnt
     ensures { result ≡ nothing_learnt }
 {
     Learnt {
-        zero: Known::Unasked,
-        one: Known::Unasked,
+        zero: None,
+        one: None,
     }
 }
 
@@ -181,10 +121,10 @@ fn holds_block(host: &[u8], at: u32) -> bool
     wire::holds(host, at, 28)
 }
 
-fn ended(answer: RunAnswer, failed: u8, count: Count) -> End
+fn ended(answer: RunAnswer, failed: u8, count: Count) -> Outcome
     ensures { result ≡ ended_of answer failed count }
 {
-    End {
+    Outcome {
         answer,
         failed,
         blocks: count.blocks,
@@ -214,21 +154,16 @@ fn fetch(
     image0: &mut [u8],
     image1: &mut [u8],
     events: &mut [u8],
-    map0: &mut [u32; 64],
-    map1: &mut [u32; 64],
-    record0: &mut [u16; Record::NUMBERS],
-    record1: &mut [u16; Record::NUMBERS],
+    units: &mut Units,
     c: Controller,
     learnt: Learnt,
     at: u32,
     left: u32,
     count: Count,
 ) -> Leg
-    requires { Spare events.old left count × KnowsBoth learnt (unit_in record0.old map0.old) (unit_in record1.old map1.old) }
-    ensures { let before = world_of c host.old image0.old image1.old events.old map0.old
-        map1.old (units_in record0.old record1.old) in
-        let after = world_of c host.new image0.new image1.new events.new map0.new
-        map1.new (units_in record0.new record1.new) in
+    requires { Spare events.old left count × KnowsBoth learnt units.old.zero units.old.one }
+    ensures { let before = world_of c host.old image0.old image1.old events.old units.old in
+        let after = world_of c host.new image0.new image1.new events.new units.new in
         WentLeg left count at before after result }
 {
     if left == 0 {
@@ -242,10 +177,7 @@ fn fetch(
         image0,
         image1,
         events,
-        map0,
-        map1,
-        record0,
-        record1,
+        units,
         c,
         learnt,
         at,
@@ -261,22 +193,16 @@ fn execute(
     image0: &mut [u8],
     image1: &mut [u8],
     events: &mut [u8],
-    map0: &mut [u32; 64],
-    map1: &mut [u32; 64],
-    record0: &mut [u16; Record::NUMBERS],
-    record1: &mut [u16; Record::NUMBERS],
+    units: &mut Units,
     c: Controller,
     learnt: Learnt,
     at: u32,
     left: u32,
     count: Count,
 ) -> Leg
-    requires { InMemory host.old at 28 × Spare events.old (left + 1) count × KnowsBoth learnt (unit_in record0.old map0.old)
-        (unit_in record1.old map1.old) }
-    ensures { let before = world_of c host.old image0.old image1.old events.old map0.old
-        map1.old (units_in record0.old record1.old) in
-        let after = world_of c host.new image0.new image1.new events.new map0.new
-        map1.new (units_in record0.new record1.new) in
+    requires { InMemory host.old at 28 × Spare events.old (left + 1) count × KnowsBoth learnt units.old.zero units.old.one }
+    ensures { let before = world_of c host.old image0.old image1.old events.old units.old in
+        let after = world_of c host.new image0.new image1.new events.new units.new in
         WentOn (executed (fetched left) count at before) (next_at (left + 1) count at before) after result }
 {
     let step = step(
@@ -284,10 +210,7 @@ fn execute(
         image0,
         image1,
         events,
-        map0,
-        map1,
-        record0,
-        record1,
+        units,
         c,
         learnt,
         at as usize,
@@ -297,18 +220,15 @@ fn execute(
     let answer = s.answer;
     let count = counted(count, s.sectors);
     match answer {
-        BlockAnswer::Failed(r) => failed(r, count, s.link, step.learnt),
-        BlockAnswer::Ended => {
+        Err(r) => failed(r, count, s.link, step.learnt),
+        Ok(()) => {
             if s.linked {
                 fetch(
                     host,
                     image0,
                     image1,
                     events,
-                    map0,
-                    map1,
-                    record0,
-                    record1,
+                    units,
                     c,
                     step.learnt,
                     s.link,
@@ -338,21 +258,16 @@ fn legs(
     image0: &mut [u8],
     image1: &mut [u8],
     events: &mut [u8],
-    map0: &mut [u32; 64],
-    map1: &mut [u32; 64],
-    record0: &mut [u16; Record::NUMBERS],
-    record1: &mut [u16; Record::NUMBERS],
+    units: &mut Units,
     c: Controller,
     learnt: Learnt,
     at: u32,
     left: u32,
     count: Count,
-) -> End
-    requires { Spare events.old left count × KnowsBoth learnt (unit_in record0.old map0.old) (unit_in record1.old map1.old) }
-    ensures { let before = world_of c host.old image0.old image1.old events.old map0.old
-        map1.old (units_in record0.old record1.old) in
-        let after = world_of c host.new image0.new image1.new events.new map0.new
-        map1.new (units_in record0.new record1.new) in
+) -> Outcome
+    requires { Spare events.old left count × KnowsBoth learnt units.old.zero units.old.one }
+    ensures { let before = world_of c host.old image0.old image1.old events.old units.old in
+        let after = world_of c host.new image0.new image1.new events.new units.new in
         EndedIn (fetched left count at before) after result }
 {
     let mut known = learnt;
@@ -361,7 +276,7 @@ fn legs(
     let mut tally = count;
     while LEG < rest {
         let leg = fetch(
-            host, image0, image1, events, map0, map1, record0, record1, c, known, from, LEG, tally,
+            host, image0, image1, events, units, c, known, from, LEG, tally,
         );
         let so_far = leg.end;
         let answer = so_far.answer;
@@ -378,7 +293,7 @@ fn legs(
         };
     }
     let leg = fetch(
-        host, image0, image1, events, map0, map1, record0, record1, c, known, from, rest, tally,
+        host, image0, image1, events, units, c, known, from, rest, tally,
     );
     leg.end
 }
@@ -419,25 +334,11 @@ fn is_allowance(n: u32) -> bool
     n <= 64
 }
 
-// A run's outcome: how its chain ended, and the records that it left.
-fn outcome_with(end: End, units: Units) -> Outcome
-    ensures { result ≡ outcome_with end units }
+// A run that is refused counts nothing.
+fn refused(answer: RunAnswer) -> Outcome
+    ensures { result ≡ ended_of answer 0 nothing }
 {
-    let answer = end.answer;
-    Outcome {
-        answer,
-        failed: end.failed,
-        blocks: end.blocks,
-        sectors: end.sectors,
-        units,
-    }
-}
-
-// A run that is refused counts nothing, and leaves the records as they are.
-fn refused(answer: RunAnswer, units: Units) -> Outcome
-    ensures { result ≡ outcome_with (ended_of answer 0 nothing) units }
-{
-    outcome_with(ended(answer, 0, nothing()), units)
+    ended(answer, 0, nothing())
 }
 
 // Runs the chain from the first block on, once the event buffer, the allowance and that block's place have been found good.
@@ -446,109 +347,81 @@ pub fn run(
     image0: &mut [u8],
     image1: &mut [u8],
     events: &mut [u8],
-    map0: &mut [u32; 64],
-    map1: &mut [u32; 64],
-    units: Units,
+    units: &mut Units,
     c: Controller,
     first: u32,
     allowance: u32,
 ) -> Outcome
-    ensures { let before = world_of c host.old image0.old image1.old events.old
-        map0.old map1.old units in
-        let after = world_of c host.new image0.new image1.new events.new
-        map0.new map1.new result.units in
+    ensures { let before = world_of c host.old image0.old image1.old events.old units.old in
+        let after = world_of c host.new image0.new image1.new events.new units.new in
         CameTo (ran first allowance before) after result }
 {
     if !holds_entries(events) {
-        return refused(RunAnswer::EventsShort, units);
+        return refused(RunAnswer::EventsShort);
     }
     if !is_allowance(allowance) {
-        return refused(RunAnswer::AllowanceBad, units);
+        return refused(RunAnswer::AllowanceBad);
     }
     if !holds_block(host, first) {
-        return refused(RunAnswer::FirstBad, units);
+        return refused(RunAnswer::FirstBad);
     }
-    let mut record0 = units.zero.numbers();
-    let mut record1 = units.one.numbers();
-    let end = legs(
+    legs(
         host,
         image0,
         image1,
         events,
-        map0,
-        map1,
-        &mut record0,
-        &mut record1,
+        units,
         c,
         unasked(),
         first,
         allowance,
         nothing(),
-    );
-    outcome_with(end, units_of(&record0, &record1))
+    )
 }
 
-// What a block alone came to, or that it cannot be fetched or has no room for its entry.
-#[derive(Clone, Copy)]
-pub enum Single {
-    Ran(Stepped),
-    NoRoom,
-}
-
-// What a block told, with the records of both units.
-fn stepped_with(told: BlockTold, units: Units) -> Stepped
-    ensures { result ≡ stepped_of told units }
+// What a block told, as its caller goes by it.
+fn stepped_with(told: BlockTold) -> Stepped
+    ensures { result ≡ stepped_of told }
 {
-    let answer = told.answer;
     Stepped {
-        units,
-        answer,
+        answer: told.answer,
         sectors: told.sectors,
         linked: told.linked,
         link: told.link,
     }
 }
 
-// Runs the one block at an address, as the block of a run after i others, and follows no link.
+// Runs the one block at an address, as the block of a run after i others, and follows no link. Nothing is done where it cannot be fetched or has no room
+// for its entry.
 pub fn run_one(
     host: &mut [u8],
     image0: &mut [u8],
     image1: &mut [u8],
     events: &mut [u8],
-    map0: &mut [u32; 64],
-    map1: &mut [u32; 64],
-    units: Units,
+    units: &mut Units,
     c: Controller,
     at: u32,
     i: u32,
-) -> Single
-    ensures { let before = world_of c host.old image0.old image1.old events.old map0.old
-        map1.old units in
-        RanOne before at i host.new image0.new image1.new events.new map0.new
-        map1.new result }
+) -> Option<Stepped>
+    ensures { let before = world_of c host.old image0.old image1.old events.old units.old in
+        RanOne before at i host.new image0.new image1.new events.new units.new result }
 {
     if !holds_block(host, at) {
-        return Single::NoRoom;
+        return None;
     }
     if (events.len() as u64) < 8 * (i as u64) + 8 {
-        return Single::NoRoom;
+        return None;
     }
-    let mut record0 = units.zero.numbers();
-    let mut record1 = units.one.numbers();
-    let step = step(
+    let went = step(
         host,
         image0,
         image1,
         events,
-        map0,
-        map1,
-        &mut record0,
-        &mut record1,
+        units,
         c,
         unasked(),
         at as usize,
         i as usize,
     );
-    let told = step.told;
-    Single::Ran(stepped_with(told, units_of(&record0, &record1)))
+    Some(stepped_with(went.told))
 }

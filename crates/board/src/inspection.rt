@@ -1,11 +1,10 @@
 // The inspection call: the bytes of one sector, as a part of its unit's image.
 ghost use Rattle.std.specs.Prelude.{◌≡◌, length};
 ghost use Rattle.board.specs.Inspection.{bytes_of, lies_at, no_part, part_of, sector_part};
-ghost use Rattle.unit.specs.Standing.{unit_of};
 
 use crate::Units;
 use geometry::Sector;
-use unit::{Record, UnitNumber};
+use unit::{Unit, UnitNumber};
 
 // A part of a unit's image: so many bytes, from the byte `at` on.
 #[derive(Clone, Copy)]
@@ -27,10 +26,10 @@ fn no_part() -> Part
 }
 
 // The sector at a place of one unit, whose image is so long.
-fn sector_part(unit: UnitNumber, u: Record, table: &[u32; 64], long: usize, place: u64) -> Part
-    ensures { result ≡ sector_part unit (unit_of u table.now) long place }
+fn sector_part(unit: UnitNumber, u: &Unit, long: usize, place: u64) -> Part
+    ensures { result ≡ sector_part unit u.now long place }
 {
-    if !u.counts_as_initialized(table) {
+    if !u.counts_as_initialized() {
         return no_part();
     }
     let g = u.geometry();
@@ -38,7 +37,7 @@ fn sector_part(unit: UnitNumber, u: Record, table: &[u32; 64], long: usize, plac
         return no_part();
     }
     match g.sector(place) {
-        Sector::At { first, mark: _ } => {
+        Some(Sector { first, .. }) => {
             let bytes = g.bytes_a_sector() as usize;
             Part {
                 unit,
@@ -46,25 +45,17 @@ fn sector_part(unit: UnitNumber, u: Record, table: &[u32; 64], long: usize, plac
                 bytes,
             }
         }
-        Sector::Outside => no_part(),
+        None => no_part(),
     }
 }
 
 // Which part of which image an inspection hands back.
-pub fn part_of(
-    units: Units,
-    map0: &[u32; 64],
-    map1: &[u32; 64],
-    long0: usize,
-    long1: usize,
-    unit: u32,
-    place: u64,
-) -> Part
-    ensures { result ≡ part_of (unit_of units.zero map0.now) (unit_of units.one map1.now) long0 long1 unit place }
+pub fn part_of(units: &Units, long0: usize, long1: usize, unit: u32, place: u64) -> Part
+    ensures { result ≡ part_of units.now.zero units.now.one long0 long1 unit place }
 {
     match unit {
-        0 => sector_part(UnitNumber::Zero, units.zero, map0, long0, place),
-        1 => sector_part(UnitNumber::One, units.one, map1, long1, place),
+        0 => sector_part(UnitNumber::Zero, &units.zero, long0, place),
+        1 => sector_part(UnitNumber::One, &units.one, long1, place),
         _ => no_part(),
     }
 }
@@ -73,20 +64,18 @@ pub fn part_of(
 pub fn inspect<'a>(
     image0: &'a [u8],
     image1: &'a [u8],
-    units: Units,
-    map0: &[u32; 64],
-    map1: &[u32; 64],
+    units: &Units,
     unit: u32,
     place: u64,
 ) -> &'a [u8]
-    ensures bytes { let part = part_of (unit_of units.zero map0.now) (unit_of units.one map1.now)
+    ensures bytes { let part = part_of units.now.zero units.now.one
         (length image0.now) (length image1.now) unit place in
         result.now ≡ bytes_of image0.now image1.now part }
-    ensures lies { let part = part_of (unit_of units.zero map0.now) (unit_of units.one map1.now)
+    ensures lies { let part = part_of units.now.zero units.now.one
         (length image0.now) (length image1.now) unit place in
         result.ref_ptr ≡ lies_at image0.entry.ref_ptr image1.entry.ref_ptr part }
 {
-    let part = part_of(units, map0, map1, image0.len(), image1.len(), unit, place);
+    let part = part_of(units, image0.len(), image1.len(), unit, place);
     let at = part.at;
     let end = at + part.bytes;
     let unit = part.unit;

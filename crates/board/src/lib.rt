@@ -3,18 +3,17 @@
 // It trusts no caller: any memory, images, records, address and allowance get an answer.
 #![tactic(auto)]
 
-use unit::Record;
+use unit::Unit;
 
 mod chain;
 mod inspection;
-mod records;
 
-pub use chain::{Count, End, Outcome, Single, Stepped, run, run_one};
+pub use chain::{Count, Outcome, Stepped, run, run_one};
 pub use inspection::{Part, inspect, part_of};
 
-// The two unit records.
-#[derive(Clone, Copy)]
+// The two units.
+#[derive(Drop)]
 pub struct Units {
-    pub zero: Record,
-    pub one: Record,
+    pub zero: Unit,
+    pub one: Unit,
 }

@@ -1,5 +1,7 @@
 -- What is asked of a block, in the reader's words: what a refusal leaves, that no mark changes, and when each answer is given.
 -- The first two are the exact footprint; a block fails only as the judgement or its transfer does, and each has its own law.
+use Rattle.judge.specs.declared.Plan.{Plan}
+use Rattle.std.proofs.Common.{Err, Ok, Result}
 use Prim.Native.Nat.{ℕ, ◌+◌, ◌*◌, ◌≤◌, ◌<◌}
 use mathlib.Core.List.{List, [], ◌∷◌}
 use mathlib.Core.Logic.Iff
@@ -11,12 +13,9 @@ use lib.Dec.{T, T_not}
 use lib.ListN.{get_or}
 use Rattle.wire.specs.Among.{Among}
 use Rattle.wire.specs.Memory.{InMemory}
-use Rattle.answers.specs.declared.BlockAnswer.{BlockAnswer}
 use Rattle.answers.specs.declared.Refusal.{Refusal}
 use Rattle.answers.specs.Numbers.{refusal_number}
 use Rattle.geometry.specs.Drive.{B, marks_at}
-use Rattle.judge.specs.declared.Verdict.{Verdict}
-use Rattle.judge.specs.declared.Verdict.TheVariants.{Refused, Do}
 use Rattle.judge.specs.Table.{AnsweredWith, BeforeTransfer, listed, one_of, paper}
 use Rattle.judge.proofs.Table.{answered_by_one_line, one_of_lem, refused_before_transfer, refused_by_the_table}
 use Rattle.unit.specs.Holding.{held_by_other}
@@ -40,13 +39,13 @@ use Rattle.transfer.specs.Targets.{Stored}
 module _ (v : Visit) where
   -- ---- a block refused before transfer
 
-  module _ (r : Refusal) (refused : verdict_of v ≡ Refused r) where
+  module _ (r : Refusal) (refused : verdict_of v ≡ Err r) where
     none_come : (comes (asked_of v) (named_drive v)).sectors ≡ 0
     none_come = sectors_come v ∙ ap (λ (e : Effect). e.sectors) (effect_is v) ∙ rw refused
 
     only_word_1 : (x : ℕ) → WritesHost v x → Among (v.at + 2) 2 x
     only_word_1 x (status_word word) = word
-    only_word_1 x (report among) = absurd (subst (λ (verd : Verdict). InReport v.at (report_of verd) x) refused among)
+    only_word_1 x (report among) = absurd (subst (λ (verd : Result Plan Refusal). InReport v.at (report_of verd) x) refused among)
     only_word_1 x (moved d) = absurd (omega (arith, d.moved, none_at_all))
       where
         none_at_all : (comes (asked_of v) (named_drive v)).sectors * B (transfer_by (asked_of v)).geometry ≡ 0
@@ -75,9 +74,9 @@ module _ (v : Visit) where
     -- both records; and it moved nothing.
     pub refusal_keeps_records : (n : UnitNumber) → (drive_of (world_left v) n).unit ≡ (drive_of v.world n).unit
     refusal_keeps_records n =
-        block_keeps_record v n (λ there. subst (λ (verd : Verdict). changes (leaving_of verd)) refused there.1)
+        block_keeps_record v n (λ there. subst (λ (verd : Result Plan Refusal). changes (leaving_of verd)) refused there.1)
 
-    pub refusal_moves_nothing : ((effect_of v).sectors ≡ 0) × ((effect_of v).answer ≡ BlockAnswer.Failed r)
+    pub refusal_moves_nothing : ((effect_of v).sectors ≡ 0) × ((effect_of v).answer ≡ Err r)
     refusal_moves_nothing = (
       ap (λ (e : Effect). e.sectors) (effect_is v) ∙ rw refused,
       ap (λ (e : Effect). e.answer) (effect_is v) ∙ rw refused,
@@ -103,23 +102,23 @@ module _ (v : Visit) where
 
   -- How a block comes to fail with an answer: the judgement refuses it so, or the transfer that it makes is stopped so.
   data Fails (r : Refusal) : Type 0 where
-    refused : verdict_of v ≡ Refused r → Fails r
-    stopped : (comes (asked_of v) (named_drive v)).answer ≡ BlockAnswer.Failed r → Fails r
+    refused : verdict_of v ≡ Err r → Fails r
+    stopped : (comes (asked_of v) (named_drive v)).answer ≡ Err r → Fails r
 
-  fails : (r : Refusal) → (effect_of v).answer ≡ BlockAnswer.Failed r → Fails r
+  fails : (r : Refusal) → (effect_of v).answer ≡ Err r → Fails r
   fails r e = by_verdict (verdict_of v) refl (sym (ap (λ (x : Effect). x.answer) (effect_is v)) ∙ e)
     where
       by_verdict :
-          (verd : Verdict) → verdict_of v ≡ verd →
-          (acted_on v.world.host (named_drive v) v.at (verdict_of v)).answer ≡ BlockAnswer.Failed r → Fails r
-      by_verdict (Refused s) is answer = refused (is ∙ ap Verdict.Refused (cc (rw is at answer)))
-      by_verdict (Do plan) is answer = stopped (rw is (rw is at answer))
+          (verd : Result Plan Refusal) → verdict_of v ≡ verd →
+          (acted_on v.world.host (named_drive v) v.at (verdict_of v)).answer ≡ Err r → Fails r
+      by_verdict (Err s) is answer = refused (is ∙ ap Err (cc (rw is at answer)))
+      by_verdict (Ok plan) is answer = stopped (rw is (rw is at answer))
 
   -- An answer before transfer is a block's exactly where the judgement refuses it so. A transfer that is stopped has 20.
-  pub refused_exactly : (r : Refusal) → BeforeTransfer r → ((effect_of v).answer ≡ BlockAnswer.Failed r) ↔ (verdict_of v ≡ Refused r)
+  pub refused_exactly : (r : Refusal) → BeforeTransfer r → ((effect_of v).answer ≡ Err r) ↔ (verdict_of v ≡ Err r)
   refused_exactly r early = (λ e. by_way (fails r e), λ is. (refusal_moves_nothing r is).1)
     where
-      by_way : Fails r → verdict_of v ≡ Refused r
+      by_way : Fails r → verdict_of v ≡ Err r
       by_way (refused is) = is
       by_way (stopped stop) =
           absurd (early (ap refusal_number (stopped_with (named_drive v).image (transfer_by (asked_of v)) r stop)))
@@ -128,12 +127,12 @@ module _ (v : Visit) where
   -- line of the papers' table that applies to the block has it, "Block answers, in order".
   pub answered_by_the_table :
       (r : Refusal) → BeforeTransfer r →
-      ((effect_of v).answer ≡ BlockAnswer.Failed r) ↔ AnsweredWith (refusal_number r) (block_of v).command (paper (block_of v) (asked_of v))
+      ((effect_of v).answer ≡ Err r) ↔ AnsweredWith (refusal_number r) (block_of v).command (paper (block_of v) (asked_of v))
   answered_by_the_table r early = Iff.trans (refused_exactly r early) (refused_by_the_table (block_of v) (asked_of v) refl r)
 
   -- 12: "UIB address odd or UIB not wholly in host memory", of an 87 that 24 does not refuse.
   pub answer_12_exactly :
-      ((effect_of v).answer ≡ BlockAnswer.Failed Refusal.UibMisplaced) ↔
+      ((effect_of v).answer ≡ Err Refusal.UibMisplaced) ↔
       (((block_of v).command ≡ 0x87) ×
       ((T (held_by_other v.world.controller (holder (named_drive v).unit)) → ⊥) × (InMemory v.world.host (block_of v).address 18 → ⊥)))
   answer_12_exactly =
@@ -149,7 +148,7 @@ module _ (v : Visit) where
 
   -- 24: "A chain's block for a drive held by the other controller", for the nine commands of its line, which are all but 86 (02, K10).
   pub answer_24_exactly :
-      ((effect_of v).answer ≡ BlockAnswer.Failed Refusal.DriveHeld) ↔
+      ((effect_of v).answer ≡ Err Refusal.DriveHeld) ↔
       (T (one_of (block_of v).command (0x81 ∷ 0x82 ∷ 0x87 ∷ 0x89 ∷ 0x8a ∷ 0x8c ∷ 0xa1 ∷ 0xa2 ∷ 0x85 ∷ [])) ×
       T (held_by_other v.world.controller (holder (named_drive v).unit)))
   answer_24_exactly =
@@ -167,7 +166,7 @@ module _ (v : Visit) where
 
   -- 20: "unreadable sector, DE clear; earlier sectors moved", exactly where the block makes a transfer that heeds the marks and one of its sectors has
   -- a mark that is not 0.
-  pub answer_20_exactly : ((effect_of v).answer ≡ BlockAnswer.Failed Refusal.Unreadable) ↔ Unreadable (asked_of v) (named_drive v)
+  pub answer_20_exactly : ((effect_of v).answer ≡ Err Refusal.Unreadable) ↔ Unreadable (asked_of v) (named_drive v)
   answer_20_exactly = (λ e. by_way (fails Refusal.Unreadable e), by_mark)
     where
       by_way : Fails Refusal.Unreadable → Unreadable (asked_of v) (named_drive v)
@@ -176,13 +175,13 @@ module _ (v : Visit) where
 
       -- a refused block makes a transfer of no sectors, which no mark stops
       answers :
-          (verd : Verdict) → verdict_of v ≡ verd → (j : ℕ) → j < (transfer_by (asked_of v)).count →
+          (verd : Result Plan Refusal) → verdict_of v ≡ verd → (j : ℕ) → j < (transfer_by (asked_of v)).count →
           (acted_on v.world.host (named_drive v) v.at (verdict_of v)).answer ≡ (comes (asked_of v) (named_drive v)).answer
-      answers (Refused r) is j there =
-          absurd (omega (arith, subst (λ (x : Verdict). j < (transfer_of v.world.host (named_drive v).unit (moving_of x)).count) is there))
-      answers (Do plan) is j there = rw is
+      answers (Err r) is j there =
+          absurd (omega (arith, subst (λ (x : Result Plan Refusal). j < (transfer_of v.world.host (named_drive v).unit (moving_of x)).count) is there))
+      answers (Ok plan) is j there = rw is
 
-      by_mark : Unreadable (asked_of v) (named_drive v) → (effect_of v).answer ≡ BlockAnswer.Failed Refusal.Unreadable
+      by_mark : Unreadable (asked_of v) (named_drive v) → (effect_of v).answer ≡ Err Refusal.Unreadable
       by_mark meets =
           ap (λ (x : Effect). x.answer) (effect_is v)
           ∙ answers (verdict_of v) refl meets.sector meets.there

@@ -1,5 +1,8 @@
 -- The travel that a block's entry tells lies between -4,095 and 4,095, whatever the block and the record.
 -- A block that moves the heads was let through on a unit that counts as initialized, and both its cylinders are the drive's.
+use Rattle.answers.specs.declared.Refusal.{Refusal}
+use Rattle.judge.specs.declared.Plan.{Plan}
+use Rattle.std.proofs.Common.{Err, Ok, Result}
 use Prim.Native.Nat.{ℕ, ◌+◌, ◌*◌, ◌<◌}
 use mathlib.Core.List.{List, [], ◌∷◌, ◌++◌}
 use mathlib.Core.Path.{◌≡◌, refl, ap, ◌∙◌}
@@ -10,8 +13,6 @@ use Rattle.geometry.specs.Drive.{C}
 use Rattle.iopb.specs.Errors.{error_byte}
 use Rattle.judge.specs.declared.Leaving.{Leaving}
 use Rattle.judge.specs.declared.Leaving.TheVariants.{AsItWas, HeadsAt, HeadsAtLastTried, Fresh, Mapped}
-use Rattle.judge.specs.declared.Verdict.{Verdict}
-use Rattle.judge.specs.declared.Verdict.TheVariants.{Refused, Do}
 use Rattle.judge.specs.Fits.{LeavingFits}
 use Rattle.transfer.specs.Progress.{last_tried}
 use Rattle.transfer.specs.Stores.{Store, bytes_from, event_byte, host_byte}
@@ -51,11 +52,11 @@ module _ (v : Visit) where
   in_range u moved (Fresh g) fits = nowhere
   in_range u moved (Mapped bad spare) fits = nowhere
 
-  by_verdict : (verd : Verdict) → verdict_of v ≡ verd → InRange (performance v).travel
-  by_verdict (Refused r) is = rw is nowhere
-  by_verdict (Do plan) is =
+  by_verdict : (verd : Result Plan Refusal) → verdict_of v ≡ verd → InRange (performance v).travel
+  by_verdict (Err r) is = rw is nowhere
+  by_verdict (Ok plan) is =
       rw is
-      (in_range (named_drive v).unit (acted_on v.world.host (named_drive v) v.at (Do plan)).sectors plan.leaving
+      (in_range (named_drive v).unit (acted_on v.world.host (named_drive v) v.at (Ok plan)).sectors plan.leaving
       (rw is at (leaving_fits (asked_of v))))
 
   pub every_travel_in_range : Travelled v

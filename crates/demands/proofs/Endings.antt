@@ -1,5 +1,6 @@
 -- How a chain ends, told by the last block that it fetched; and what it counts, told by all of them.
 -- Both go along the allowance: a block that ends with a link hands on to the rest of the chain.
+use Rattle.std.proofs.Common.{Err, Ok}
 use Prim.Native.Nat.{ℕ, zero, suc, ◌+◌, ◌-◌, ◌≤◌, ◌<◌}
 use mathlib.Core.Bool.{Bool, true, false}
 use mathlib.Core.List.{List, [], ◌∷◌}
@@ -12,8 +13,7 @@ use lib.ListN.{length}
 use Rattle.board.specs.declared.chain.Count.{Count}
 use Rattle.wire.proofs.Decided.{in_memory?}
 use Rattle.wire.specs.Memory.{InMemory}
-use Rattle.answers.specs.declared.BlockAnswer.{BlockAnswer}
-use Rattle.answers.specs.declared.BlockAnswer.TheVariants.{Ended, Failed}
+use Rattle.answers.specs.Numbers.{BlockAnswer}
 use Rattle.answers.specs.declared.RunAnswer.{RunAnswer}
 use Rattle.answers.specs.RunNumbers.{block_number}
 use Rattle.board.specs.Chain.{Ending, counted, ends, executed, fetched, follows}
@@ -99,9 +99,9 @@ module _ (left : ℕ) (t : Count) (at : ℕ) (w : World) where
       (a : BlockAnswer) (k : Bool) → (effect_of here).answer ≡ a → (block_of here).options.link ≡ k → Next →
       ToldByBlocks (follows a k then (world_left here) (fetched left then (block_of here).link (world_left here)))
       (here ∷ onwards a k (visits left (t.blocks + 1) (block_of here).link (world_left here))) (suc left) t here
-  by_end (Failed r) k is linked next = alone RunAnswer.BlockFailed _ (r, is) (ap block_number (sym is))
-  by_end Ended false is linked next = alone RunAnswer.Done 0 (linked, is) (ap block_number (sym is))
-  by_end Ended true is linked next =
+  by_end (Err r) k is linked next = alone RunAnswer.BlockFailed _ (r, is) (ap block_number (sym is))
+  by_end (Ok _) false is linked next = alone RunAnswer.Done 0 (linked, is) (ap block_number (sym is))
+  by_end (Ok _) true is linked next =
       by_cases (dec_lt 0 left)
       (λ some.
       by_cases (in_memory? (world_left here).host (block_of here).link 28)
@@ -139,9 +139,9 @@ chain_told (suc n) t at w good = told_step (suc n) t at w good (λ place less. c
 
 -- A chain fetches no more blocks than its allowance has left.
 onwards_few : (a : BlockAnswer) (k : Bool) (rest : List Visit) → length (onwards a k rest) ≤ length rest
-onwards_few (Failed r) k rest = omega arith
-onwards_few Ended false rest = omega arith
-onwards_few Ended true rest = omega arith
+onwards_few (Err r) k rest = omega arith
+onwards_few (Ok _) false rest = omega arith
+onwards_few (Ok _) true rest = omega arith
 
 pub visits_few : (left i at : ℕ) (w : World) → length (visits left i at w) ≤ left
 unfolding visits
@@ -157,7 +157,7 @@ visits_few (suc n) i at w =
 
 -- What a chain fetches first, if anything, is the block at its address.
 first_of :
-    (n i at : ℕ) (w : World) (v : Visit) → (effect_of v).answer ≡ Ended → (block_of v).options.link ≡ true →
+    (n i at : ℕ) (w : World) (v : Visit) → (effect_of v).answer ≡ Ok tt → (block_of v).options.link ≡ true →
     at ≡ (block_of v).link → i ≡ v.index + 1 → w ≡ world_left v → leads_on v (visits n i at w)
 unfolding visits
 first_of zero i at w v is linked a b c = tt
@@ -186,6 +186,6 @@ visits_linked (suc n) i at w =
         (a : BlockAnswer) (k : Bool) → (effect_of v).answer ≡ a → (block_of v).options.link ≡ k →
         Linked (visits n (i + 1) (block_of v).link (world_left v)) →
         Linked (v ∷ onwards a k (visits n (i + 1) (block_of v).link (world_left v)))
-    linked_by (Failed r) k is linked rest = (tt, tt)
-    linked_by Ended false is linked rest = (tt, tt)
-    linked_by Ended true is linked rest = (first_of n (i + 1) (block_of v).link (world_left v) v is linked refl refl refl, rest)
+    linked_by (Err r) k is linked rest = (tt, tt)
+    linked_by (Ok _) false is linked rest = (tt, tt)
+    linked_by (Ok _) true is linked rest = (first_of n (i + 1) (block_of v).link (world_left v) v is linked refl refl refl, rest)

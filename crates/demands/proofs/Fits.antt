@@ -1,5 +1,8 @@
 -- What a verdict has moved fits, and so does what it leaves of the record: a plan that was let through does, and a refused block moves
 -- nothing and leaves the record as it was.
+use Rattle.answers.specs.declared.Refusal.{Refusal}
+use Rattle.judge.specs.declared.Plan.{Plan}
+use Rattle.std.proofs.Common.{Err, Ok, Result}
 use Prim.Native.Nat.{ℕ, ◌+◌, ◌≤◌, ◌<◌}
 use mathlib.Core.Path.{◌≡◌, refl}
 use native.Mathlib.Omega.{arith}
@@ -8,8 +11,6 @@ use Rattle.geometry.specs.Sectors.{first_byte, mark_byte}
 use Rattle.geometry.proofs.Laws.{sector_in_image}
 use Rattle.judge.specs.declared.Moving.{Moving}
 use Rattle.judge.specs.declared.Moving.TheVariants.{Nothing, Sectors, Track}
-use Rattle.judge.specs.declared.Verdict.{Verdict}
-use Rattle.judge.specs.declared.Verdict.TheVariants.{Refused, Do}
 use Rattle.judge.specs.Fits.{LeavingFits, MovingFits}
 use Rattle.judge.specs.Given.{Asked}
 use Rattle.judge.specs.Verdict.{verdict}
@@ -24,16 +25,16 @@ module _ (a : Asked) where
   pub leaving_fits : LeavingFits a.unit (leaving_of (verdict a))
   leaving_fits = by_verdict (verdict a) refl
     where
-      by_verdict : (v : Verdict) → verdict a ≡ v → LeavingFits a.unit (leaving_of v)
-      by_verdict (Refused r) is = tt
-      by_verdict (Do p) is = (plan_fits a p is).leaving
+      by_verdict : (v : Result Plan Refusal) → verdict a ≡ v → LeavingFits a.unit (leaving_of v)
+      by_verdict (Err r) is = tt
+      by_verdict (Ok p) is = (plan_fits a p is).leaving
 
   pub moving_fits : MovingFits a.unit a.image a.host (moving_of (verdict a))
   moving_fits = by_verdict (verdict a) refl
     where
-      by_verdict : (v : Verdict) → verdict a ≡ v → MovingFits a.unit a.image a.host (moving_of v)
-      by_verdict (Refused r) is = tt
-      by_verdict (Do p) is = (plan_fits a p is).moving
+      by_verdict : (v : Result Plan Refusal) → verdict a ≡ v → MovingFits a.unit a.image a.host (moving_of v)
+      by_verdict (Err r) is = tt
+      by_verdict (Ok p) is = (plan_fits a p is).moving
 
   -- So every sector of the transfer stands on the drive, and the image has it, with its mark.
   pub on_drive : StandsOnDrive (transfer_by a)

@@ -1,5 +1,7 @@
 -- A drive that one controller holds is never written for the other (02, K10): no image byte, record, table or head position.
 -- Every block for it is refused but a handshake, and neither moves anything nor changes the record; so the holder stays, block after block.
+use Rattle.judge.specs.declared.Plan.{Plan}
+use Rattle.std.proofs.Common.{Err, Result, Ok}
 use Prim.Native.Nat.{ℕ, zero, suc, ◌+◌, ◌<◌}
 use mathlib.Core.Bool.{Bool, true, false}
 use mathlib.Core.List.{List, ◌∷◌}
@@ -8,12 +10,10 @@ use mathlib.Core.Path.{◌≡◌, refl, sym, ap, subst, ◌∙◌}
 use native.Mathlib.Omega.{arith}
 use lib.ListN.{get_or}
 use lib.Seq.{ext_get_or}
-use Rattle.answers.specs.declared.BlockAnswer.{BlockAnswer}
-use Rattle.answers.specs.declared.BlockAnswer.TheVariants.{Ended, Failed}
+use Rattle.answers.specs.Numbers.{BlockAnswer}
 use Rattle.answers.specs.declared.Refusal.{Refusal}
 use Rattle.judge.specs.declared.Leaving.{Leaving}
 use Rattle.judge.specs.declared.Moving.{Moving}
-use Rattle.judge.specs.declared.Verdict.{Verdict}
 use Rattle.judge.specs.Given.{Asked, on}
 use Rattle.judge.specs.Verdict.{verdict}
 use Rattle.judge.proofs.Tasks.{handshake, held_24, unknown}
@@ -25,7 +25,7 @@ use Rattle.unit.specs.Standing.{holder}
 use Rattle.transfer.specs.Stores.{after}
 use Rattle.block.specs.Block.{transfer_of}
 use Rattle.board.specs.Chain.{ran}
-use Rattle.demands.specs.Footprint.{DiskData, RunWritesImage, RunWritesRecord, Some, WritesImage, WritesRecord, asked_of, changes, leaving_of, moving_of, named_drive, names, verdict_of}
+use Rattle.demands.specs.Footprint.{DiskData, RunWritesImage, RunWritesRecord, SomeBlock, WritesImage, WritesRecord, asked_of, changes, leaving_of, moving_of, named_drive, names, verdict_of}
 use Rattle.demands.specs.Visits.{Visit, block_of, effect_of, fetched_by, onwards, passes?, visits, world_left}
 use Rattle.demands.proofs.Keeps.{block_keeps_image, block_keeps_lengths, block_keeps_record, run_hands, some_none}
 use Rattle.demands.proofs.Places.{data_is_touched}
@@ -33,7 +33,7 @@ use Rattle.demands.proofs.Written.{image_written_exactly}
 use Rattle.board.specs.World.{World, buffers_of, changed, drive_of, world_after}
 
 -- What is judged for a drive that the other holds moves nothing and leaves the record as it was.
-pub record Idle (v : Verdict) : Type 0 where
+pub record Idle (v : Result Plan Refusal) : Type 0 where
   pub moving : moving_of v ≡ Moving.Nothing
   pub leaving : leaving_of v ≡ Leaving.AsItWas
 
@@ -41,7 +41,7 @@ module _ (a : Asked) (held : held_by_other a.controller (holder a.unit) ≡ true
   abbrev asked_for : Task → Asked
   asked_for t = on a.controller a.unit a.image t a.host
 
-  refused_idle : (v : Verdict) (r : Refusal) → v ≡ Verdict.Refused r → Idle v
+  refused_idle : (v : Result Plan Refusal) (r : Refusal) → v ≡ Err r → Idle v
   refused_idle v r is = record { moving = ap moving_of is; leaving = ap leaving_of is }
 
   by_task : (t : Task) → Idle (verdict (asked_for t))
@@ -122,13 +122,13 @@ module _
     (not_there : (v : Visit) → I v.world → P v → ⊥)
   where
     none_onwards :
-        (a : BlockAnswer) (link : Bool) (v : Visit) (rest : List Visit) → I v.world → (Some P rest → ⊥) → Some P (v ∷ onwards a link rest) → ⊥
+        (a : BlockAnswer) (link : Bool) (v : Visit) (rest : List Visit) → I v.world → (SomeBlock P rest → ⊥) → SomeBlock P (v ∷ onwards a link rest) → ⊥
     none_onwards a link v rest now later (inl does) = not_there v now does
-    none_onwards (Failed r) link v rest now later (inr does) = does
-    none_onwards Ended false v rest now later (inr does) = does
-    none_onwards Ended true v rest now later (inr does) = later does
+    none_onwards (Err r) link v rest now later (inr does) = does
+    none_onwards (Ok _) false v rest now later (inr does) = does
+    none_onwards (Ok _) true v rest now later (inr does) = later does
 
-    none_in_visits : (left i at : ℕ) (w : World) → I w → Some P (visits left i at w) → ⊥
+    none_in_visits : (left i at : ℕ) (w : World) → I w → SomeBlock P (visits left i at w) → ⊥
     unfolding visits
     none_in_visits zero i at w now does = does
     none_in_visits (suc n) i at w now does =
@@ -136,15 +136,15 @@ module _
         (λ good.
         let v : Visit = record { at = at; index = i; world = w } in
         none_onwards (effect_of v).answer (block_of v).options.link v (visits n (i + 1) (block_of v).link (world_left v)) now
-        (none_in_visits n (i + 1) (block_of v).link (world_left v) (hands v now)) (subst (Some P) (if_pos (in_memory? w.host at 28) good _ _) does))
-        (λ bad. subst (Some P) (if_neg (in_memory? w.host at 28) bad _ _) does)
+        (none_in_visits n (i + 1) (block_of v).link (world_left v) (hands v now)) (subst (SomeBlock P) (if_pos (in_memory? w.host at 28) good _ _) does))
+        (λ bad. subst (SomeBlock P) (if_neg (in_memory? w.host at 28) bad _ _) does)
 
-    none_in_run : (first allowance : ℕ) (w : World) → I w → Some P (fetched_by first allowance w) → ⊥
+    none_in_run : (first allowance : ℕ) (w : World) → I w → SomeBlock P (fetched_by first allowance w) → ⊥
     unfolding fetched_by
     none_in_run first allowance w now does =
         by_cases (passes? first allowance w)
-        (λ passes. none_in_visits allowance 0 first w now (subst (Some P) (if_pos (passes? first allowance w) passes _ _) does))
-        (λ refused. subst (Some P) (if_neg (passes? first allowance w) refused _ _) does)
+        (λ passes. none_in_visits allowance 0 first w now (subst (SomeBlock P) (if_pos (passes? first allowance w) passes _ _) does))
+        (λ refused. subst (SomeBlock P) (if_neg (passes? first allowance w) refused _ _) does)
 
 module _ (first allowance : ℕ) (w : World) (n : UnitNumber) (held : held_by_other w.controller (holder (drive_of w n).unit) ≡ true) where
   abbrev HeldStill : World → Type 0

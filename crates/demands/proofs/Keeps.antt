@@ -1,5 +1,8 @@
 -- A run changes nothing outside its footprint. What each block of a chain keeps, the chain keeps: it goes along the blocks.
 -- A block keeps every byte that none of its stores has as its target, and the whole drive of the unit that it does not name.
+use Rattle.answers.specs.declared.Refusal.{Refusal}
+use Rattle.judge.specs.declared.Plan.{Plan}
+use Rattle.std.proofs.Common.{Err, Ok, Result}
 use Prim.Native.Nat.{ℕ, zero, suc, ◌+◌}
 use mathlib.Core.Bool.{Bool, true, false}
 use mathlib.Core.List.{List, [], ◌∷◌}
@@ -8,8 +11,7 @@ use mathlib.Core.Path.{◌≡◌, refl, sym, ap, subst, ◌∙◌}
 use native.Mathlib.Omega.{arith}
 use lib.ListN.{get_or, length}
 use Rattle.board.specs.declared.chain.Count.{Count}
-use Rattle.answers.specs.declared.BlockAnswer.{BlockAnswer}
-use Rattle.answers.specs.declared.BlockAnswer.TheVariants.{Ended, Failed}
+use Rattle.answers.specs.Numbers.{BlockAnswer}
 use Rattle.unit.specs.declared.UnitNumber.{UnitNumber}
 use Rattle.unit.specs.declared.UnitNumber.TheVariants.{Zero, One}
 use Rattle.transfer.specs.Stores.{Buffers, ByteAt, after, event_byte, byte_in, host_byte, image_byte}
@@ -19,14 +21,12 @@ use Rattle.block.specs.Block.{Drive, Effect, holder_left, left_by}
 use Rattle.block.specs.Steps.{acted_on, held_unit}
 use Rattle.block.proofs.Held.{holder_keeps}
 use Rattle.board.specs.Chain.{Ending, fetched, follows, nothing, ran}
-use Rattle.demands.specs.Footprint.{Renews, RunNames, RunWrites, RunWritesEvents, RunWritesImage, RunWritesRecord, Some, WritesEvents, WritesHost, WritesImage, WritesRecord, asked_of, changes, leaving_of, named_drive, names, verdict_of}
+use Rattle.demands.specs.Footprint.{Renews, RunNames, RunWrites, RunWritesEvents, RunWritesImage, RunWritesRecord, SomeBlock, WritesEvents, WritesHost, WritesImage, WritesRecord, asked_of, changes, leaving_of, named_drive, names, verdict_of}
 use Rattle.demands.proofs.Written.{effect_is, event_written_exactly, host_written_exactly, image_written_exactly}
-use Rattle.unit.specs.declared.Holder.{Holder}
+use Rattle.unit.specs.Holding.{Holder}
 use Rattle.unit.specs.Standing.{CountsAsInitialized, UnitRecord, held_by}
 use Rattle.judge.specs.declared.Leaving.{Leaving}
 use Rattle.judge.specs.declared.Leaving.TheVariants.{AsItWas, HeadsAt, HeadsAtLastTried, Fresh, Mapped}
-use Rattle.judge.specs.declared.Verdict.{Verdict}
-use Rattle.judge.specs.declared.Verdict.TheVariants.{Refused, Do}
 use Rattle.judge.specs.Fits.{LeavingFits}
 use Rattle.demands.proofs.Fits.{leaving_fits}
 use Rattle.demands.specs.Visits.{Visit, block_of, effect_of, fetched_by, onwards, passes?, visits, world_left}
@@ -42,7 +42,7 @@ abbrev Every : (Visit → Type 0) → List Visit → Type 0
 Every P [] = Unit {0}
 Every P (v ∷ vs) = P v × Every P vs
 
-none_every : (P Q : Visit → Type 0) → ((v : Visit) → (P v → ⊥) → Q v) → (vs : List Visit) → (Some P vs → ⊥) → Every Q vs
+none_every : (P Q : Visit → Type 0) → ((v : Visit) → (P v → ⊥) → Q v) → (vs : List Visit) → (SomeBlock P vs → ⊥) → Every Q vs
 none_every P Q each [] none = tt
 none_every P Q each (v ∷ vs) none = (each v (λ p. none (inl p)), none_every P Q each vs (λ later. none (inr later)))
 
@@ -55,9 +55,9 @@ module _ (I : World → Type 0) where
       (a : BlockAnswer) (k : Bool) (t : Count) (v : Visit) (next : Ending) (rest : List Visit) →
       (Every Hands rest → I (world_left v) → I next.world) →
       Every Hands (v ∷ onwards a k rest) → I v.world → I (follows a k t (world_left v) next).world
-  by_end (Failed r) k t v next rest on every now = every.0 now
-  by_end Ended false t v next rest on every now = every.0 now
-  by_end Ended true t v next rest on every now = on every.1 (every.0 now)
+  by_end (Err r) k t v next rest on every now = every.0 now
+  by_end (Ok _) false t v next rest on every now = every.0 now
+  by_end (Ok _) true t v next rest on every now = on every.1 (every.0 now)
 
   chain_hands :
       (left : ℕ) (t : Count) (at : ℕ) (w : World) →
@@ -78,7 +78,7 @@ module _ (I : World → Type 0) where
   -- Where a block that is not P hands it on, a run that fetches no P hands it on.
   pub run_hands :
       (first allowance : ℕ) (w : World) (P : Visit → Type 0) → ((v : Visit) → (P v → ⊥) → Hands v) →
-      (Some P (fetched_by first allowance w) → ⊥) → I w → I (ran first allowance w).world
+      (SomeBlock P (fetched_by first allowance w) → ⊥) → I w → I (ran first allowance w).world
   unfolding fetched_by
   run_hands first allowance w P each none now =
       by_cases (passes? first allowance w)
@@ -92,7 +92,7 @@ module _ (I : World → Type 0) where
 pub run_keeps :
     {X : Type 0} (see : World → X) (first allowance : ℕ) (w : World) (P : Visit → Type 0) →
     ((v : Visit) → (P v → ⊥) → see (world_left v) ≡ see v.world) →
-    (Some P (fetched_by first allowance w) → ⊥) → see (ran first allowance w).world ≡ see w
+    (SomeBlock P (fetched_by first allowance w) → ⊥) → see (ran first allowance w).world ≡ see w
 run_keeps see first allowance w P each none =
     run_hands (λ u. see u ≡ see w) first allowance w P (λ v out so. each v out ∙ so) none refl
 
@@ -162,7 +162,7 @@ module _ (v : Visit) where
 
 -- ---- records and lengths
 
-pub some_none : (vs : List Visit) → Some (λ v. ⊥) vs → ⊥
+pub some_none : (vs : List Visit) → SomeBlock (λ v. ⊥) vs → ⊥
 some_none [] there = there
 some_none (v ∷ vs) (inl here) = here
 some_none (v ∷ vs) (inr there) = some_none vs there
@@ -228,11 +228,11 @@ module _ (v : Visit) where
       ∙ ap (λ (e : Effect). left_then e.answer e.sectors (leaving_of (verdict_of v))) (sym (effect_is v))
     where
       by_verdict :
-          (verd : Verdict) →
+          (verd : Result Plan Refusal) →
           let p = acted_on v.world.host (named_drive v) v.at verd in
           held_unit v.world.controller (block_of v).options.reserve verd p.answer p.unit ≡ left_then p.answer p.sectors (leaving_of verd)
-      by_verdict (Refused r) = refl
-      by_verdict (Do plan) = refl
+      by_verdict (Err r) = refl
+      by_verdict (Ok plan) = refl
 
   -- What a change of holder keeps, is kept of what is left.
   pub left_keeps :
@@ -330,7 +330,7 @@ module _ (first allowance : ℕ) (w : World) where
   -- succeeds it is handed back as it came" (01, Geometry); so is one with a table that is not good (02, K5).
   pub bad_record_handed_back :
       (n : UnitNumber) → (CountsAsInitialized (drive_of w n).unit → ⊥) →
-      (Some (λ v. (names v ≡ n) × Renews (asked_of v)) (fetched_by first allowance w) → ⊥) →
+      (SomeBlock (λ v. (names v ≡ n) × Renews (asked_of v)) (fetched_by first allowance w) → ⊥) →
       (drive_of world_left_by n).unit ≡ (drive_of w n).unit
   bad_record_handed_back n bad none =
       run_hands (λ u. (drive_of u n).unit ≡ (drive_of w n).unit) first allowance w

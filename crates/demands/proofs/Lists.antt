@@ -1,5 +1,7 @@
 -- What a block writes of host memory, and the data that it takes from there, by the papers' list: each line for its commands.
 -- A plan that was let through is its task's own, and a refused block moves and reports nothing.
+use Rattle.answers.specs.declared.Refusal.{Refusal}
+use Rattle.std.proofs.Common.{Err, Ok, Result}
 use Prim.Native.Nat.{ℕ, ◌+◌, ◌*◌, ◌<◌}
 use mathlib.Core.Bool.{Bool, true, false}
 use mathlib.Core.Logic.{◌⊎◌, inl, inr}
@@ -17,8 +19,6 @@ use Rattle.judge.specs.declared.Moving.TheVariants.{Nothing, Sectors, Track}
 use Rattle.judge.specs.declared.Plan.{Plan}
 use Rattle.judge.specs.declared.Report.{Report}
 use Rattle.judge.specs.declared.Report.TheVariants.{Nothing as Silent, Identity, Formatted}
-use Rattle.judge.specs.declared.Verdict.{Verdict}
-use Rattle.judge.specs.declared.Verdict.TheVariants.{Refused, Do}
 use Rattle.judge.specs.Given.{Asked}
 use Rattle.judge.specs.Verdict.{verdict}
 use Rattle.judge.proofs.Known.{MoverKnown, ReportKnown}
@@ -36,7 +36,7 @@ MovesData a to_host = (m : Move) × ((a.task ≡ Moves m) × (m.to_host ≡ to_h
 
 -- A format that is let through.
 abbrev pub Formats : Asked → Type 0
-Formats a = ((k : Tracks) × (a.task ≡ Format k)) × ((p : Plan) × (verdict a ≡ Do p))
+Formats a = ((k : Tracks) × (a.task ≡ Format k)) × ((p : Plan) × (verdict a ≡ Ok p))
 
 module _ (a : Asked) where
   -- Words are reported for an 86, where they are words 2 to 7, and for an 8C that is let through, where they are the lower byte of word 3 and
@@ -47,14 +47,14 @@ module _ (a : Asked) where
   reported_for : (at x : ℕ) → InReport at (report_of (verdict a)) x → ReportedFor at x
   reported_for at x = by_verdict (verdict a) refl
     where
-      by_report : (p : Plan) → verdict a ≡ Do p → (r : Report) → ReportKnown a r → InReport at r x → ReportedFor at x
+      by_report : (p : Plan) → verdict a ≡ Ok p → (r : Report) → ReportKnown a r → InReport at r x → ReportedFor at x
       by_report p is Silent known none = absurd none
       by_report p is Identity known among = inl (known, among)
       by_report p is (Formatted n) known among = inr ((known.0, (p, is)), among)
 
-      by_verdict : (v : Verdict) → verdict a ≡ v → InReport at (report_of v) x → ReportedFor at x
-      by_verdict (Refused r) is none = absurd none
-      by_verdict (Do p) is among = by_report p is p.report (report_let_through a p is) among
+      by_verdict : (v : Result Plan Refusal) → verdict a ≡ v → InReport at (report_of v) x → ReportedFor at x
+      by_verdict (Err r) is none = absurd none
+      by_verdict (Ok p) is among = by_report p is p.report (report_let_through a p is) among
 
   for_reported : (at x : ℕ) → ReportedFor at x → InReport at (report_of (verdict a)) x
   for_reported at x (inl (is, among)) = rw (handshake_reports a is) among
@@ -64,9 +64,9 @@ module _ (a : Asked) where
   known : MoverKnown a.task (moving_of (verdict a))
   known = by_verdict (verdict a) refl
     where
-      by_verdict : (v : Verdict) → verdict a ≡ v → MoverKnown a.task (moving_of v)
-      by_verdict (Refused r) is = tt
-      by_verdict (Do p) is = mover_let_through a p is
+      by_verdict : (v : Result Plan Refusal) → verdict a ≡ v → MoverKnown a.task (moving_of v)
+      by_verdict (Err r) is = tt
+      by_verdict (Ok p) is = mover_let_through a p is
 
   -- Data goes to host memory for a read.
   to_host_for : (transfer_by a).to_host ≡ true → MovesData a true

@@ -1,6 +1,7 @@
 -- No block and no run reads a byte after the marks: on another image with the same sectors and marks a block comes to the same, and so does a run in
 -- which no 87 for that unit succeeds.
 -- A block that names the unit is treated alike by block's own law, and to any other the worlds are the same; a run goes along its allowance.
+use Rattle.std.proofs.Common.{Err, Ok}
 use Prim.Native.Nat.{ℕ, zero, suc, ◌+◌, ◌≤◌}
 use mathlib.Core.Bool.{Bool, true, false}
 use mathlib.Core.List.{List, ◌∷◌}
@@ -11,8 +12,7 @@ use native.Mathlib.Decide.{dec_le, dec_lt}
 use native.Mathlib.Omega.{arith}
 use lib.ListN.{length}
 use Rattle.board.specs.declared.chain.Count.{Count}
-use Rattle.answers.specs.declared.BlockAnswer.{BlockAnswer}
-use Rattle.answers.specs.declared.BlockAnswer.TheVariants.{Ended, Failed}
+use Rattle.answers.specs.Numbers.{BlockAnswer}
 use Rattle.answers.specs.declared.RunAnswer.{RunAnswer}
 use Rattle.geometry.specs.declared.Geometry.{Geometry}
 use Rattle.unit.specs.declared.UnitNumber.{UnitNumber}
@@ -27,7 +27,7 @@ use Rattle.block.proofs.PastMarks.{left_alike, one_effect}
 use Rattle.board.specs.Chain.{Ending, counted, ends, fetched, follows, nothing, ran}
 use Rattle.board.proofs.Chains.{fetched_bad, fetched_spent}
 use Rattle.board.proofs.Runs.{ran_allowance_bad, ran_chain, ran_events_short, ran_first_bad}
-use Rattle.demands.specs.Footprint.{Renews, Some, asked_of, names}
+use Rattle.demands.specs.Footprint.{Renews, SomeBlock, asked_of, names}
 use Rattle.demands.specs.PastMarks.{EndsAlike, SameOn, imaged}
 use Rattle.demands.specs.Visits.{Passes, Visit, block_of, effect_of, fetched_by, onwards, passes?, visits, world_left}
 use Rattle.demands.proofs.Endings.{fetched_step, here, then, visits_step}
@@ -130,11 +130,11 @@ module _ (n : UnitNumber) where
 
   by_end :
       (a : BlockAnswer) (k : Bool) (t : Count) (w : World) (image : List ℕ) → SameOn n w image → (next next' : Ending) (rest : List Visit) →
-      (Some Renewing (onwards a k rest) → ⊥) → ((Some Renewing rest → ⊥) → EndsAlike n next next') →
+      (SomeBlock Renewing (onwards a k rest) → ⊥) → ((SomeBlock Renewing rest → ⊥) → EndsAlike n next next') →
       EndsAlike n (follows a k t w next) (follows a k t (imaged n image w) next')
-  by_end (Failed r) k t w image alike next next' rest none on = unmoved n _ _ _ w image alike
-  by_end Ended false t w image alike next next' rest none on = unmoved n _ _ _ w image alike
-  by_end Ended true t w image alike next next' rest none on = on none
+  by_end (Err r) k t w image alike next next' rest none on = unmoved n _ _ _ w image alike
+  by_end (Ok _) false t w image alike next next' rest none on = unmoved n _ _ _ w image alike
+  by_end (Ok _) true t w image alike next next' rest none on = on none
 
   -- Endings that are the same end alike where the others do.
   as_told : (e e' f f' : Ending) → e ≡ e' → f ≡ f' → EndsAlike n e' f' → EndsAlike n e f
@@ -156,7 +156,7 @@ module _ (n : UnitNumber) where
       follows e.answer b.options.link t' (step.world k) (fetched left t' b.link (step.world k)))
 
   chain_alike :
-      (left : ℕ) (t : Count) (at : ℕ) (w : World) (image : List ℕ) → SameOn n w image → (Some Renewing (visits left t.blocks at w) → ⊥) →
+      (left : ℕ) (t : Count) (at : ℕ) (w : World) (image : List ℕ) → SameOn n w image → (SomeBlock Renewing (visits left t.blocks at w) → ⊥) →
       EndsAlike n (fetched left t at w) (fetched left t at (imaged n image w))
   chain_alike zero t at w image alike none =
       rw (fetched_spent 0 t at w refl, fetched_spent 0 t at (imaged n image w) refl) (unmoved n _ _ _ w image alike)
@@ -166,7 +166,7 @@ module _ (n : UnitNumber) where
       let v = here left t at w in
       let t' = then left t at w in
       let step = block_past_marks at t.blocks w image n alike in
-      let none_here : Some Renewing (v ∷ onwards (effect_of v).answer (block_of v).options.link (visits left (t.blocks + 1) (block_of v).link (world_left v))) → ⊥ =
+      let none_here : SomeBlock Renewing (v ∷ onwards (effect_of v).answer (block_of v).options.link (visits left (t.blocks + 1) (block_of v).link (world_left v))) → ⊥ =
       rw (visits_step left t at w good) at none in
       let now = same_then v step.left (λ renews. none_here (inl renews)) step.sectors in
       as_told _ _ _ _ (fetched_step left t at w good) (goes_on left t at w image good step)
@@ -177,7 +177,7 @@ module _ (n : UnitNumber) where
       (unmoved n _ _ _ w image alike))
 
   pub run_past_marks :
-      (first allowance : ℕ) (w : World) (image : List ℕ) → SameOn n w image → (Some Renewing (fetched_by first allowance w) → ⊥) →
+      (first allowance : ℕ) (w : World) (image : List ℕ) → SameOn n w image → (SomeBlock Renewing (fetched_by first allowance w) → ⊥) →
       EndsAlike n (ran first allowance w) (ran first allowance (imaged n image w))
   unfolding fetched_by
   run_past_marks first allowance w image alike none =

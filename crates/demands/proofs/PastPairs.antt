@@ -1,5 +1,6 @@
 -- What stands in the units' tables past the pairs that count is nothing to a run: it does the same whatever stands there, and leaves it alone, but for an 87 and an 85.
 -- Each block does so for the unit that it names, and a chain goes along its blocks.
+use Rattle.std.proofs.Common.{Err, Ok}
 use Prim.Native.Nat.{ℕ, zero, suc}
 use mathlib.Core.Bool.{Bool, true, false}
 use mathlib.Core.List.{List}
@@ -8,8 +9,7 @@ use mathlib.Core.Logic.{ite}
 use mathlib.Core.Path.{◌≡◌, refl, ap, ◌∙◌}
 use native.Mathlib.Decide.{dec_le, dec_lt}
 use lib.ListN.{length}
-use Rattle.answers.specs.declared.BlockAnswer.{BlockAnswer}
-use Rattle.answers.specs.declared.BlockAnswer.TheVariants.{Ended, Failed}
+use Rattle.answers.specs.Numbers.{BlockAnswer}
 use Rattle.answers.specs.declared.RunAnswer.{RunAnswer}
 use Rattle.iopb.specs.Layout.{block_at}
 use Rattle.unit.specs.declared.UnitNumber.{UnitNumber}
@@ -96,9 +96,9 @@ module _ (F G : ℕ → List ℕ → List ℕ) (p : PastPairs F) (q : PastPairs 
   follows_past :
       (a : BlockAnswer) (link : Bool) (t : Count) (w : World) (next next' : Ending) → next' ≡ past_ending F G next →
       follows a link t (past_both F G w) next' ≡ past_ending F G (follows a link t w next)
-  follows_past (Failed r) link t w next next' same = refl
-  follows_past Ended false t w next next' same = refl
-  follows_past Ended true t w next next' same = same
+  follows_past (Err r) link t w next next' same = refl
+  follows_past (Ok _) false t w next next' same = refl
+  follows_past (Ok _) true t w next next' same = same
 
   either_past :
       {P : Type 0} (d : Dec P) (x x' y y' : Ending) → x' ≡ past_ending F G x → y' ≡ past_ending F G y → ite d x' y' ≡ past_ending F G (ite d x y)

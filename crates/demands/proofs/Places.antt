@@ -1,6 +1,7 @@
 -- Which bytes of the image a block touches: only those that a sector which it names reaches, so none of a bad track's (02, K5), and none of another
 -- sector's but where the two meet, one by a bad track's name and the other by its spare's (02, K7). Each sector of its transfer stands where an
 -- address that it names lands, and the rest is unit's law.
+use Rattle.std.proofs.Common.{Err, None, Ok, Option, Result, Some}
 use Prim.Native.Nat.{ℕ, ◌+◌, ◌/◌, ◌≤◌, ◌<◌}
 use mathlib.Core.Bool.{Bool, false}
 use mathlib.Core.Logic.{by_cases, ⊎_elim}
@@ -14,8 +15,6 @@ use Rattle.answers.specs.declared.Refusal.{Refusal}
 use Rattle.answers.specs.declared.Refusal.TheVariants.{DriveHeld, SectorOutside, VolumeAbsent}
 use Rattle.geometry.specs.declared.Address.{Address}
 use Rattle.geometry.specs.declared.Geometry.{Geometry}
-use Rattle.geometry.specs.declared.Number.{Number}
-use Rattle.geometry.specs.declared.Number.TheVariants.{Is, Outside}
 use Rattle.geometry.specs.Drive.{B, N, volume}
 use Rattle.geometry.specs.Limits.{Present}
 use Rattle.geometry.specs.SectorBytes.{SectorByte}
@@ -30,8 +29,6 @@ use Rattle.unit.proofs.Apart.{bad_never_reached, in_one_place_exactly, no_two_in
 use Rattle.wire.specs.Among.{Among}
 use Rattle.wire.proofs.Promises.{never}
 use Rattle.judge.specs.declared.Plan.{Plan}
-use Rattle.judge.specs.declared.Verdict.{Verdict}
-use Rattle.judge.specs.declared.Verdict.TheVariants.{Refused, Do}
 use Rattle.judge.specs.Plans.{number_there, plan_of}
 use Rattle.judge.specs.Fits.{MovingFits}
 use Rattle.judge.specs.Given.{Asked, on}
@@ -39,7 +36,6 @@ use Rattle.judge.specs.Verdict.{verdict}
 use Rattle.judge.proofs.LetThrough.{own_plan, plan_fits}
 use Rattle.judge.proofs.Tasks.{format_16, move_14, move_on, own_unless_held, start_nowhere}
 use Rattle.request.specs.declared.Move.{Move}
-use Rattle.request.specs.declared.Shape.{Shape}
 use Rattle.request.specs.declared.Task.{Task}
 use Rattle.request.specs.declared.Track.{Track}
 use Rattle.transfer.specs.Progress.{stops_at}
@@ -75,13 +71,13 @@ module _ (a : Asked) where
 
   -- ---- of a block that is let through
 
-  module _ (p : Plan) (accepted : verdict a ≡ Do p) (counts : CountsAsInitialized u) where
+  module _ (p : Plan) (accepted : verdict a ≡ Ok p) (counts : CountsAsInitialized u) where
     -- Its task is not one that would be refused.
-    not_so : (r : Refusal) → verdict a ≡ Refused r → ⊥
+    not_so : (r : Refusal) → verdict a ≡ Err r → ⊥
     not_so r so = never (cc (accepted, so))
 
     not_refused :
-        (t : Task) (r : Refusal) → a.task ≡ t → T (asks_holder t) → by_its_own (on a.controller u a.image t a.host) ≡ Refused r → ⊥
+        (t : Task) (r : Refusal) → a.task ≡ t → T (asks_holder t) → by_its_own (on a.controller u a.image t a.host) ≡ Err r → ⊥
     not_refused t r is asks refused =
         ⊎_elim (λ held. not_so DriveHeld (as_task ∙ held)) (λ own. not_so r (as_task ∙ own ∙ refused))
         (own_unless_held a.controller u a.image a.host t asks)
@@ -96,16 +92,16 @@ module _ (a : Asked) where
         (λ off. absurd (not_refused (Task.Format k) SectorOutside is tt (format_16 a.controller u a.image a.host k counts off)))
 
     -- and a read or a write begins at a number.
-    begins_at_lem : (m : Move) → a.task ≡ Task.Move m → 0 < m.count → (n : ℕ) × (begins_at u m.target ≡ Is n)
+    begins_at_lem : (m : Move) → a.task ≡ Task.Move m → 0 < m.count → (n : ℕ) × (begins_at u m.target ≡ Some n)
     unfolding Present
     begins_at_lem m is some = by_number_found (begins_at u m.target) refl
       where
-        refuted : (r : Refusal) → by_its_own (on a.controller u a.image (Task.Move m) a.host) ≡ Refused r → ⊥
+        refuted : (r : Refusal) → by_its_own (on a.controller u a.image (Task.Move m) a.host) ≡ Err r → ⊥
         refuted r = not_refused (Task.Move m) r is tt
 
-        by_number_found : (x : Number) → begins_at u m.target ≡ x → (n : ℕ) × (begins_at u m.target ≡ Is n)
-        by_number_found (Is n) at = (n, at)
-        by_number_found Outside at =
+        by_number_found : (x : Option ℕ) → begins_at u m.target ≡ x → (n : ℕ) × (begins_at u m.target ≡ Some n)
+        by_number_found (Some n) at = (n, at)
+        by_number_found None at =
             by_cases (dec_le 1 (N (volume g m.target.volume)))
             (λ present.
             absurd
@@ -120,7 +116,7 @@ module _ (a : Asked) where
   sector_lands j less = by_verdict (verdict a) refl less
     where
       by_task :
-          (p : Plan) → verdict a ≡ Do p → (t : Task) → a.task ≡ t → MovingFits u a.image a.host (plan_of u t).moving →
+          (p : Plan) → verdict a ≡ Ok p → (t : Task) → a.task ≡ t → MovingFits u a.image a.host (plan_of u t).moving →
           j < (transfer_of a.host u (plan_of u t).moving).count → Lands a ((transfer_of a.host u (plan_of u t).moving).place j)
       by_task p so (Task.Move m) is fits less =
           let v = m.target.volume in
@@ -145,17 +141,17 @@ module _ (a : Asked) where
           }
       by_task p so Task.Unknown is fits less = absurd (omega arith)
       by_task p so Task.Handshake is fits less = absurd (omega arith)
-      by_task p so (Task.Initialize Shape.Misplaced) is fits less = absurd (omega arith)
-      by_task p so (Task.Initialize (Shape.Given g)) is fits less = absurd (omega arith)
+      by_task p so (Task.Initialize None) is fits less = absurd (omega arith)
+      by_task p so (Task.Initialize (Some g)) is fits less = absurd (omega arith)
       by_task p so Task.Restore is fits less = absurd (omega arith)
       by_task p so (Task.Seek t) is fits less = absurd (omega arith)
       by_task p so (Task.Map k) is fits less = absurd (omega arith)
 
       by_verdict :
-          (v : Verdict) → verdict a ≡ v → j < (transfer_of a.host u (moving_of v)).count →
+          (v : Result Plan Refusal) → verdict a ≡ v → j < (transfer_of a.host u (moving_of v)).count →
           Lands a ((transfer_of a.host u (moving_of v)).place j)
-      by_verdict (Refused r) is less = absurd (omega arith)
-      by_verdict (Do p) is less =
+      by_verdict (Err r) is less = absurd (omega arith)
+      by_verdict (Ok p) is less =
           let own-one = own_plan a p is in
           subst (λ (p : Plan). Lands a ((transfer_of a.host u p.moving).place j)) (sym own-one)
           (by_task p is a.task refl (subst (λ (p : Plan). MovingFits u a.image a.host p.moving) own-one (plan_fits a p is).moving)

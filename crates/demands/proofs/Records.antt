@@ -1,5 +1,8 @@
 -- What a block hands back can be written down: a record as it was or one that counts as initialized, tracks that are numbers of 32 bits, and a count of
 -- sectors that is one of 16. Each goes by what the verdict leaves or has moved, which fits.
+use Rattle.answers.specs.declared.Refusal.{Refusal}
+use Rattle.judge.specs.declared.Plan.{Plan}
+use Rattle.std.proofs.Common.{Err, None, Ok, Option, Result, Some}
 use Prim.Native.Nat.{ℕ, ◌+◌, ◌*◌, ◌^◌, ◌<◌}
 use mathlib.Core.List.{List}
 use mathlib.Core.Logic.{◌⊎◌, by_cases, if_pos, inl, inr}
@@ -18,15 +21,11 @@ use Rattle.unit.proofs.Decided.{counts?}
 use Rattle.unit.proofs.Kept.{fresh_counts}
 use Rattle.iopb.specs.declared.Block.{Block}
 use Rattle.iopb.specs.Ask.{shape_at, task_at, task_of, tasks}
-use Rattle.request.specs.declared.Shape.{Shape}
-use Rattle.request.specs.declared.Shape.TheVariants.{Given, Misplaced}
 use Rattle.request.specs.declared.Task.TheVariants.{Initialize}
 use Rattle.judge.specs.declared.Leaving.{Leaving}
 use Rattle.judge.specs.declared.Leaving.TheVariants.{AsItWas, HeadsAt, HeadsAtLastTried, Fresh, Mapped}
 use Rattle.judge.specs.declared.Moving.{Moving}
 use Rattle.judge.specs.declared.Moving.TheVariants.{Nothing, Sectors, Track}
-use Rattle.judge.specs.declared.Verdict.{Verdict}
-use Rattle.judge.specs.declared.Verdict.TheVariants.{Refused, Do}
 use Rattle.judge.specs.Fits.{LeavingFits, MovingFits}
 use Rattle.judge.specs.Plans.{plan_of}
 use Rattle.judge.specs.Table.{listed}
@@ -109,9 +108,9 @@ Few (Track spot at) = Unit {0}
 
 -- It is for as many as the block counts, where it is its task's own.
 module _ (u : UnitRecord) (host : List ℕ) (b : Block) (few : b.count < 65536) where
-  shape_few : (s : Shape) → Few (plan_of u (Initialize s)).moving
-  shape_few Misplaced = tt
-  shape_few (Given g) = tt
+  shape_few : (s : Option Geometry) → Few (plan_of u (Initialize s)).moving
+  shape_few None = tt
+  shape_few (Some g) = tt
 
   own_few : Few (plan_of u (task_of host b)).moving
   unfolding task_of
@@ -124,9 +123,9 @@ module _ (v : Visit) (bytes : (i : ℕ) → get_or v.world.host i 0 < 256) where
   verdict_few : Few (moving_of (verdict_of v))
   verdict_few = by_verdict (verdict_of v) refl
     where
-      by_verdict : (x : Verdict) → verdict_of v ≡ x → Few (moving_of x)
-      by_verdict (Refused r) so = tt
-      by_verdict (Do p) so =
+      by_verdict : (x : Result Plan Refusal) → verdict_of v ≡ x → Few (moving_of x)
+      by_verdict (Err r) so = tt
+      by_verdict (Ok p) so =
           rw (own_plan (asked_of v) p so)
           (own_few (named_drive v).unit v.world.host (block_of v) (omega (arith, word_below 2 v.world.host (v.at + 8) bytes)))
 

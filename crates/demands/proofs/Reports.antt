@@ -1,5 +1,7 @@
 -- What a block reports stands in it when it has ended; and a format that is let through ends 80, counts S, and says S − 1 and S in its block.
 -- Nothing is stored after the words but word 1, which lies elsewhere, and the entry; the data is taken before them.
+use Rattle.answers.specs.declared.Refusal.{Refusal}
+use Rattle.std.proofs.Common.{Ok, Result}
 use Prim.Native.Nat.{ℕ, ◌+◌, ◌-◌, ◌*◌, ◌%◌, ◌≤◌, ◌<◌}
 use mathlib.Core.Bool.{false}
 use mathlib.Core.List.{List, [], ◌∷◌, ◌++◌}
@@ -9,15 +11,12 @@ use native.Mathlib.Omega.{arith}
 use lib.ListN.{get_or, length}
 use Rattle.wire.specs.Words.{be16, word}
 use Rattle.wire.proofs.Promises.{never}
-use Rattle.answers.specs.declared.BlockAnswer.TheVariants.{Ended}
 use Rattle.geometry.specs.declared.Geometry.{Geometry}
 use Rattle.geometry.specs.Drive.{B, S}
 use Rattle.iopb.specs.Identity.{identity_bytes}
 use Rattle.judge.specs.declared.Report.{Report}
 use Rattle.judge.specs.declared.Report.TheVariants.{Nothing as Silent, Identity, Formatted}
 use Rattle.judge.specs.declared.Plan.{Plan}
-use Rattle.judge.specs.declared.Verdict.{Verdict}
-use Rattle.judge.specs.declared.Verdict.TheVariants.{Do}
 use Rattle.judge.specs.Plans.{plan_of}
 use Rattle.judge.proofs.LetThrough.{own_plan}
 use Rattle.request.specs.declared.Task.TheVariants.{Format}
@@ -50,7 +49,7 @@ module _ (v : Visit) (room : v.at + 28 ≤ length v.world.host) where
   at = v.at
 
   -- The words of a plan that was let through, in a row that lies in the block and not in word 1.
-  module _ (p : Plan) (is : verdict_of v ≡ Do p) where
+  module _ (p : Plan) (is : verdict_of v ≡ Ok p) where
     row_left :
         (from : ℕ) (ns : List ℕ) → reported at p.report ≡ bytes_from host_byte (at + from) ns → 4 ≤ from → from + length ns ≤ 28 →
         (k : ℕ) → k < length ns → get_or (world_left v).host (at + from + k) 0 ≡ get_or ns k 0
@@ -77,7 +76,7 @@ module _ (v : Visit) (room : v.at + 28 ≤ length v.world.host) where
 
 -- It ends 80 and counts S; its block says the last sector formatted and how many they were, and has its head as before.
 pub record FormatTold (v : Visit) : Type 0 where
-  pub ended : (effect_of v).answer ≡ Ended
+  pub ended : (effect_of v).answer ≡ Ok tt
   pub counted : (effect_of v).sectors ≡ S (geometry (named_drive v).unit)
   pub last : get_or (world_left v).host (v.at + 7) 0 ≡ S (geometry (named_drive v).unit) - 1
   pub number : be16 (world_left v).host (v.at + 8) ≡ S (geometry (named_drive v).unit)
@@ -90,9 +89,9 @@ module _ (v : Visit) (room : v.at + 28 ≤ length v.world.host) (formats : Forma
   abbrev p : Plan
   p = formats.1.0
 
-  is_plan : verdict_of v ≡ Do (plan_of (named_drive v).unit (Format formats.0.0))
+  is_plan : verdict_of v ≡ Ok (plan_of (named_drive v).unit (Format formats.0.0))
   is_plan =
-      formats.1.1 ∙ ap Do (own_plan (asked_of v) p formats.1.1 ∙ ap (plan_of (named_drive v).unit) formats.0.1)
+      formats.1.1 ∙ ap Ok (own_plan (asked_of v) p formats.1.1 ∙ ap (plan_of (named_drive v).unit) formats.0.1)
 
   stands : (x k : ℕ) → x ≡ v.at + 7 + k → k < 3 → get_or (world_left v).host x 0 ≡ get_or ((S g - 1) ∷ 0x00 ∷ S g ∷ []) k 0
   stands x k here less = rw here (report_stands v room _ is_plan k less)
@@ -105,12 +104,12 @@ module _ (v : Visit) (room : v.at + 28 ≤ length v.world.host) (formats : Forma
   t = formatting (named_drive v).unit (track_of (named_drive v).unit k.cylinder k.head) k.buffer
 
   its_transfer : transfer_by (asked_of v) ≡ t
-  its_transfer = ap (λ (verd : Verdict). transfer_of v.world.host (named_drive v).unit (moving_of verd)) is_plan
+  its_transfer = ap (λ (verd : Result Plan Refusal). transfer_of v.world.host (named_drive v).unit (moving_of verd)) is_plan
 
   writes : (transfer_by (asked_of v)).to_host ≡ false
   writes = ap (λ (x : Transfer). x.to_host) its_transfer
 
-  whole : ((effect_of v).answer ≡ Ended) × ((effect_of v).sectors ≡ S g)
+  whole : ((effect_of v).answer ≡ Ok tt) × ((effect_of v).sectors ≡ S g)
   whole =
       let ends = write_ends_whole v _ is_plan writes in
       (ends.0, ends.1 ∙ ap (λ (x : Transfer). x.count) its_transfer)

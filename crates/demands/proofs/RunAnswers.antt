@@ -1,5 +1,6 @@
 -- Demand 1 of runs: each answer 0 to 6 exactly in its case, and a refused run changes nothing.
 -- The first three are the checks in their order; the others are told by the last block, whose end leaves one answer.
+use Rattle.std.proofs.Common.{Err, Ok}
 use Prim.Native.Nat.{ℕ, zero, suc, ◌-◌, ◌≤◌, ◌<◌}
 use mathlib.Core.Bool.{Bool, true, false}
 use mathlib.Core.List.{List, []}
@@ -13,13 +14,11 @@ use lib.ListN.{length}
 use Rattle.board.specs.declared.chain.Count.{Count}
 use Rattle.wire.proofs.Decided.{in_memory?}
 use Rattle.wire.specs.Memory.{InMemory}
-use Rattle.answers.specs.declared.BlockAnswer.{BlockAnswer}
-use Rattle.answers.specs.declared.BlockAnswer.TheVariants.{Ended, Failed}
+use Rattle.answers.specs.Numbers.{BlockAnswer, refusal_number, run_number}
 use Rattle.answers.specs.declared.Refusal.{Refusal}
 use Rattle.answers.specs.declared.RunAnswer.{RunAnswer}
 use Rattle.answers.specs.declared.RunAnswer.TheVariants.{Done, EventsShort, AllowanceBad, FirstBad, BlockFailed, LinkBad, AllowanceSpent}
 use Rattle.answers.specs.RunNumbers.{block_number}
-use Rattle.answers.specs.Numbers.{refusal_number, run_number}
 use Rattle.board.specs.Chain.{Ending, ends, nothing, ran}
 use Rattle.demands.specs.Visits.{EndsWith, Passes, RunTold, Visit, block_of, effect_of, fetched_by, last_fetched, passes?, sectors_of, visits}
 use Rattle.demands.proofs.Endings.{ToldByBlocks, chain_told, visits_few}
@@ -30,10 +29,10 @@ use Rattle.board.specs.World.{World}
 
 -- The answer that a last block's end leaves.
 after_end : BlockAnswer → Bool → ℕ → RunAnswer
-after_end (Failed r) k left = BlockFailed
-after_end Ended false left = Done
-after_end Ended true zero = AllowanceSpent
-after_end Ended true (suc left) = LinkBad
+after_end (Err r) k left = BlockFailed
+after_end (Ok _) false left = Done
+after_end (Ok _) true zero = AllowanceSpent
+after_end (Ok _) true (suc left) = LinkBad
 
 leaves_one : (a : RunAnswer) (left : ℕ) (v : Visit) → EndsWith a left v → a ≡ after_end (effect_of v).answer (block_of v).options.link left
 unfolding after_end
@@ -222,16 +221,16 @@ module _ (first allowance : ℕ) (w : World) where
       by_standing (past passes) = absurd (refused passes)
 
   -- "with answer 4 the failed block's answer number": a run's failed number is 0, or the number of a block's answer.
-  pub failed_number : (end.failed ≡ 0) ⊎ ((v : Visit) × ((r : Refusal) × ((end.failed ≡ refusal_number r) × ((effect_of v).answer ≡ Failed r))))
+  pub failed_number : (end.failed ≡ 0) ⊎ ((v : Visit) × ((r : Refusal) × ((end.failed ≡ refusal_number r) × ((effect_of v).answer ≡ Err r))))
   failed_number = by_standing stands
     where
       of_block :
           (v : Visit) (a : BlockAnswer) → (effect_of v).answer ≡ a →
-          (block_number a ≡ 0) ⊎ ((v : Visit) × ((r : Refusal) × ((block_number a ≡ refusal_number r) × ((effect_of v).answer ≡ Failed r))))
-      of_block v Ended is = inl refl
-      of_block v (Failed r) is = inr (v, (r, (refl, is)))
+          (block_number a ≡ 0) ⊎ ((v : Visit) × ((r : Refusal) × ((block_number a ≡ refusal_number r) × ((effect_of v).answer ≡ Err r))))
+      of_block v (Ok _) is = inl refl
+      of_block v (Err r) is = inr (v, (r, (refl, is)))
 
-      by_standing : Stands → (end.failed ≡ 0) ⊎ ((v : Visit) × ((r : Refusal) × ((end.failed ≡ refusal_number r) × ((effect_of v).answer ≡ Failed r))))
+      by_standing : Stands → (end.failed ≡ 0) ⊎ ((v : Visit) × ((r : Refusal) × ((end.failed ≡ refusal_number r) × ((effect_of v).answer ≡ Err r))))
       by_standing (short less e) = inl (ap (λ (x : Ending). x.failed) e)
       by_standing (bad long no-good e) = inl (ap (λ (x : Ending). x.failed) e)
       by_standing (misplaced long good out e) = inl (ap (λ (x : Ending). x.failed) e)

@@ -13,7 +13,7 @@ use Rattle.judge.specs.declared.Leaving.TheVariants.{AsItWas, HeadsAt, HeadsAtLa
 use Rattle.unit.specs.declared.UnitNumber.{UnitNumber}
 use Rattle.block.specs.Block.{Drive, left_by}
 use Rattle.board.specs.Chain.{ran}
-use Rattle.demands.specs.Footprint.{Renews, Some, asked_of, leaving_of, named_drive, names, verdict_of}
+use Rattle.demands.specs.Footprint.{Renews, SomeBlock, asked_of, leaving_of, named_drive, names, verdict_of}
 use Rattle.demands.specs.Visits.{Visit, effect_of, fetched_by, world_left}
 use Rattle.demands.proofs.BlockLaws.{no_mark}
 use Rattle.demands.proofs.Keeps.{block_keeps_drive, block_keeps_image, left_keeps, run_hands, run_keeps, same_unit?}
@@ -33,7 +33,7 @@ block_keeps_marks v n x out =
 -- From the marks on.
 pub no_mark_in_a_run :
     (first allowance : ℕ) (w : World) (n : UnitNumber) (x : ℕ) →
-    (Some (λ v. (names v ≡ n) × (x < marks_at (geometry (named_drive v).unit))) (fetched_by first allowance w) → ⊥) →
+    (SomeBlock (λ v. (names v ≡ n) × (x < marks_at (geometry (named_drive v).unit))) (fetched_by first allowance w) → ⊥) →
     get_or (drive_of (ran first allowance w).world n).image x 0 ≡ get_or (drive_of w n).image x 0
 no_mark_in_a_run first allowance w n x none =
     run_keeps (λ u. get_or (drive_of u n).image x 0) first allowance w (λ v. (names v ≡ n) × (x < marks_at (geometry (named_drive v).unit)))
@@ -63,7 +63,7 @@ block_keeps_geometry v n none = by_cases (same_unit? (names v) n) (λ named. her
 -- So every byte of its image from the marks on, as its record says where they begin, is as it was.
 pub no_mark_without_an_87 :
     (first allowance : ℕ) (w : World) (n : UnitNumber) (x : ℕ) → marks_at (geometry (drive_of w n).unit) ≤ x →
-    (Some (λ v. (names v ≡ n) × Renews (asked_of v)) (fetched_by first allowance w) → ⊥) →
+    (SomeBlock (λ v. (names v ≡ n) × Renews (asked_of v)) (fetched_by first allowance w) → ⊥) →
     get_or (drive_of (ran first allowance w).world n).image x 0 ≡ get_or (drive_of w n).image x 0
 no_mark_without_an_87 first allowance w n x from none =
     (run_hands

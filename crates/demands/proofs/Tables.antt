@@ -1,5 +1,6 @@
 -- What blocks do with a unit's table: an 85 adds its pair and, the holder apart, does nothing else, an 87 clears it, a unit that counts as initialized stays so (02, K5);
 -- and which tables the commands reach (02, K7). What is left of a record is told by the verdict.
+use Rattle.std.proofs.Common.{Err, None, Ok, Option, Result, Some}
 use Prim.Native.Nat.{ℕ}
 use mathlib.Core.List.{List, [], ◌++◌}
 use mathlib.Core.Logic.{◌⊎◌, by_cases, inl, inr, ⊎_elim}
@@ -7,15 +8,13 @@ use mathlib.Core.Path.{◌≡◌, refl, sym, ap, subst, ◌∙◌}
 use native.Mathlib.Nat.{zero-mul}
 use lib.IntN.{pos}
 use lib.ListN.{length}
-use Rattle.answers.specs.declared.BlockAnswer.{BlockAnswer}
-use Rattle.answers.specs.declared.BlockAnswer.TheVariants.{Ended, Failed}
+use Rattle.answers.specs.Numbers.{BlockAnswer}
 use Rattle.answers.specs.declared.Refusal.{Refusal}
 use Rattle.answers.specs.declared.Refusal.TheVariants.{DriveHeld, UibMisplaced}
 use Rattle.geometry.specs.declared.Geometry.{Geometry}
 use Rattle.geometry.specs.Drive.{B}
 use Rattle.geometry.specs.Limits.{Within}
-use Rattle.unit.specs.declared.Holder.{Holder}
-use Rattle.unit.specs.Holding.{reserved_by}
+use Rattle.unit.specs.Holding.{Holder, reserved_by}
 use Rattle.unit.specs.Standing.{CountsAsInitialized, UnitRecord, fresh, geometry, held_by, pairs, table}
 use Rattle.unit.proofs.Kept.{fresh_counts, mapped_counts, moved_counts}
 use Rattle.wire.proofs.Promises.{never}
@@ -24,8 +23,6 @@ use Rattle.judge.specs.declared.Leaving.{Leaving}
 use Rattle.judge.specs.declared.Leaving.TheVariants.{AsItWas, HeadsAt, HeadsAtLastTried, Fresh, Mapped}
 use Rattle.judge.specs.declared.Plan.{Plan}
 use Rattle.judge.specs.declared.Report.{Report}
-use Rattle.judge.specs.declared.Verdict.{Verdict}
-use Rattle.judge.specs.declared.Verdict.TheVariants.{Refused, Do}
 use Rattle.judge.specs.Plans.{plan_of}
 use Rattle.judge.specs.Fits.{LeavingFits}
 use Rattle.judge.specs.Given.{on}
@@ -33,8 +30,6 @@ use Rattle.judge.specs.Verdict.{verdict}
 use Rattle.judge.proofs.LetThrough.{own_plan}
 use Rattle.judge.proofs.Tasks.{own_unless_held, shape_misplaced}
 use Rattle.iopb.specs.Ask.{pair_of, shape_at, task_of}
-use Rattle.request.specs.declared.Shape.{Shape}
-use Rattle.request.specs.declared.Shape.TheVariants.{Given, Misplaced}
 use Rattle.request.specs.declared.Task.{Task}
 use Rattle.request.specs.declared.Task.TheVariants.{Initialize, Map}
 use Rattle.unit.specs.declared.UnitNumber.{UnitNumber}
@@ -47,7 +42,7 @@ use Rattle.block.proofs.Effects.{finished_by}
 use Rattle.block.proofs.Held.{held_counts}
 use Rattle.block.proofs.Kept.{still_counts, still_long}
 use Rattle.board.specs.Chain.{ran}
-use Rattle.demands.specs.Footprint.{Renews, Some, asked_of, leaving_of, named_drive, names, verdict_of}
+use Rattle.demands.specs.Footprint.{Renews, SomeBlock, asked_of, leaving_of, named_drive, names, verdict_of}
 use Rattle.demands.specs.Tables.{AddsItsPair, Maps, ReachedByCommands}
 use Rattle.demands.specs.Tables.ReachedByCommands.{by_85, by_87, heads_moved, holder_changed}
 use Rattle.demands.specs.Visits.{Visit, block_of, effect_of, fetched_by, world_left}
@@ -64,23 +59,23 @@ unfolding data_on progress up_to
 nothing_stored image host u = ap (λ (n : ℕ). up_to n (move_at (transfer_of host u Nothing))) (zero-mul (B (geometry u)))
 
 -- What a block comes to, by the verdict on it.
-abbrev comes_to : Visit → Verdict → Effect
+abbrev comes_to : Visit → Result Plan Refusal → Effect
 comes_to v x = finished_by v.world.controller v.world.host (named_drive v) v.at v.index x
 
 -- An 85 that is let through adds its pair, and nothing else changes but the holder.
-pub adds_its_pair : (v : Visit) (p : Plan) → (block_of v).command ≡ 0x85 → verdict_of v ≡ Do p → AddsItsPair v (pair_of (block_of v))
+pub adds_its_pair : (v : Visit) (p : Plan) → (block_of v).command ≡ 0x85 → verdict_of v ≡ Ok p → AddsItsPair v (pair_of (block_of v))
 unfolding task_of progress bytes_from
 adds_its_pair v p is accepted =
     let task : (asked_of v).task ≡ Map (pair_of (block_of v)) = rw is in
     let plan : p ≡ plan_of (named_drive v).unit (Map (pair_of (block_of v))) = own_plan (asked_of v) p accepted ∙ ap (plan_of (named_drive v).unit) task in
-    let effect : effect_of v ≡ comes_to v (Do (plan_of (named_drive v).unit (Map (pair_of (block_of v))))) =
-    effect_is v ∙ ap (comes_to v) (accepted ∙ ap Verdict.Do plan) in
+    let effect : effect_of v ≡ comes_to v (Ok (plan_of (named_drive v).unit (Map (pair_of (block_of v))))) =
+    effect_is v ∙ ap (comes_to v) (accepted ∙ ap Ok plan) in
     record {
       ended = ap (λ (e : Effect). e.answer) effect;
       sectors = ap (λ (e : Effect). e.sectors) effect;
       stores =
           ap (λ (e : Effect). e.stores) effect
-          ∙ ap (λ (ss : List Store). (begun v.at ++ ss ++ reported v.at Report.Nothing) ++ finish (block_of v) v.at v.index Ended (pos 0))
+          ∙ ap (λ (ss : List Store). (begun v.at ++ ss ++ reported v.at Report.Nothing) ++ finish (block_of v) v.at v.index (Ok tt) (pos 0))
           (nothing_stored (named_drive v).image v.world.host (named_drive v).unit);
       unit = ap (λ (e : Effect). e.unit) effect;
     }
@@ -154,7 +149,7 @@ block_keeps_table v n none =
 
 pub run_keeps_table :
     (first allowance : ℕ) (w : World) (n : UnitNumber) →
-    (Some (λ v. (names v ≡ n) × (Renews (asked_of v) ⊎ Maps (asked_of v))) (fetched_by first allowance w) → ⊥) →
+    (SomeBlock (λ v. (names v ≡ n) × (Renews (asked_of v) ⊎ Maps (asked_of v))) (fetched_by first allowance w) → ⊥) →
     pairs_and_tracks (drive_of (ran first allowance w).world n).unit ≡ pairs_and_tracks (drive_of w n).unit
 run_keeps_table first allowance w n none =
     run_keeps (λ x. pairs_and_tracks (drive_of x n).unit) first allowance w (λ v. (names v ≡ n) × (Renews (asked_of v) ⊎ Maps (asked_of v)))
@@ -164,43 +159,43 @@ run_keeps_table first allowance w n none =
 
 -- "A successful 87 clears the table" (02, K5): an 87 that ends 80 had its UIB in host memory and inside the limits, and leaves a new record of the
 -- geometry that stands there.
-module _ (v : Visit) (is : (block_of v).command ≡ 0x87) (ended : (effect_of v).answer ≡ Ended) where
-  abbrev shape : Shape
+module _ (v : Visit) (is : (block_of v).command ≡ 0x87) (ended : (effect_of v).answer ≡ Ok tt) where
+  abbrev shape : Option Geometry
   shape = shape_at v.world.host (block_of v).address
 
   task_is : (asked_of v).task ≡ Initialize shape
   unfolding task_of
   task_is = rw is
 
-  not_refused : (r : Refusal) → verdict_of v ≡ Refused r → ⊥
+  not_refused : (r : Refusal) → verdict_of v ≡ Err r → ⊥
   not_refused r so =
-      let failed : (effect_of v).answer ≡ Failed r =
-      ap (λ (e : Effect). e.answer) (effect_is v) ∙ ap (λ (x : Verdict). (acted_on v.world.host (named_drive v) v.at x).answer) so in
+      let failed : (effect_of v).answer ≡ Err r =
+      ap (λ (e : Effect). e.answer) (effect_is v) ∙ ap (λ (x : Result Plan Refusal). (acted_on v.world.host (named_drive v) v.at x).answer) so in
       never (cc (ended, failed))
 
-  renews : (g : Geometry) × ((shape ≡ Given g) × (leaving_of (verdict_of v) ≡ Fresh g))
+  renews : (g : Geometry) × ((shape ≡ Some g) × (leaving_of (verdict_of v) ≡ Fresh g))
   renews = by_verdict (verdict_of v) refl
     where
       by_shape :
-          (p : Plan) → verdict_of v ≡ Do p → (s : Shape) → shape ≡ s → (g : Geometry) × ((shape ≡ Given g) × (leaving_of (verdict_of v) ≡ Fresh g))
-      by_shape p so Misplaced same =
+          (p : Plan) → verdict_of v ≡ Ok p → (s : Option Geometry) → shape ≡ s → (g : Geometry) × ((shape ≡ Some g) × (leaving_of (verdict_of v) ≡ Fresh g))
+      by_shape p so None same =
           absurd
           (⊎_elim (λ held. not_refused DriveHeld (as_task ∙ held))
           (λ own. not_refused UibMisplaced (as_task ∙ own ∙ shape_misplaced v.world.controller (named_drive v).unit (asked_of v).image v.world.host))
-          (own_unless_held v.world.controller (named_drive v).unit (asked_of v).image v.world.host (Initialize Misplaced) tt))
+          (own_unless_held v.world.controller (named_drive v).unit (asked_of v).image v.world.host (Initialize None) tt))
         where
-          as_task : verdict_of v ≡ verdict (on v.world.controller (named_drive v).unit (asked_of v).image (Initialize Misplaced) v.world.host)
+          as_task : verdict_of v ≡ verdict (on v.world.controller (named_drive v).unit (asked_of v).image (Initialize None) v.world.host)
           as_task =
               ap (λ (t : Task). verdict (on v.world.controller (named_drive v).unit (asked_of v).image t v.world.host)) (task_is ∙ ap Task.Initialize same)
-      by_shape p so (Given g) same =
+      by_shape p so (Some g) same =
           let plan = own_plan (asked_of v) p so ∙ ap (plan_of (named_drive v).unit) (task_is ∙ ap Task.Initialize same) in
           (g, (same, ap leaving_of so ∙ ap (λ (p : Plan). p.leaving) plan))
 
-      by_verdict : (x : Verdict) → verdict_of v ≡ x → (g : Geometry) × ((shape ≡ Given g) × (leaving_of (verdict_of v) ≡ Fresh g))
-      by_verdict (Refused r) so = absurd (not_refused r so)
-      by_verdict (Do p) so = by_shape p so shape refl
+      by_verdict : (x : Result Plan Refusal) → verdict_of v ≡ x → (g : Geometry) × ((shape ≡ Some g) × (leaving_of (verdict_of v) ≡ Fresh g))
+      by_verdict (Err r) so = absurd (not_refused r so)
+      by_verdict (Ok p) so = by_shape p so shape refl
 
-  pub accepted_87_clears : (g : Geometry) × ((shape ≡ Given g) × (Within g × ((drive_of (world_left v) (names v)).unit ≡ held_by (fresh g) (reserved_by v.world.controller (block_of v).options.reserve))))
+  pub accepted_87_clears : (g : Geometry) × ((shape ≡ Some g) × (Within g × ((drive_of (world_left v) (names v)).unit ≡ held_by (fresh g) (reserved_by v.world.controller (block_of v).options.reserve))))
   accepted_87_clears =
       let leaves = renews.1.1 in (
         renews.0,

@@ -1,6 +1,8 @@
 -- "Nobody could say which half was true" (00, of version two): after a block that read from the disk, the host has the disk's bytes
 -- for the sectors that the count says, and nothing of the rest.
 -- The data stand between the 81 00 and the finish, and of host memory these two write word 1 alone.
+use Rattle.answers.specs.declared.Refusal.{Refusal}
+use Rattle.std.proofs.Common.{Err, Ok, Result}
 use Prim.Native.Nat.{ℕ, ◌+◌, ◌*◌, ◌<◌}
 use mathlib.Core.Bool.{true, false≢true}
 use mathlib.Core.List.{List, [], ◌∷◌, ◌++◌, append-nil}
@@ -13,8 +15,6 @@ use Rattle.judge.specs.declared.Moving.{Moving}
 use Rattle.judge.specs.declared.Moving.TheVariants.{Nothing, Sectors, Track}
 use Rattle.judge.specs.declared.Plan.{Plan}
 use Rattle.judge.specs.declared.Report.{Report}
-use Rattle.judge.specs.declared.Verdict.{Verdict}
-use Rattle.judge.specs.declared.Verdict.TheVariants.{Refused, Do}
 use Rattle.judge.proofs.LetThrough.{quiet_let_through}
 use Rattle.transfer.specs.Data.{Transfer, data_on, disk_byte, progress_on}
 use Rattle.transfer.specs.Stores.{Buffers, Store, after, bytes_from}
@@ -37,22 +37,22 @@ module _ (v : Visit) (reads : (transfer_by (asked_of v)).to_host ≡ true) where
 
   record Read : Type 0 where
     plan : Plan
-    judged_so : verdict_of v ≡ Do plan
+    judged_so : verdict_of v ≡ Ok plan
     silent : plan.report ≡ Report.Nothing
 
   accepted : Read
   accepted = by_verdict (verdict_of v) refl
     where
       by_moving :
-          (plan : Plan) → verdict_of v ≡ Do plan → (m : Moving) → plan.moving ≡ m →
+          (plan : Plan) → verdict_of v ≡ Ok plan → (m : Moving) → plan.moving ≡ m →
           (transfer_of v.world.host (named_drive v).unit m).to_host ≡ true → plan.report ≡ Report.Nothing
       by_moving plan is Nothing moves to = absurd (false≢true to)
       by_moving plan is (Sectors j) moves to = quiet_let_through (asked_of v) plan j is moves
       by_moving plan is (Track spot at) moves to = absurd (false≢true to)
 
-      by_verdict : (verd : Verdict) → verdict_of v ≡ verd → Read
-      by_verdict (Refused r) is = absurd (false≢true (rw is at reads))
-      by_verdict (Do plan) is = record { plan = plan; judged_so = is; silent = by_moving plan is plan.moving refl (rw is at reads) }
+      by_verdict : (verd : Result Plan Refusal) → verdict_of v ≡ verd → Read
+      by_verdict (Err r) is = absurd (false≢true (rw is at reads))
+      by_verdict (Ok plan) is = record { plan = plan; judged_so = is; silent = by_moving plan is plan.moving refl (rw is at reads) }
 
   no_words : (x : ℕ) → InReport v.at (report_of (verdict_of v)) x → ⊥
   no_words x = subst (λ (r : Report). InReport v.at r x) (ap report_of accepted.judged_so ∙ accepted.silent)
@@ -85,10 +85,10 @@ module _ (v : Visit) (reads : (transfer_by (asked_of v)).to_host ≡ true) where
     stores_are : (performance v).stores ≡ begun v.at ++ data_on (named_drive v).image t
     unfolding bytes_from
     stores_are =
-        ap (λ (verd : Verdict). (acted_on v.world.host (named_drive v) v.at verd).stores) accepted.judged_so
+        ap (λ (verd : Result Plan Refusal). (acted_on v.world.host (named_drive v) v.at verd).stores) accepted.judged_so
         ∙ ap (λ (r : Report). begun v.at ++ data_on (named_drive v).image (transfer_of v.world.host (named_drive v).unit accepted.plan.moving) ++ reported v.at r) accepted.silent
         ∙ append-nil _
-        ∙ ap (λ (verd : Verdict). begun v.at ++ data_on (named_drive v).image (transfer_of v.world.host (named_drive v).unit (moving_of verd))) (sym accepted.judged_so)
+        ∙ ap (λ (verd : Result Plan Refusal). begun v.at ++ data_on (named_drive v).image (transfer_of v.world.host (named_drive v).unit (moving_of verd))) (sym accepted.judged_so)
 
     data_there :
         (b : Buffers) → b.image ≡ (named_drive v).image → length b.host ≡ length v.world.host →

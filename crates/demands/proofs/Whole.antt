@@ -1,6 +1,8 @@
 -- An accepted 82, A2 or 8C ends 80 with all its sectors, and the disk then has the host's bytes in each of them, where no two stand in one place: the
 -- counterpart, for writes, of what version two could not say (00).
 -- A write heeds no mark, so its transfer comes whole; of its stores the data alone reach the image, and they are taken once 81 00 is stored.
+use Rattle.answers.specs.declared.Refusal.{Refusal}
+use Rattle.std.proofs.Common.{Ok, Result}
 use Prim.Native.Nat.{ℕ, ◌+◌, ◌*◌, ◌<◌}
 use mathlib.Core.Bool.{false}
 use mathlib.Core.List.{List, [], ◌∷◌, ◌++◌}
@@ -8,14 +10,11 @@ use mathlib.Core.Logic.{◌⊎◌, inl, inr}
 use mathlib.Core.Path.{◌≡◌, refl, sym, ap, ◌∙◌}
 use lib.ListN.{get_or}
 use lib.Seq.{sets}
-use Rattle.answers.specs.declared.BlockAnswer.TheVariants.{Ended}
 use Rattle.geometry.specs.Drive.{B, S}
 use Rattle.iopb.specs.Ask.{task_at, task_of, tasks}
 use Rattle.judge.specs.declared.Moving.{Moving}
 use Rattle.judge.specs.declared.Moving.TheVariants.{Nothing, Sectors, Track}
 use Rattle.judge.specs.declared.Plan.{Plan}
-use Rattle.judge.specs.declared.Verdict.{Verdict}
-use Rattle.judge.specs.declared.Verdict.TheVariants.{Do}
 use Rattle.judge.specs.Plans.{plan_of}
 use Rattle.judge.proofs.LetThrough.{own_plan}
 use Rattle.request.specs.declared.Task.{Task}
@@ -41,7 +40,7 @@ use Rattle.board.specs.World.{buffers_of, drive_of}
 abbrev pub marked_host : Visit → List ℕ
 marked_host v = sets v.world.host (v.at + 2) (0x81 ∷ 0x00 ∷ [])
 
-module _ (v : Visit) (plan : Plan) (accepted : verdict_of v ≡ Do plan) (writes : (transfer_by (asked_of v)).to_host ≡ false) where
+module _ (v : Visit) (plan : Plan) (accepted : verdict_of v ≡ Ok plan) (writes : (transfer_by (asked_of v)).to_host ≡ false) where
   abbrev t : Transfer
   t = transfer_by (asked_of v)
 
@@ -56,12 +55,12 @@ module _ (v : Visit) (plan : Plan) (accepted : verdict_of v ≡ Do plan) (writes
       by_moving (Sectors j) out = rw out
       by_moving (Track spot at) out = refl
 
-  pub write_ends_whole : ((effect_of v).answer ≡ Ended) × ((effect_of v).sectors ≡ t.count)
+  pub write_ends_whole : ((effect_of v).answer ≡ Ok tt) × ((effect_of v).sectors ≡ t.count)
   write_ends_whole =
       let whole = whole_unheeding (named_drive v).image t ignores in
-      let judged_so : (acted_on v.world.host (named_drive v) v.at (verdict_of v)).answer ≡ Ended =
-      ap (λ (verd : Verdict). (acted_on v.world.host (named_drive v) v.at verd).answer) accepted
-      ∙ ap (λ (verd : Verdict). (progress_on (named_drive v).image (transfer_of v.world.host (named_drive v).unit (moving_of verd))).answer) (sym accepted)
+      let judged_so : (acted_on v.world.host (named_drive v) v.at (verdict_of v)).answer ≡ (Ok tt) =
+      ap (λ (verd : Result Plan Refusal). (acted_on v.world.host (named_drive v) v.at verd).answer) accepted
+      ∙ ap (λ (verd : Result Plan Refusal). (progress_on (named_drive v).image (transfer_of v.world.host (named_drive v).unit (moving_of verd))).answer) (sym accepted)
       ∙ ap (λ (p : Progress). p.answer) whole in
       (ap (λ (e : Effect). e.answer) (effect_is v) ∙ judged_so, sym (sectors_come v) ∙ ap (λ (p : Progress). p.sectors) whole)
 
@@ -93,13 +92,13 @@ module _ (v : Visit) (plan : Plan) (accepted : verdict_of v ≡ Do plan) (writes
 
 -- ---- by command
 
-module _ (v : Visit) (plan : Plan) (accepted : verdict_of v ≡ Do plan) where
+module _ (v : Visit) (plan : Plan) (accepted : verdict_of v ≡ Ok plan) where
   -- What is let through is what its command asks.
   its_transfer :
       (task : Task) → task_of v.world.host (block_of v) ≡ task →
       transfer_by (asked_of v) ≡ transfer_of v.world.host (named_drive v).unit (plan_of (named_drive v).unit task).moving
   its_transfer task asks =
-      ap (λ (verd : Verdict). transfer_of v.world.host (named_drive v).unit (moving_of verd)) (accepted ∙ ap Do (own_plan (asked_of v) plan accepted))
+      ap (λ (verd : Result Plan Refusal). transfer_of v.world.host (named_drive v).unit (moving_of verd)) (accepted ∙ ap Ok (own_plan (asked_of v) plan accepted))
       ∙ ap (λ (x : Task). transfer_of v.world.host (named_drive v).unit (plan_of (named_drive v).unit x).moving) asks
 
   -- A transfer that writes so many sectors.
@@ -125,13 +124,13 @@ module _ (v : Visit) (plan : Plan) (accepted : verdict_of v ≡ Do plan) where
   by_8C : (block_of v).command ≡ 0x8c → Writing (S (geometry (named_drive v).unit))
   by_8C is = writing _ _ (asks 0x8c is) refl refl
 
-  ended_with : (n : ℕ) → Writing n → ((effect_of v).answer ≡ Ended) × ((effect_of v).sectors ≡ n)
+  ended_with : (n : ℕ) → Writing n → ((effect_of v).answer ≡ Ok tt) × ((effect_of v).sectors ≡ n)
   ended_with n (out, all) = let ends = write_ends_whole v plan accepted out in (ends.0, ends.1 ∙ all)
 
   pub accepted_write_is_whole :
-      ((block_of v).command ≡ 0x82) ⊎ ((block_of v).command ≡ 0xa2) → ((effect_of v).answer ≡ Ended) × ((effect_of v).sectors ≡ (block_of v).count)
+      ((block_of v).command ≡ 0x82) ⊎ ((block_of v).command ≡ 0xa2) → ((effect_of v).answer ≡ Ok tt) × ((effect_of v).sectors ≡ (block_of v).count)
   accepted_write_is_whole is = ended_with _ (by_82_or_A2 is)
 
   -- "8C counts S" (01, One run)
-  pub accepted_8C_counts_S : (block_of v).command ≡ 0x8c → ((effect_of v).answer ≡ Ended) × ((effect_of v).sectors ≡ S (geometry (named_drive v).unit))
+  pub accepted_8C_counts_S : (block_of v).command ≡ 0x8c → ((effect_of v).answer ≡ Ok tt) × ((effect_of v).sectors ≡ S (geometry (named_drive v).unit))
   accepted_8C_counts_S is = ended_with _ (by_8C is)

@@ -1,5 +1,8 @@
 -- The footprint is exact: a byte is written, in the paper's words, exactly where some store of the block has it as its target.
 -- The stores are taken apart by movement: what performing stores, the 81 00, the data and the words reported, and then the finish.
+use Rattle.answers.specs.declared.Refusal.{Refusal}
+use Rattle.judge.specs.declared.Plan.{Plan}
+use Rattle.std.proofs.Common.{Err, Ok, Result}
 use Prim.Native.Nat.{ℕ, ◌+◌, ◌-◌, ◌*◌, ◌<◌}
 use mathlib.Core.Bool.{Bool, true, false}
 use mathlib.Core.List.{List, [], ◌∷◌, ◌++◌}
@@ -11,16 +14,13 @@ use lib.IntN.{ℤ}
 use lib.ListN.{get_or, length}
 use Rattle.wire.specs.Among.{Among}
 use Rattle.wire.proofs.Promises.{never}
-use Rattle.answers.specs.declared.BlockAnswer.{BlockAnswer}
-use Rattle.answers.specs.Numbers.{status_of}
+use Rattle.answers.specs.Numbers.{BlockAnswer, status_of}
 use Rattle.geometry.specs.Drive.{B}
 use Rattle.iopb.specs.declared.Block.{Block}
 use Rattle.iopb.specs.Errors.{error_byte}
 use Rattle.iopb.specs.Identity.{identity_bytes}
 use Rattle.judge.specs.declared.Report.{Report}
 use Rattle.judge.specs.declared.Report.TheVariants.{Nothing as Silent, Identity, Formatted}
-use Rattle.judge.specs.declared.Verdict.{Verdict}
-use Rattle.judge.specs.declared.Verdict.TheVariants.{Refused, Do}
 use Rattle.transfer.specs.Data.{Transfer, data_on, disk_byte, move_at, progress_on}
 use Rattle.transfer.specs.Progress.{progress}
 use Rattle.transfer.specs.Stores.{Buffers, ByteAt, Store, after, bytes_from, event_byte, host_byte, image_byte, up_to}
@@ -198,20 +198,20 @@ module _ (b : Block) (at i : ℕ) (answer : BlockAnswer) (travel : ℤ) where
 -- ---- what performing writes
 
 module _ (host : List ℕ) (d : Drive) (at : ℕ) where
-  abbrev transferred : Verdict → Transfer
+  abbrev transferred : Result Plan Refusal → Transfer
   transferred verd = transfer_of host d.unit (moving_of verd)
 
-  abbrev data_stores : Verdict → List Store
+  abbrev data_stores : Result Plan Refusal → List Store
   data_stores verd = data_on d.image (transferred verd)
 
-  abbrev stores : Verdict → List Store
+  abbrev stores : Result Plan Refusal → List Store
   stores verd = (acted_on host d at verd).stores
 
   -- How far a block's transfer comes is what the block says: of a refused one, not at all.
-  pub comes_to_lem : (verd : Verdict) → (progress_on d.image (transferred verd)).sectors ≡ (acted_on host d at verd).sectors
+  pub comes_to_lem : (verd : Result Plan Refusal) → (progress_on d.image (transferred verd)).sectors ≡ (acted_on host d at verd).sectors
   unfolding progress
-  comes_to_lem (Refused r) = refl
-  comes_to_lem (Do plan) = refl
+  comes_to_lem (Err r) = refl
+  comes_to_lem (Ok plan) = refl
 
   of_three : (xs ys zs : List Store) (c : ByteAt) → Stored (xs ++ ys ++ zs) c → Stored xs c ⊎ (Stored ys c ⊎ Stored zs c)
   of_three xs ys zs c there =
@@ -224,52 +224,52 @@ module _ (host : List ℕ) (d : Drive) (at : ℕ) where
   three_of xs ys zs c (inr (inr z)) = append_stored (xs ++ ys) zs c (inr z)
 
   module _ (x : ℕ) where
-    Lines : Verdict → Type 0
+    Lines : Result Plan Refusal → Type 0
     Lines verd =
         Among (at + 2) 2 x ⊎ (Stored (data_stores verd) (host_byte x) ⊎ InReport at (report_of verd) x)
 
-    performs_host : (verd : Verdict) → Stored (stores verd) (host_byte x) → Lines verd
+    performs_host : (verd : Result Plan Refusal) → Stored (stores verd) (host_byte x) → Lines verd
     unfolding Lines Stored
-    performs_host (Refused r) there = absurd there
-    performs_host (Do plan) there =
+    performs_host (Err r) there = absurd there
+    performs_host (Ok plan) there =
         ⊎_elim (λ word. inl (of_host_row (at + 2) (0x81 ∷ 0x00 ∷ []) x word))
         (λ rest. inr (⊎_elim (λ d. inl d) (λ w. inr (of_report at plan.report x w)) rest))
-        (of_three (begun at) (data_stores (Do plan)) (reported at plan.report) (host_byte x) there)
+        (of_three (begun at) (data_stores (Ok plan)) (reported at plan.report) (host_byte x) there)
 
     -- What is moved and what is reported are stored by performing; a refused block has neither.
-    host_data_performed : (verd : Verdict) → Stored (data_stores verd) (host_byte x) → Stored (stores verd) (host_byte x)
+    host_data_performed : (verd : Result Plan Refusal) → Stored (data_stores verd) (host_byte x) → Stored (stores verd) (host_byte x)
     unfolding Stored data_on progress up_to
-    host_data_performed (Refused r) there = rw zero-mul at there
-    host_data_performed (Do plan) there =
-        three_of (begun at) (data_stores (Do plan)) (reported at plan.report) (host_byte x) (inr (inl there))
+    host_data_performed (Err r) there = rw zero-mul at there
+    host_data_performed (Ok plan) there =
+        three_of (begun at) (data_stores (Ok plan)) (reported at plan.report) (host_byte x) (inr (inl there))
 
-    words_performed : (verd : Verdict) → InReport at (report_of verd) x → Stored (stores verd) (host_byte x)
-    words_performed (Refused r) none = absurd none
-    words_performed (Do plan) among =
-        three_of (begun at) (data_stores (Do plan)) (reported at plan.report) (host_byte x) (inr (inr (in_report at plan.report x among)))
+    words_performed : (verd : Result Plan Refusal) → InReport at (report_of verd) x → Stored (stores verd) (host_byte x)
+    words_performed (Err r) none = absurd none
+    words_performed (Ok plan) among =
+        three_of (begun at) (data_stores (Ok plan)) (reported at plan.report) (host_byte x) (inr (inr (in_report at plan.report x among)))
 
-    performs_image : (verd : Verdict) → Stored (stores verd) (image_byte x) → Stored (data_stores verd) (image_byte x)
+    performs_image : (verd : Result Plan Refusal) → Stored (stores verd) (image_byte x) → Stored (data_stores verd) (image_byte x)
     unfolding Stored kind
-    performs_image (Refused r) there = absurd there
-    performs_image (Do plan) there =
+    performs_image (Err r) there = absurd there
+    performs_image (Ok plan) there =
         ⊎_elim (λ word. absurd (other_kind host_byte (at + 2) (0x81 ∷ 0x00 ∷ []) (image_byte x) (λ y e. omega arith) word))
         (λ rest. ⊎_elim (λ d. d) (λ w. absurd (none_elsewhere at plan.report (image_byte x) (λ y e. omega arith) w)) rest)
-        (of_three (begun at) (data_stores (Do plan)) (reported at plan.report) (image_byte x) there)
+        (of_three (begun at) (data_stores (Ok plan)) (reported at plan.report) (image_byte x) there)
 
-    image_data_performed : (verd : Verdict) → Stored (data_stores verd) (image_byte x) → Stored (stores verd) (image_byte x)
+    image_data_performed : (verd : Result Plan Refusal) → Stored (data_stores verd) (image_byte x) → Stored (stores verd) (image_byte x)
     unfolding Stored data_on progress up_to
-    image_data_performed (Refused r) there = rw zero-mul at there
-    image_data_performed (Do plan) there =
-        three_of (begun at) (data_stores (Do plan)) (reported at plan.report) (image_byte x) (inr (inl there))
+    image_data_performed (Err r) there = rw zero-mul at there
+    image_data_performed (Ok plan) there =
+        three_of (begun at) (data_stores (Ok plan)) (reported at plan.report) (image_byte x) (inr (inl there))
 
-    performs_no_event : (verd : Verdict) → Stored (stores verd) (event_byte x) → ⊥
+    performs_no_event : (verd : Result Plan Refusal) → Stored (stores verd) (event_byte x) → ⊥
     unfolding Stored kind
-    performs_no_event (Refused r) there = there
-    performs_no_event (Do plan) there =
+    performs_no_event (Err r) there = there
+    performs_no_event (Ok plan) there =
         ⊎_elim (λ word. other_kind host_byte (at + 2) (0x81 ∷ 0x00 ∷ []) (event_byte x) (λ y e. omega arith) word)
         (λ rest.
-        ⊎_elim (λ m. no_event d.image (transferred (Do plan)) x m) (λ w. none_elsewhere at plan.report (event_byte x) (λ y e. omega arith) w) rest)
-        (of_three (begun at) (data_stores (Do plan)) (reported at plan.report) (event_byte x) there)
+        ⊎_elim (λ m. no_event d.image (transferred (Ok plan)) x m) (λ w. none_elsewhere at plan.report (event_byte x) (λ y e. omega arith) w) rest)
+        (of_three (begun at) (data_stores (Ok plan)) (reported at plan.report) (event_byte x) there)
 
 -- ---- a block
 

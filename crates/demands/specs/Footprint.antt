@@ -1,7 +1,9 @@
 -- Which unit a block names, what it reads of host memory and what it writes (01, One run: "Host bytes read, for demand 3: .. Written: .."), and what all
 -- blocks of a run do. Written is proved to be what some store has as its target (proofs/Written): "A byte stored with the number it already had is
 -- written." Of UIB and list, read is proved to be what judging looks at (proofs/Read).
-use Rattle.std.specs.Prelude.{ℕ, ◌+◌, ◌*◌, ◌≤◌, ◌<◌, Bool, true, false, List, [], ◌∷◌, ◌⊎◌, ◌≡◌, T, length}
+use Rattle.answers.specs.declared.Refusal.{Refusal}
+use Rattle.judge.specs.declared.Plan.{Plan}
+use Rattle.std.specs.Prelude.{ℕ, ◌+◌, ◌*◌, ◌≤◌, ◌<◌, Bool, true, false, List, [], ◌∷◌, ◌⊎◌, ◌≡◌, T, length, Err, Ok, Result}
 use Rattle.wire.specs.Among.{Among}
 use Rattle.wire.specs.Memory.{InMemory}
 use Rattle.geometry.specs.declared.Geometry.{Geometry}
@@ -13,8 +15,6 @@ use Rattle.judge.specs.declared.Leaving.TheVariants.{AsItWas, HeadsAt, HeadsAtLa
 use Rattle.judge.specs.declared.Moving.{Moving}
 use Rattle.judge.specs.declared.Report.{Report}
 use Rattle.judge.specs.declared.Report.TheVariants.{Nothing as Silent, Identity, Formatted}
-use Rattle.judge.specs.declared.Verdict.{Verdict}
-use Rattle.judge.specs.declared.Verdict.TheVariants.{Refused, Do}
 use Rattle.judge.specs.Given.{Asked, on}
 use Rattle.judge.specs.Table.{Unanswered, lines_before, one_of, paper}
 use Rattle.judge.specs.Verdict.{verdict}
@@ -27,17 +27,17 @@ use Rattle.demands.specs.Visits.{Visit, block_of, fetched_by}
 use Rattle.board.specs.World.{World, drive_of, unit_at}
 
 -- What a verdict has moved, reported and left: a refused block moves nothing, reports nothing and leaves the record as it was.
-abbrev pub moving_of : Verdict → Moving
-moving_of (Refused r) = Moving.Nothing
-moving_of (Do plan) = plan.moving
+abbrev pub moving_of : Result Plan Refusal → Moving
+moving_of (Err r) = Moving.Nothing
+moving_of (Ok plan) = plan.moving
 
-abbrev pub report_of : Verdict → Report
-report_of (Refused r) = Silent
-report_of (Do plan) = plan.report
+abbrev pub report_of : Result Plan Refusal → Report
+report_of (Err r) = Silent
+report_of (Ok plan) = plan.report
 
-abbrev pub leaving_of : Verdict → Leaving
-leaving_of (Refused r) = AsItWas
-leaving_of (Do plan) = plan.leaving
+abbrev pub leaving_of : Result Plan Refusal → Leaving
+leaving_of (Err r) = AsItWas
+leaving_of (Ok plan) = plan.leaving
 
 -- ---- of what is judged, on a drive
 
@@ -138,7 +138,7 @@ named_drive v = drive_of v.world (names v)
 abbrev pub asked_of : Visit → Asked
 asked_of v = on v.world.controller (named_drive v).unit (length (named_drive v).image) (task_of v.world.host (block_of v)) v.world.host
 
-abbrev pub verdict_of : Visit → Verdict
+abbrev pub verdict_of : Visit → Result Plan Refusal
 verdict_of v = verdict (asked_of v)
 
 -- What it reads of host memory; and what it writes of it and of its unit's image, and in the event buffer: "the 8 bytes at 8(k - 1)", its index being k - 1.
@@ -158,26 +158,26 @@ abbrev pub WritesRecord : Visit → Type 0
 WritesRecord v = RecordWritten (asked_of v)
 
 -- Some block of a list does.
-abbrev pub Some : (Visit → Type 0) → List Visit → Type 0
-Some P [] = ⊥
-Some P (v ∷ vs) = P v ⊎ Some P vs
+abbrev pub SomeBlock : (Visit → Type 0) → List Visit → Type 0
+SomeBlock P [] = ⊥
+SomeBlock P (v ∷ vs) = P v ⊎ SomeBlock P vs
 
 -- What a run does: some block that it fetches does. Of images and records it is said unit by unit.
 module _ (first allowance : ℕ) (w : World) where
   abbrev pub RunNames : UnitNumber → Type 0
-  RunNames n = Some (λ v. names v ≡ n) (fetched_by first allowance w)
+  RunNames n = SomeBlock (λ v. names v ≡ n) (fetched_by first allowance w)
 
   abbrev pub RunReads : ℕ → Type 0
-  RunReads x = Some (λ v. ReadsHost v x) (fetched_by first allowance w)
+  RunReads x = SomeBlock (λ v. ReadsHost v x) (fetched_by first allowance w)
 
   abbrev pub RunWrites : ℕ → Type 0
-  RunWrites x = Some (λ v. WritesHost v x) (fetched_by first allowance w)
+  RunWrites x = SomeBlock (λ v. WritesHost v x) (fetched_by first allowance w)
 
   abbrev pub RunWritesImage : UnitNumber → ℕ → Type 0
-  RunWritesImage n x = Some (λ v. (names v ≡ n) × WritesImage v x) (fetched_by first allowance w)
+  RunWritesImage n x = SomeBlock (λ v. (names v ≡ n) × WritesImage v x) (fetched_by first allowance w)
 
   abbrev pub RunWritesRecord : UnitNumber → Type 0
-  RunWritesRecord n = Some (λ v. (names v ≡ n) × WritesRecord v) (fetched_by first allowance w)
+  RunWritesRecord n = SomeBlock (λ v. (names v ≡ n) × WritesRecord v) (fetched_by first allowance w)
 
   abbrev pub RunWritesEvents : ℕ → Type 0
-  RunWritesEvents x = Some (λ v. WritesEvents v x) (fetched_by first allowance w)
+  RunWritesEvents x = SomeBlock (λ v. WritesEvents v x) (fetched_by first allowance w)

@@ -1,10 +1,8 @@
 -- What is said of a unit's table of bad tracks: what an 85 does (02, K5), which tables the commands reach, and which sectors a block names and which
 -- bytes it touches (02, K7).
-use Rattle.std.specs.Prelude.{ℕ, ◌+◌, ◌<◌, pos, ◌++◌, ◌≡◌}
-use Rattle.answers.specs.declared.BlockAnswer.TheVariants.{Ended}
+use Rattle.std.specs.Prelude.{ℕ, ◌+◌, ◌<◌, pos, ◌++◌, ◌≡◌, Some, Ok}
 use Rattle.geometry.specs.declared.Address.{Address}
 use Rattle.geometry.specs.declared.Geometry.{Geometry}
-use Rattle.geometry.specs.declared.Number.{Number}
 use Rattle.geometry.specs.Drive.{C, S}
 use Rattle.geometry.specs.Limits.{Within}
 use Rattle.geometry.specs.SectorBytes.{SectorByte}
@@ -17,8 +15,7 @@ use Rattle.judge.specs.declared.Leaving.TheVariants.{Mapped}
 use Rattle.judge.specs.Fits.{PairFits}
 use Rattle.judge.specs.Given.{Asked, bad_number, spare_number, start_number}
 use Rattle.judge.specs.Verdict.{verdict}
-use Rattle.unit.specs.declared.Holder.{Holder}
-use Rattle.unit.specs.Holding.{reserved_by}
+use Rattle.unit.specs.Holding.{Holder, reserved_by}
 use Rattle.unit.specs.Standing.{UnitRecord, fresh, geometry, held_by, mapped, moved_to}
 use Rattle.block.specs.Block.{begun, finish}
 use Rattle.demands.specs.Footprint.{leaving_of, named_drive, transfer_by}
@@ -27,9 +24,9 @@ use Rattle.demands.specs.Visits.{Visit, block_of, effect_of}
 -- A block adds a pair and, the holder apart, does nothing else: "85 moves neither data nor heads". It stores its word 1, twice, and its entry with
 -- travel 0, and the record is the old one with a pair more, and the holder that RV says.
 pub record AddsItsPair (v : Visit) (k : Pair) : Type 0 where
-  pub ended : (effect_of v).answer ≡ Ended
+  pub ended : (effect_of v).answer ≡ Ok tt
   pub sectors : (effect_of v).sectors ≡ 0
-  pub stores : (effect_of v).stores ≡ begun v.at ++ finish (block_of v) v.at v.index Ended (pos 0)
+  pub stores : (effect_of v).stores ≡ begun v.at ++ finish (block_of v) v.at v.index (Ok tt) (pos 0)
   pub unit :
       (effect_of v).unit ≡
       held_by (mapped (named_drive v).unit (bad_number k) (spare_number k)) (reserved_by v.world.controller (block_of v).options.reserve)
@@ -51,7 +48,7 @@ pub data ReachedByCommands : UnitRecord → Type 0 where
 -- counts; of a format those of its track. Commands that move no data name none here, though 8A has an address and 85 two tracks.
 pub data NamesSector (a : Asked) : Address → Type 0 where
   by_number :
-      (m : Move) → a.task ≡ Task.Move m → (n : ℕ) → start_number (geometry a.unit) m.target.volume m.target.start ≡ Number.Is n → (j : ℕ) → j < m.count →
+      (m : Move) → a.task ≡ Task.Move m → (n : ℕ) → start_number (geometry a.unit) m.target.volume m.target.start ≡ Some n → (j : ℕ) → j < m.count →
       NamesSector a (address_of (geometry a.unit) m.target.volume (n + j))
   on_its_track :
       (k : Track) → a.task ≡ Task.Format k → (j : ℕ) → j < S (geometry a.unit) → NamesSector a (address k.cylinder k.head j)

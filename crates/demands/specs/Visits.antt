@@ -1,11 +1,10 @@
 -- The blocks that a chain fetches, in their order, each with the world as it stood when it was fetched. The theorems about a run
 -- speak of these: which block was the last, what all of them read and wrote.
-use Rattle.std.specs.Prelude.{ℕ, zero, suc, ◌+◌, ◌-◌, ◌*◌, ◌≤◌, ◌<◌, Bool, true, false, List, [], ◌∷◌, ◌++◌, ◌≡◌, ℤ, length}
+use Rattle.std.specs.Prelude.{ℕ, zero, suc, ◌+◌, ◌-◌, ◌*◌, ◌≤◌, ◌<◌, Bool, true, false, List, [], ◌∷◌, ◌++◌, ◌≡◌, ℤ, length, Err, Ok}
 use Rattle.std.proofs.Math.Logic.{ite}
 use Rattle.std.proofs.Math.Logic.Dec.{and as dec_and}
 use Rattle.std.proofs.Math.Decide.{dec_le, map_dec}
-use Rattle.answers.specs.declared.BlockAnswer.{BlockAnswer}
-use Rattle.answers.specs.declared.BlockAnswer.TheVariants.{Ended, Failed}
+use Rattle.answers.specs.Numbers.{BlockAnswer}
 use Rattle.answers.specs.declared.Refusal.{Refusal}
 use Rattle.answers.specs.declared.RunAnswer.{RunAnswer}
 use Rattle.answers.specs.declared.RunAnswer.TheVariants.{Done, EventsShort, AllowanceBad, FirstBad, BlockFailed, LinkBad, AllowanceSpent}
@@ -47,9 +46,9 @@ pub record Travelled (v : Visit) : Type 0 where
 
 -- "running it with LK set and status 80 leads to fetching the next"; "A failed block's link isn't followed".
 abbrev pub onwards : BlockAnswer → Bool → List Visit → List Visit
-onwards (Failed r) link rest = []
-onwards Ended false rest = []
-onwards Ended true rest = rest
+onwards (Err r) link rest = []
+onwards (Ok _) false rest = []
+onwards (Ok _) true rest = rest
 
 -- The blocks fetched from an address on, with so much of the allowance left and so many run before: "Each fetch spends one of the
 -- allowance".
@@ -81,7 +80,7 @@ fetched_by first allowance w = ite (passes? first allowance w) (visits allowance
 
 -- One block leads to another: it ended 80 with LK set, and the other is the one at its link, fetched from the world that it left.
 pub record LeadsTo (v x : Visit) : Type 0 where
-  pub ended : (effect_of v).answer ≡ Ended
+  pub ended : (effect_of v).answer ≡ Ok tt
   pub linked : (block_of v).options.link ≡ true
   pub at : x.at ≡ (block_of v).link
   pub index : x.index ≡ v.index + 1
@@ -108,10 +107,10 @@ sectors_of (v ∷ vs) = (effect_of v).sectors + sectors_of vs
 
 -- Of a block that was run: it ended 80, it ended 82, LK is set or not, and its link is "bad as in 3" in the memory that it left.
 abbrev pub Ended80 : Visit → Type 0
-Ended80 v = (effect_of v).answer ≡ Ended
+Ended80 v = (effect_of v).answer ≡ Ok tt
 
 abbrev pub Ended82 : Visit → Type 0
-Ended82 v = (r : Refusal) × ((effect_of v).answer ≡ Failed r)
+Ended82 v = (r : Refusal) × ((effect_of v).answer ≡ Err r)
 
 abbrev pub LinkSet : Visit → Type 0
 LinkSet v = (block_of v).options.link ≡ true

@@ -1,13 +1,12 @@
 -- The statements about a geometry are decided, so that definitions elsewhere can go by cases on them.
 -- Whether the drive or a volume has an address, the answers themselves ask (Answers). The limits on the volumes are decided by their ends, as the program decides them; the rest are comparisons.
+use Rattle.std.proofs.Common.{None, Option, Some}
 use Prim.Native.Nat.{ℕ, ◌+◌, ◌-◌, ◌%◌}
 use mathlib.Core.Logic.Dec
 use mathlib.Core.Logic.{inl, inr, by_cases}
 use native.Mathlib.Decide.{dec_le, dec_lt, map_dec, ℕ_discrete}
 use native.Mathlib.Omega.{arith}
 use Rattle.geometry.specs.declared.Geometry.{Geometry}
-use Rattle.geometry.specs.declared.Number.{Number}
-use Rattle.geometry.specs.declared.Number.TheVariants.{Is, Outside}
 use Rattle.geometry.specs.declared.Volume.{Volume}
 use Rattle.geometry.specs.declared.VolumeNumber.{VolumeNumber}
 use Rattle.geometry.specs.declared.VolumeNumber.TheVariants.{Zero, One}
@@ -47,6 +46,6 @@ pub within? : (g : Geometry) → Dec (Within g)
 within? g =
     map_dec (λ d. record { sizes = d.0; volumes = d.1 }) (λ w. (w.sizes, w.volumes)) (Dec.and (sizes? g) (volumes? g))
 
-pub covers? : (g : Geometry) (v : VolumeNumber) (n : Number) (count : ℕ) → Dec (Covers g v n count)
-covers? g v (Is n) count = Dec.and (dec_lt n (volume_sectors g v)) (dec_lt (n + (count - 1)) (volume_sectors g v))
-covers? g v Outside count = no (λ x. x)
+pub covers? : (g : Geometry) (v : VolumeNumber) (n : Option ℕ) (count : ℕ) → Dec (Covers g v n count)
+covers? g v (Some n) count = Dec.and (dec_lt n (volume_sectors g v)) (dec_lt (n + (count - 1)) (volume_sectors g v))
+covers? g v None count = no (λ x. x)

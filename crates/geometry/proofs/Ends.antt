@@ -76,7 +76,16 @@ module _ (g : Geometry) where
       w.apart e1.0 (max (start v0) (start v1)) (omega arith) (omega arith)
 
   -- So one of two volumes inside the limits ends before the other starts.
-  pub aside_of_within : VolumesWithin g → (end v1 ≤ start v0) ⊎ (end v0 ≤ start v1)
+  aside_of_within : VolumesWithin g → (end v1 ≤ start v0) ⊎ (end v0 ≤ start v1)
   aside_of_within w =
       by_cases (dec_le (end v1) (start v0)) (λ aside. inl aside)
       (λ in1. by_cases (dec_le (end v0) (start v1)) (λ aside. inr aside) (λ in0. absurd (not_aside w (omega arith) (omega arith))))
+
+  -- So volumes are inside the limits where volume 0 has a head, both ends are low, and one ends before the other starts.
+  pub within_of_parts :
+      Present v0 → (end v0 ≤ 64) × (end v1 ≤ 64) → (end v1 ≤ start v0) ⊎ (end v0 ≤ start v1) → VolumesWithin g
+  unfolding Present
+  within_of_parts some low aside = within_of_ends (omega (arith, end_present v0 some)) low.0 low.1 aside
+
+  pub parts_of_within : VolumesWithin g → ((end v0 ≤ 64) × (end v1 ≤ 64)) × ((end v1 ≤ start v0) ⊎ (end v0 ≤ start v1))
+  parts_of_within w = ((low_of_within w Zero, low_of_within w One), aside_of_within w)

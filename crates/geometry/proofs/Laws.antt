@@ -23,7 +23,7 @@ use Rattle.geometry.specs.SectorBytes.SectorByte.{data_at, mark_at}
 use Rattle.geometry.specs.Sectors.Inside.{address_of_is, first_byte_is, mark_byte_is, number_of_is, place_of_is}
 use Rattle.geometry.proofs.Counting.{Digits, counted_back, counted_below, counted_once, cylinder_back, digits_of, head_back, sector_back}
 use Rattle.geometry.proofs.Ends.{end_present, end_reached, heads_of_within, heads_reached}
-use Rattle.geometry.proofs.Orders.{ordered_back, ordered_below, ordered_product}
+use Rattle.geometry.proofs.Orders.{ordered_back, ordered_below, ordered_bounded, ordered_product}
 
 -- ---- over the whole drive
 
@@ -134,6 +134,13 @@ module _ (g : Geometry) (v : VolumeNumber) where
 
     pub digits : Digits each (S g) most n
     digits = digits_of each (S g) most n (rw all_counted at inside)
+
+    -- The number is counted by m of the slower, where the volume has fewer cylinders than m and fewer heads.
+    pub number_below : (m : ℕ) → C g < m → Nv < m → n < m * each * S g
+    number_below m cylinders heads =
+        let few = ordered_bounded (goes_by_head g) (C g, Nv) m cylinders heads in
+        let less : most ≤ m = omega arith in
+        omega (arith, rw all_counted at inside, mul-le-mul_right (S g) (mul-le-mul_right each less))
 
     -- Cylinder and head, counted in the volume, are what the volume has.
     abbrev its_track : ℕ × ℕ

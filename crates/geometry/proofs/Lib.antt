@@ -6,3 +6,4 @@ pub mod Laws
 pub mod Orders
 pub mod Outcomes
 pub mod Same
+pub mod Steps

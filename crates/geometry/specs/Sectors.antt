@@ -1,13 +1,11 @@
 -- Where each sector stands (01, Geometry; 02, K4): a number in a volume to an address on the drive, a physical address to a number, and an address to a
 -- place in the image. Shut, as the sizes of Drive are; only what the functions answer may be opened elsewhere.
-use Rattle.std.specs.Prelude.{ℕ, ◌+◌, ◌-◌, ◌*◌, ◌/◌, ◌%◌, ◌<◌}
+use Rattle.std.specs.Prelude.{ℕ, ◌+◌, ◌-◌, ◌*◌, ◌/◌, ◌%◌, ◌<◌, None, Option, Some}
 use Rattle.std.proofs.Math.Logic.{ite}
 use Rattle.std.proofs.Math.Logic.Dec.{and as dec_and}
 use Rattle.std.proofs.Math.Decide.{dec_lt}
 use Rattle.geometry.specs.declared.Address.{Address}
 use Rattle.geometry.specs.declared.Geometry.{Geometry}
-use Rattle.geometry.specs.declared.Number.{Number}
-use Rattle.geometry.specs.declared.Number.TheVariants.{Is, Outside}
 use Rattle.geometry.specs.declared.VolumeNumber.{VolumeNumber}
 use Rattle.geometry.specs.Drive.{B, C, N, S, goes_by_head, drive_heads, marks_at, start, volume, volume_sectors}
 use Rattle.geometry.specs.Orders.{ordered}
@@ -56,11 +54,11 @@ pub record OnDrive (g : Geometry) (a : Address) : Type 0 where
 
 -- The number of a physical address, where the cylinder is below C, the head, counted from the start head, below N and the sector below S; and else that
 -- the volume has no such sector.
-unfoldable pub numbered : Geometry → VolumeNumber → ℕ → ℕ → ℕ → Number
+unfoldable pub numbered : Geometry → VolumeNumber → ℕ → ℕ → ℕ → Option ℕ
 numbered g v c h s =
-    ite (dec_and (dec_lt c (C g)) (dec_and (dec_lt h (N (volume g v))) (dec_lt s (S g)))) (Number.Is (number_of g v c h s)) Number.Outside
+    ite (dec_and (dec_lt c (C g)) (dec_and (dec_lt h (N (volume g v))) (dec_lt s (S g)))) (Some (number_of g v c h s)) None
 
 -- A volume covers a request for so many sectors from a number on: neither the first sector nor the last is outside it (check 16).
-abbrev pub Covers : Geometry → VolumeNumber → Number → ℕ → Type 0
-Covers g v (Is n) count = (n < volume_sectors g v) × (n + (count - 1) < volume_sectors g v)
-Covers g v Outside count = ⊥
+abbrev pub Covers : Geometry → VolumeNumber → Option ℕ → ℕ → Type 0
+Covers g v (Some n) count = (n < volume_sectors g v) × (n + (count - 1) < volume_sectors g v)
+Covers g v None count = ⊥

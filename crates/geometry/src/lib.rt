@@ -14,14 +14,14 @@ mod sectors;
 mod sizes;
 
 // One of a unit's two volumes.
-#[derive(Clone, Copy)]
+#[derive(Clone, Copy, PartialEq, Eq)]
 pub enum VolumeNumber {
     Zero,
     One,
 }
 
 // A volume: the head that it starts at, counted over the whole drive, and how many heads it has. With none it is absent.
-#[derive(Clone, Copy)]
+#[derive(Clone, Copy, PartialEq, Eq)]
 pub struct Volume {
     start_head: u8,
     heads: u8,
@@ -29,7 +29,7 @@ pub struct Volume {
 
 // A geometry as it stands in a record or came out of a UIB: any numbers, inside the limits or not. Its tracks go by head, the next track having the next
 // head, or by cylinder.
-#[derive(Clone, Copy)]
+#[derive(Clone, Copy, PartialEq, Eq)]
 pub struct Geometry {
     cylinders: u16,
     sectors_a_track: u16,
@@ -40,39 +40,18 @@ pub struct Geometry {
 }
 
 // A sector of the drive. Its head is counted over the whole drive, since 8C and a spare track reach heads that no volume has.
-#[derive(Clone, Copy)]
+#[derive(Clone, Copy, PartialEq, Eq)]
 pub struct Address {
     pub cylinder: u16,
     pub head: u16,
     pub sector: u16,
 }
 
-// Where a number in a volume leads.
-#[derive(Clone, Copy)]
-pub enum Found {
-    At(Address),
-    Outside,
-}
-
-// The number in a volume that a physical address has.
-#[derive(Clone, Copy)]
-pub enum Number {
-    Is(u64),
-    Outside,
-}
-
-// The place in the image that an address has, counted in sectors.
-#[derive(Clone, Copy)]
-pub enum Place {
-    At(u64),
-    Outside,
-}
-
 // The sector at a place: its first byte in the image, and the byte that is its mark.
 #[derive(Clone, Copy)]
-pub enum Sector {
-    At { first: u64, mark: u64 },
-    Outside,
+pub struct Sector {
+    pub first: u64,
+    pub mark: u64,
 }
 
 impl Volume {
@@ -94,6 +73,7 @@ impl Volume {
         self.heads
     }
 
+    #[tactic(auto, unfolding(crate::specs::Limits::Present))]
     pub fn is_present(self) -> bool
         ensures { Says result (Present self) }
     {
@@ -104,18 +84,16 @@ impl Volume {
     pub fn same(self, other: Volume) -> bool
         ensures { Says result (self ≡ other) }
     {
-        if self.start_head != other.start_head {
-            return false;
-        }
-        self.heads == other.heads
+        self == other
     }
 
     // Where its heads end. An absent volume's start head says nothing.
+    #[tactic(auto, using(crate::proofs::Ends::end_absent, crate::proofs::Ends::end_present))]
     fn end(self) -> u16
         ensures { result ≡ end self }
     {
         if 0 < self.heads {
-            (self.start_head as u16) + (self.heads as u16)
+            u16::from(self.start_head) + u16::from(self.heads)
         } else {
             0
         }
@@ -161,16 +139,7 @@ impl Geometry {
     pub fn with_increment(self, by_head: bool) -> Geometry
         ensures { result ≡ with_increment by_head self }
     {
-        let volume0 = self.volume0;
-        let volume1 = self.volume1;
-        Geometry {
-            cylinders: self.cylinders,
-            sectors_a_track: self.sectors_a_track,
-            bytes_a_sector: self.bytes_a_sector,
-            volume0,
-            volume1,
-            by_head,
-        }
+        Geometry { by_head, ..self }
     }
 
     // Table 11 of the manual. A caller may ask for it; no unit starts with it.
@@ -217,34 +186,19 @@ impl Geometry {
     pub fn same(self, other: Geometry) -> bool
         ensures { Says result (self ≡ other) }
     {
-        if self.cylinders != other.cylinders {
-            return false;
-        }
-        if self.sectors_a_track != other.sectors_a_track {
-            return false;
-        }
-        if self.bytes_a_sector != other.bytes_a_sector {
-            return false;
-        }
-        if !self.volume0.same(other.volume0) {
-            return false;
-        }
-        if !self.volume1.same(other.volume1) {
-            return false;
-        }
-        self.by_head == other.by_head
+        self == other
     }
 
     // A volume's start head, and its heads, as the wider numbers that sums are made of.
     fn start_of(self, v: VolumeNumber) -> u16
         ensures { (result ≡ start (volume self v)) × (result < 256) }
     {
-        self.volume(v).start_head() as u16
+        u16::from(self.volume(v).start_head())
     }
 
     fn heads_of(self, v: VolumeNumber) -> u16
         ensures { (result ≡ N (volume self v)) × (result < 256) }
     {
-        self.volume(v).heads() as u16
+        u16::from(self.volume(v).heads())
     }
 }

@@ -8,20 +8,20 @@ use crate::{Geometry, VolumeNumber};
 fn product(a: u16, b: u16, c: u16) -> u64
     ensures { (result ≡ a * b * c) × (result < 2 ^ 48) }
 {
-    (a as u64) * (b as u64) * (c as u64)
+    u64::from(a) * u64::from(b) * u64::from(c)
 }
 
 impl Geometry {
     // The heads of the whole drive, the paper's H.
+    #[tactic(auto, using(crate::specs::Drive::Inside::drive_heads_is))]
     pub fn heads(self) -> u16
         ensures { result ≡ drive_heads self }
     {
-        let end0 = self.volume0.end();
-        let end1 = self.volume1.end();
-        if end0 < end1 { end1 } else { end0 }
+        self.volume0.end().max(self.volume1.end())
     }
 
     // How many sectors a volume has.
+    #[tactic(auto, using(crate::specs::Drive::Inside::volume_sectors_is))]
     pub fn volume_sectors(self, v: VolumeNumber) -> u64
         ensures { result ≡ volume_sectors self v }
     {
@@ -29,6 +29,7 @@ impl Geometry {
     }
 
     // How many sectors the whole drive has: few enough that their bytes can be counted in 64 bits.
+    #[tactic(auto, using(crate::specs::Drive::Inside::drive_sectors_is))]
     pub fn drive_sectors(self) -> u64
         ensures { (result ≡ drive_sectors self) × (result < 2 ^ 48) }
     {
@@ -36,16 +37,18 @@ impl Geometry {
     }
 
     // Where in an image the marks begin.
+    #[tactic(auto, using(crate::specs::Drive::Inside::marks_at_is))]
     pub fn marks_at(self) -> u64
         ensures { result ≡ marks_at self }
     {
-        self.drive_sectors() * (self.bytes_a_sector as u64)
+        self.drive_sectors() * u64::from(self.bytes_a_sector)
     }
 
     // How many bytes an image needs: a sector's bytes and its mark, for each sector.
+    #[tactic(auto, using(crate::specs::Drive::Inside::marks_at_is, crate::specs::Drive::Inside::need_is))]
     pub fn need(self) -> u64
         ensures { result ≡ need self }
     {
-        self.drive_sectors() * ((self.bytes_a_sector as u64) + 1)
+        self.drive_sectors() * (u64::from(self.bytes_a_sector) + 1)
     }
 }

@@ -1,6 +1,9 @@
 -- Two worlds that agree on what a block reads lead it to the same effect, the same stores, answer, sectors and record, and to read the same.
 -- Its 28 bytes are the same, and so it names the same unit; the judgement reads no byte that is not alike; and of what is done only a
 -- transfer through a list goes by host memory, by bytes that the judgement has read.
+use Rattle.answers.specs.declared.Refusal.{Refusal}
+use Rattle.judge.specs.declared.Plan.{Plan}
+use Rattle.std.proofs.Common.{Err, Ok, Result}
 use Prim.Native.Nat.{ℕ, ◌+◌, ◌*◌, ◌<◌}
 use mathlib.Core.List.{List, ◌++◌}
 use mathlib.Core.Logic.Iff
@@ -22,8 +25,6 @@ use Rattle.memory.proofs.Locality.{element_same}
 use Rattle.judge.specs.declared.Job.{Job}
 use Rattle.judge.specs.declared.Moving.{Moving}
 use Rattle.judge.specs.declared.Moving.TheVariants.{Nothing, Sectors, Track}
-use Rattle.judge.specs.declared.Verdict.{Verdict}
-use Rattle.judge.specs.declared.Verdict.TheVariants.{Refused, Do}
 use Rattle.judge.specs.Given.{Asked, on}
 use Rattle.judge.specs.Reads.{InList, InUib}
 use Rattle.judge.specs.Verdict.{verdict}
@@ -130,9 +131,9 @@ module _
     abbrev made_in : List ℕ → Moving → Transfer
     made_in host m = transfer_of host (named_drive v).unit m
 
-    data_alike : (verd : Verdict) → verdict_of v ≡ verd → made_in h (moving_of verd) ≡ made_in k.host (moving_of verd)
-    data_alike (Refused r) is = refl
-    data_alike (Do p) is = by_moving p.moving refl
+    data_alike : (verd : Result Plan Refusal) → verdict_of v ≡ verd → made_in h (moving_of verd) ≡ made_in k.host (moving_of verd)
+    data_alike (Err r) is = refl
+    data_alike (Ok p) is = by_moving p.moving refl
       where
         of_buffer_lem : (j : Job) → p.moving ≡ Sectors j → (b : Buffer) → j.buffer ≡ b → (y : ℕ) → data_byte h b y ≡ data_byte k.host b y
         of_buffer_lem j moves (Piece at) here y = refl
@@ -150,9 +151,9 @@ module _
 
     -- So what is done is the same.
     performed_alike :
-        (verd : Verdict) → verdict_of v ≡ verd → acted_on h (named_drive v) v.at verd ≡ acted_on k.host (named_drive v) v.at verd
-    performed_alike (Refused r) is = refl
-    performed_alike (Do p) is =
+        (verd : Result Plan Refusal) → verdict_of v ≡ verd → acted_on h (named_drive v) v.at verd ≡ acted_on k.host (named_drive v) v.at verd
+    performed_alike (Err r) is = refl
+    performed_alike (Ok p) is =
         let d = named_drive v in
         ap
         (λ (t : Transfer).
@@ -165,7 +166,7 @@ module _
           sectors = q.sectors;
           travel = travelled (cylinder d.unit) p.leaving (cylinder unit);
         })
-        (data_alike (Do p) is)
+        (data_alike (Ok p) is)
 
     pub effect_alike : effect_of v ≡ effect_of there
     effect_alike =

@@ -4,7 +4,7 @@ use Prim.Native.Nat.{ℕ}
 use mathlib.Core.Bool.{Bool}
 use mathlib.Core.Path.{◌≡◌, refl, ap}
 use lib.ListN.{get_or}
-use Rattle.answers.specs.declared.BlockAnswer.{BlockAnswer}
+use Rattle.answers.specs.Numbers.{BlockAnswer}
 use Rattle.demands.specs.Footprint.{ReadsHost, WritesHost, names}
 use Rattle.demands.specs.Visits.{Visit, block_of, effect_of}
 use Rattle.demands.proofs.Written.{host_written_exactly}

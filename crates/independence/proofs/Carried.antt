@@ -1,5 +1,7 @@
 -- What a chain of a pair names, reads and writes, as ranges of bytes; and what its transfers come to.
 -- All of it is told by the verdict on its one block, and whether two chains are apart is arithmetic on their ranges.
+use Rattle.geometry.specs.declared.Geometry.{Geometry}
+use Rattle.std.proofs.Common.{Err, Ok, Option, Result}
 use Prim.Native.Nat.{ℕ, ◌+◌, ◌*◌, ◌%◌, ◌≤◌, ◌<◌}
 use mathlib.Core.Bool.{Bool, true, false, cond, not}
 use mathlib.Core.List.{List, [], ◌∷◌}
@@ -7,21 +9,18 @@ use mathlib.Core.Logic.{◌⊎◌, inl, inr, ⊎_elim}
 use mathlib.Core.Path.{◌≡◌, refl, sym, ap, subst, ◌∙◌}
 use native.Mathlib.Omega.{arith}
 use lib.ListN.{get_or, length}
-use Rattle.board.specs.declared.chain.End.{End}
+use Rattle.board.specs.declared.chain.Outcome.{Outcome}
 use Rattle.wire.specs.Among.{Among}
 use Rattle.wire.specs.Memory.{InMemory}
 use Rattle.wire.proofs.Promises.{never as impossible}
-use Rattle.answers.specs.declared.BlockAnswer.{BlockAnswer}
-use Rattle.answers.specs.declared.BlockAnswer.TheVariants.{Ended, Failed}
+use Rattle.answers.specs.Numbers.{BlockAnswer, refusal_number}
 use Rattle.answers.specs.declared.Refusal.{Refusal}
 use Rattle.answers.specs.declared.RunAnswer.{RunAnswer}
-use Rattle.answers.specs.Numbers.{refusal_number}
 use Rattle.geometry.specs.Drive.{B}
 use Rattle.iopb.specs.Ask.{task_of}
 use Rattle.judge.specs.declared.Moving.{Moving}
 use Rattle.judge.specs.declared.Plan.{Plan}
 use Rattle.judge.specs.declared.Report.{Report}
-use Rattle.judge.specs.declared.Verdict.{Verdict}
 use Rattle.judge.specs.Plans.{carrying, job_of}
 use Rattle.judge.specs.Given.{Asked}
 use Rattle.judge.specs.Reads.{InList, InUib}
@@ -31,7 +30,6 @@ use Rattle.board.specs.Ends.{end_of}
 use Rattle.board.specs.Chain.{ran}
 use Rattle.request.specs.declared.Buffer.{Buffer}
 use Rattle.request.specs.declared.Move.{Move}
-use Rattle.request.specs.declared.Shape.{Shape}
 use Rattle.request.specs.declared.Task.{Task}
 use Rattle.demands.specs.Footprint.{HostData, InReport, ReadsHost, RunNames, RunReads, RunWrites, WritesHost, asked_of, comes, moving_of, named_drive, names, report_of, transfer_by, verdict_of}
 use Rattle.demands.specs.Visits.{Passes, Visit, block_of, effect_of}
@@ -127,17 +125,17 @@ module _ (w : World) (at : ℕ) (passes : Passes at 1 w) where
 
   -- Of a verdict that moves nothing.
   pub still :
-      (verd : Verdict) → verdict_of v ≡ verd → moving_of verd ≡ Moving.Nothing → (way : Bool) (x : ℕ) →
+      (verd : Result Plan Refusal) → verdict_of v ≡ verd → moving_of verd ≡ Moving.Nothing → (way : Bool) (x : ℕ) →
       HostData (asked_of v) (named_drive v) way x → ⊥
   still verd is moves way x here = no_data v x way (ap moving_of is ∙ moves) here
 
   pub silent :
-      (verd : Verdict) → verdict_of v ≡ verd → report_of verd ≡ Report.Nothing → (x : ℕ) →
+      (verd : Result Plan Refusal) → verdict_of v ≡ verd → report_of verd ≡ Report.Nothing → (x : ℕ) →
       InReport v.at (report_of (verdict_of v)) x → ⊥
   silent verd is says x among = no_words v x (ap report_of is ∙ says) among
 
 -- Only an initialize has a UIB that is read, and only a transfer a list.
-pub no_uib : (a : Asked) (at bytes x : ℕ) → ((s : Shape) → a.task ≡ Task.Initialize s → ⊥) → InUib a at bytes x → ⊥
+pub no_uib : (a : Asked) (at bytes x : ℕ) → ((s : Option Geometry) → a.task ≡ Task.Initialize s → ⊥) → InUib a at bytes x → ⊥
 no_uib a at bytes x other uib = other uib.shape uib.asks
 
 pub no_list_of_a_piece : (a : Asked) (m : Move) (at x : ℕ) → a.task ≡ Task.Move m → m.buffer ≡ Buffer.Piece at → InList a x → ⊥
@@ -148,9 +146,9 @@ no_list a x other list = other list.move list.asks
 
 -- A block that moves nothing and reports nothing, and is neither an initialize nor a transfer, reads its 28 bytes and writes its word 1.
 pub idle :
-    (w : World) (at : ℕ) (passes : Passes at 1 w) (verd : Verdict) → verdict_of (v w at passes) ≡ verd →
+    (w : World) (at : ℕ) (passes : Passes at 1 w) (verd : Result Plan Refusal) → verdict_of (v w at passes) ≡ verd →
     moving_of verd ≡ Moving.Nothing → report_of verd ≡ Report.Nothing →
-    ((s' : Shape) → (asked_of (v w at passes)).task ≡ Task.Initialize s' → ⊥) → ((m : Move) → (asked_of (v w at passes)).task ≡ Task.Move m → ⊥) →
+    ((s' : Option Geometry) → (asked_of (v w at passes)).task ≡ Task.Initialize s' → ⊥) → ((m : Move) → (asked_of (v w at passes)).task ≡ Task.Move m → ⊥) →
     Alone at w (names (v w at passes)) ((at, 28) ∷ []) ((at + 2, 2) ∷ [])
 idle w at passes verd is moves says no-initialize no_move =
     alone w at passes [] []
@@ -160,7 +158,7 @@ idle w at passes verd is moves says no-initialize no_move =
 
 -- An initialize whose UIB is read reads that too.
 pub initialized :
-    (w : World) (at : ℕ) (passes : Passes at 1 w) (verd : Verdict) → verdict_of (v w at passes) ≡ verd →
+    (w : World) (at : ℕ) (passes : Passes at 1 w) (verd : Result Plan Refusal) → verdict_of (v w at passes) ≡ verd →
     moving_of verd ≡ Moving.Nothing → report_of verd ≡ Report.Nothing → (uib : ℕ) → (block_of (v w at passes)).address ≡ uib →
     ((m : Move) → (asked_of (v w at passes)).task ≡ Task.Move m → ⊥) →
     Alone at w (names (v w at passes)) ((at, 28) ∷ (uib, 18) ∷ []) ((at + 2, 2) ∷ [])
@@ -172,7 +170,7 @@ initialized w at passes verd is moves says uib here no_move =
 
 -- A block that is accepted and moves nothing ends 80 and moves no sectors.
 pub comes_still :
-    (v : Visit) (p : Plan) → verdict_of v ≡ Verdict.Do p → p.moving ≡ Moving.Nothing → ((effect_of v).sectors ≡ 0) × ((effect_of v).answer ≡ Ended)
+    (v : Visit) (p : Plan) → verdict_of v ≡ Ok p → p.moving ≡ Moving.Nothing → ((effect_of v).sectors ≡ 0) × ((effect_of v).answer ≡ Ok tt)
 unfolding progress
 comes_still v p is moves = (
   ap (λ e. e.sectors) (effect_is v) ∙ rw (is, moves),
@@ -182,28 +180,28 @@ comes_still v p is moves = (
 -- What a chain comes to that moves nothing: one that is done, and one that is refused.
 module _ (w : World) (at : ℕ) (passes : Passes at 1 w) where
   pub comes_done :
-      (block_of (v w at passes)).options.link ≡ false → (p : Plan) → verdict_of (v w at passes) ≡ Verdict.Do p → p.moving ≡ Moving.Nothing →
+      (block_of (v w at passes)).options.link ≡ false → (p : Plan) → verdict_of (v w at passes) ≡ Ok p → p.moving ≡ Moving.Nothing →
       end_of (ran at 1 w) ≡ come RunAnswer.Done 0 0
   comes_done unlinked p is moves =
       let e = comes_still (v w at passes) p is moves in
       ap end_of (done at w passes unlinked 0 e.1 e.0)
 
-  pub comes_refused : (r : Refusal) → verdict_of (v w at passes) ≡ Verdict.Refused r → end_of (ran at 1 w) ≡ come RunAnswer.BlockFailed (refusal_number r) 0
+  pub comes_refused : (r : Refusal) → verdict_of (v w at passes) ≡ Err r → end_of (ran at 1 w) ≡ come RunAnswer.BlockFailed (refusal_number r) 0
   comes_refused r is =
       let e = refusal_moves_nothing (v w at passes) r is in
       ap end_of (failed at w passes r 0 e.1 e.0)
 
 -- The orders differ where the second fails otherwise after the first than it does alone.
 pub fails_otherwise :
-    (k l : Chain) (s then : Both) (after_it alone-it : End) → (run_of First k).left s ≡ then → (run_of Second l).out then ≡ after_it →
+    (k l : Chain) (s then : Both) (after_it alone-it : Outcome) → (run_of First k).left s ≡ then → (run_of Second l).out then ≡ after_it →
     (run_of Second l).out s ≡ alone-it → (after_it.failed ≡ alone-it.failed → ⊥) → EitherWay k l s → ⊥
 fails_otherwise k l s then after_it alone-it left comes comes-alone differs e =
     differs (ap (λ t. t.failed) (sym comes ∙ ap (run_of Second l).out (sym left) ∙ second_same k l s e ∙ comes-alone))
 
 -- ---- a transfer of the pairs
 
-abbrev pub carries : Bool → ℕ → ℕ → Verdict
-carries to_host count buffer = Verdict.Do (carrying (job_of (move_of to_host 0 count buffer) 0))
+abbrev pub carries : Bool → ℕ → ℕ → Result Plan Refusal
+carries to_host count buffer = Ok (carrying (job_of (move_of to_host 0 count buffer) 0))
 
 -- The bytes of a transfer that goes one way or the other, in the ranges of that way.
 abbrev pub going : Bool → ℕ × ℕ → List (ℕ × ℕ)
@@ -239,14 +237,14 @@ module _
     -- What the verdict says of the transfer.
     goes_so : (way : Bool) (x : ℕ) → HostData (asked_of b) (named_drive b) way x → to_host ≡ way
     goes_so way x here =
-        subst (λ (verd : Verdict). (transfer_of w.host (named_drive b).unit (moving_of verd)).to_host ≡ way) judged_so here.goes
+        subst (λ (verd : Result Plan Refusal). (transfer_of w.host (named_drive b).unit (moving_of verd)).to_host ≡ way) judged_so here.goes
 
     module _ (n : ℕ) (moved : (effect_of b).sectors ≡ n) where
       there : (way : Bool) (x : ℕ) → HostData (asked_of b) (named_drive b) way x → Among buffer (n * 64) x
       there way x here =
           let less : here.byte < n * 64 = rw (sectors_come b, moved, drives_geometry (asked_of b), same) at here.moved in
           let lies : buffer + here.byte ≡ x =
-          subst (λ (verd : Verdict). (transfer_of w.host (named_drive b).unit (moving_of verd)).host_at here.byte ≡ x) judged_so here.here in
+          subst (λ (verd : Result Plan Refusal). (transfer_of w.host (named_drive b).unit (moving_of verd)).host_at here.byte ≡ x) judged_so here.here in
           (omega arith, omega arith)
 
       ranged : (w way : Bool) (x : ℕ) → (w ≡ way → Among buffer (n * 64) x) → w ≡ way → In (going (cond way w (not w)) (buffer, n * 64)) x
@@ -294,23 +292,23 @@ module _ (w : World) (at : ℕ) (passes : Passes at 1 w) (buffer : ℕ) where
 
   pub read_carried_from :
       (image : List ℕ) → named_drive (v w at passes) ≡ drive_on image → length image ≡ 130 → get_or image 128 0 ≡ 0 → Asks true 1 →
-      InMemory w.host buffer 64 → Carried w at true buffer 1 1 Ended
+      InMemory w.host buffer 64 → Carried w at true buffer 1 1 (Ok tt)
   read_carried_from image same long good task held =
-      carried w at passes image long same true buffer 1 task (omega arith) (omega arith) held 1 Ended (read_of_one image long buffer good)
+      carried w at passes image long same true buffer 1 task (omega arith) (omega arith) held 1 (Ok tt) (read_of_one image long buffer good)
 
 module _
     (w : World) (at : ℕ) (passes : Passes at 1 w) (byte mark : ℕ)
     (same : named_drive (v w at passes) ≡ drive_with byte mark) (buffer : ℕ)
   where
-    pub read_carried : Asks w at passes buffer true 1 → InMemory w.host buffer 64 → Carried w at true buffer 1 1 Ended
+    pub read_carried : Asks w at passes buffer true 1 → InMemory w.host buffer 64 → Carried w at true buffer 1 1 (Ok tt)
     read_carried = read_carried_from w at passes buffer (drive_with byte mark).image same refl refl
 
-    pub write_carried : Asks w at passes buffer false 1 → InMemory w.host buffer 64 → Carried w at false buffer 1 1 Ended
+    pub write_carried : Asks w at passes buffer false 1 → InMemory w.host buffer 64 → Carried w at false buffer 1 1 (Ok tt)
     write_carried task held =
-        carried w at passes (drive_with byte mark).image refl same false buffer 1 task (omega arith) (omega arith) held 1 Ended (write_of_one _ refl buffer)
+        carried w at passes (drive_with byte mark).image refl same false buffer 1 task (omega arith) (omega arith) held 1 (Ok tt) (write_of_one _ refl buffer)
 
     pub read_stopped_carried :
-        mark ≡ 1 → Asks w at passes buffer true 2 → InMemory w.host buffer 128 → Carried w at true buffer 2 1 (Failed Refusal.Unreadable)
+        mark ≡ 1 → Asks w at passes buffer true 2 → InMemory w.host buffer 128 → Carried w at true buffer 2 1 (Err Refusal.Unreadable)
     read_stopped_carried bad task held =
         carried w at passes (drive_with byte mark).image refl same true buffer 2 task (omega arith) (omega arith) held 1 _
         (read_stopped _ refl buffer refl bad)

@@ -1,7 +1,7 @@
 -- Demand 3: two chains that are independent can be run in either order.
 -- A run is a local step, and two local steps that are apart can be made in either order.
 use mathlib.Core.Path.{◌≡◌, sym, ap, ◌∙◌}
-use Rattle.board.specs.declared.chain.End.{End}
+use Rattle.board.specs.declared.chain.Outcome.{Outcome}
 use Rattle.unit.specs.declared.Controller.TheVariants.{First as FirstController, Second as SecondController}
 use Rattle.unit.specs.declared.UnitNumber.TheVariants.{Zero, One}
 use Rattle.independence.specs.Chains.{Both, BothCell, Chain, First, Second, Which, both, drive, drive_in, event_buffer, events_of, memory_byte, host_of, place_of, run_of, run_on}
@@ -16,10 +16,10 @@ pub run_local : (t : Which) (chain : Chain) → Local both (run_of t chain)
 run_local t chain = placed_local (place_of t chain.controller) (faithful t chain.controller) (run_on chain) (run_is_local chain)
 
 module _ (first second : Chain) (s : Both) where
-  abbrev one : Step both End
+  abbrev one : Step both Outcome
   one = run_of First first
 
-  abbrev two : Step both End
+  abbrev two : Step both Outcome
   two = run_of Second second
 
   apart : Independent first second s → Undisturbed both one two s
@@ -58,10 +58,10 @@ either_way first second s i =
       images = λ n. ap (λ (x : Both). (drive_in x n).image) left;
       records = λ n. ap (λ (x : Both). (drive_in x n).unit) left;
       events = λ t. ap (λ (x : Both). events_of x t) left;
-      answers = (ap (λ (e : End). e.answer) of_first, ap (λ (e : End). e.answer) of_second);
-      failed_numbers = (ap (λ (e : End). e.failed) of_first, ap (λ (e : End). e.failed) of_second);
-      blocks = (ap (λ (e : End). e.blocks) of_first, ap (λ (e : End). e.blocks) of_second);
-      sectors = (ap (λ (e : End). e.sectors) of_first, ap (λ (e : End). e.sectors) of_second);
+      answers = (ap (λ (e : Outcome). e.answer) of_first, ap (λ (e : Outcome). e.answer) of_second);
+      failed_numbers = (ap (λ (e : Outcome). e.failed) of_first, ap (λ (e : Outcome). e.failed) of_second);
+      blocks = (ap (λ (e : Outcome). e.blocks) of_first, ap (λ (e : Outcome). e.blocks) of_second);
+      sectors = (ap (λ (e : Outcome). e.sectors) of_first, ap (λ (e : Outcome). e.sectors) of_second);
     }
 
 pub as_each_alone : AsEachAlone

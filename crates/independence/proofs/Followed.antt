@@ -1,5 +1,6 @@
 -- A chain is a local step: it is a block and then what follows it, with less of the allowance. Where its address is bad, it is a step that
 -- does nothing; whether it is depends on the length of host memory alone.
+use Rattle.std.proofs.Common.{Err, Ok}
 use Prim.Native.Nat.{ℕ, zero, suc}
 use mathlib.Core.Bool.{Bool, true, false}
 use mathlib.Core.List.{List, ◌∷◌}
@@ -7,18 +8,17 @@ use mathlib.Core.Logic.Iff
 use mathlib.Core.Logic.{◌⊎◌, ◌↔◌, inl, if_neg}
 use mathlib.Core.Path.{◌≡◌, refl, sym, ap, subst}
 use native.Mathlib.Omega.{arith}
-use Rattle.board.specs.declared.chain.End.{End}
+use Rattle.board.specs.declared.chain.Outcome.{Outcome}
 use Rattle.board.specs.declared.chain.Count.{Count}
 use Rattle.wire.proofs.Decided.{in_memory?}
 use Rattle.wire.specs.Memory.{InMemory}
 use Rattle.wire.proofs.Memory.{range_same}
-use Rattle.answers.specs.declared.BlockAnswer.{BlockAnswer}
-use Rattle.answers.specs.declared.BlockAnswer.TheVariants.{Ended, Failed}
+use Rattle.answers.specs.Numbers.{BlockAnswer}
 use Rattle.answers.specs.declared.RunAnswer.{RunAnswer}
 use Rattle.board.specs.Ends.{end_of, ended_of}
 use Rattle.board.specs.Chain.{counted, fetched, follows}
 use Rattle.board.proofs.Chains.{fetched_bad}
-use Rattle.demands.specs.Footprint.{ReadsHost, Some, WritesHost, names}
+use Rattle.demands.specs.Footprint.{ReadsHost, SomeBlock, WritesHost, names}
 use Rattle.demands.specs.Visits.{Visit, onwards, visits}
 use Rattle.demands.proofs.Endings.{fetched_step, visits_step}
 use Rattle.independence.specs.Local.{Local, Step, then}
@@ -33,7 +33,7 @@ use Rattle.board.specs.World.{World, world_after}
 -- ---- the footprint of some blocks
 
 abbrev pub Of : (Visit → ℕ → Type 0) → List Visit → WorldCell → Type 0
-Of P vs = Touches (λ x. Some (λ v. P v x) vs) (λ n. Some (λ v. names v ≡ n) vs)
+Of P vs = Touches (λ x. SomeBlock (λ v. P v x) vs) (λ n. SomeBlock (λ v. names v ≡ n) vs)
 
 pub of_same : (P : Visit → ℕ → Type 0) {vs us : List Visit} → vs ≡ us → (c : WorldCell) → Of P vs c ↔ Of P us c
 of_same P {vs} same c = subst (λ us. Of P vs c ↔ Of P us c) same Iff.rfl
@@ -51,7 +51,7 @@ one_more P {us} {vs} {v} are c = Iff.trans (of_same P are c) (split c)
 
 -- ---- a chain
 
-abbrev pub chain_on : ℕ → Count → ℕ → Step worlds End
+abbrev pub chain_on : ℕ → Count → ℕ → Step worlds Outcome
 chain_on left tally at =
     record {
       out = λ w. end_of (fetched left tally at w);
@@ -64,14 +64,14 @@ chain_on left tally at =
 abbrev pub NoBlock : WorldCell → Type 0
 NoBlock = Touches (λ x. ⊥) (λ n. ⊥)
 
-abbrev idle : End → Step worlds End
+abbrev idle : Outcome → Step worlds Outcome
 idle o = still worlds NoBlock (λ w. o)
 
-idle_local : (o : End) → Local worlds (idle o)
+idle_local : (o : Outcome) → Local worlds (idle o)
 idle_local o = still_local worlds NoBlock (λ w. o) (λ w u agree. refl)
 
 -- What follows a block that ended so.
-abbrev following : ℕ → BlockAnswer → Bool → Count → ℕ → Step worlds End
+abbrev following : ℕ → BlockAnswer → Bool → Count → ℕ → Step worlds Outcome
 following k a linked tally at =
     record {
       out = λ w. end_of (follows a linked tally w (fetched k tally at w));
@@ -83,16 +83,16 @@ following k a linked tally at =
 following_local :
     (k : ℕ) (a : BlockAnswer) (linked : Bool) (tally : Count) (at : ℕ) → Local worlds (chain_on k tally at) →
     Local worlds (following k a linked tally at)
-following_local k (Failed r) linked tally at rest = idle_local _
-following_local k Ended false tally at rest = idle_local _
-following_local k Ended true tally at rest = rest
+following_local k (Err r) linked tally at rest = idle_local _
+following_local k (Ok _) false tally at rest = idle_local _
+following_local k (Ok _) true tally at rest = rest
 
 -- A chain whose address is good is its block and then what follows.
 module _ (k : ℕ) (tally : Count) (at : ℕ) where
   abbrev first : Step worlds Next
   first = working (block at tally.blocks)
 
-  abbrev then_on : Next → Step worlds End
+  abbrev then_on : Next → Step worlds Outcome
   then_on o = following k o.answer o.linked (counted tally o.sectors) o.link
 
   goes_on : (w : World) → InMemory w.host at 28 → SameAt worlds (chain_on (suc k) tally at) (then first then_on) w
@@ -102,7 +102,7 @@ module _ (k : ℕ) (tally : Count) (at : ℕ) where
       let all = visits_step k tally at w good in
       record { out = ap end_of is; left = ap (λ e. e.world) is; reads = one_more ReadsHost all; writes = one_more WritesHost all }
 
-  bad_address : End
+  bad_address : Outcome
   bad_address = ended_of RunAnswer.LinkBad 0 tally
 
   stops : (w : World) → (InMemory w.host at 28 → ⊥) → SameAt worlds (chain_on (suc k) tally at) (idle bad_address) w

@@ -1,5 +1,8 @@
 -- A format that is let through: what it names, reads, writes and comes to is told by its plan.
 -- Its words are the three bytes that stand between its head and its buffer's address.
+use Rattle.answers.specs.declared.Refusal.{Refusal}
+use Rattle.judge.specs.declared.Plan.{Plan}
+use Rattle.std.proofs.Common.{Ok, Result}
 use Prim.Native.Nat.{ℕ, ◌+◌, ◌*◌, ◌%◌, ◌<◌}
 use mathlib.Core.Bool.{true, false}
 use mathlib.Core.List.{[], ◌∷◌}
@@ -11,7 +14,6 @@ use Rattle.wire.proofs.Promises.{never as impossible}
 use Rattle.geometry.specs.Drive.{B, S}
 use Rattle.iopb.specs.Ask.{task_of}
 use Rattle.unit.specs.Standing.{geometry}
-use Rattle.judge.specs.declared.Verdict.{Verdict}
 use Rattle.judge.specs.Plans.{plan_of}
 use Rattle.request.specs.declared.Task.{Task}
 use Rattle.demands.specs.Footprint.{HostData, InReport, ReadsHost, RunReads, RunWrites, WritesHost, asked_of, named_drive, names, report_of, verdict_of}
@@ -29,7 +31,7 @@ use Rattle.board.specs.World.{World}
 module _
     (w : World) (passes : Passes 0 1 w) (buffer : ℕ) (task : task_of w.host (block_of (v w 0 passes)) ≡ Task.Format (track buffer))
     (size : B (geometry (named_drive (v w 0 passes)).unit) ≡ 64)
-    (judged : verdict_of (v w 0 passes) ≡ Verdict.Do (plan_of (named_drive (v w 0 passes)).unit (Task.Format (track buffer))))
+    (judged : verdict_of (v w 0 passes) ≡ Ok (plan_of (named_drive (v w 0 passes)).unit (Task.Format (track buffer))))
   where
     abbrev b : Visit
     b = v w 0 passes
@@ -48,7 +50,7 @@ module _
         alone w 0 passes ((buffer, 64) ∷ []) ((7, 3) ∷ [])
         (λ x j. ⊎_elim (λ uib. absurd (no_uib _ _ _ x (λ s is. impossible (cc (task, is))) uib)) (λ list. absurd (no_list _ x (λ m is. impossible (cc (task, is))) list)) j)
         (λ x d. inl (data_lies x d))
-        (λ x among. inl (subst (λ (verd : Verdict). InReport 0 (report_of verd) x) judged among))
+        (λ x among. inl (subst (λ (verd : Result Plan Refusal). InReport 0 (report_of verd) x) judged among))
         (λ x d. absurd (not_stored x d))
 
     pub format_comes : FormatTold b

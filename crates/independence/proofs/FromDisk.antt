@@ -1,5 +1,6 @@
 -- The chain whose second block comes from the disk: what the read leaves in host memory is computed, and the block that stands there then is
 -- judged as the blocks of the other pairs are. Which bytes are shared is arithmetic on the ranges of both blocks.
+use Rattle.std.proofs.Common.{Err, Ok}
 use Prim.Native.Nat.{ℕ, ◌+◌, ◌<◌}
 use mathlib.Core.Bool.{true, false}
 use mathlib.Core.List.{List, [], ◌∷◌, ◌++◌, append-nil}
@@ -10,7 +11,6 @@ use lib.IntN.{pos}
 use lib.ListN.{get_or, length}
 use Rattle.wire.specs.Words.{word}
 use Rattle.wire.proofs.Promises.{never as impossible}
-use Rattle.answers.specs.declared.BlockAnswer.TheVariants.{Ended}
 use Rattle.answers.specs.declared.Refusal.{Refusal}
 use Rattle.answers.specs.declared.RunAnswer.{RunAnswer}
 use Rattle.geometry.specs.Limits.{Present}
@@ -18,7 +18,6 @@ use Rattle.iopb.specs.Ask.{task_of}
 use Rattle.iopb.specs.Layout.{block_at, uib_at}
 use Rattle.iopb.proofs.Answers.{shape_at_inside}
 use Rattle.judge.specs.declared.Leaving.{Leaving}
-use Rattle.judge.specs.declared.Verdict.{Verdict}
 use Rattle.judge.specs.Plans.{only}
 use Rattle.judge.proofs.First.{no_more}
 use Rattle.judge.proofs.Locality.{placed_uib_read}
@@ -44,18 +43,18 @@ use Rattle.independence.proofs.Linked.{Leads, by_second, done_both, lies_in_both
 use Rattle.independence.proofs.OneBlock.{In, by_block, done}
 use Rattle.independence.proofs.Tiny.{copies, counts, cylinder_0, read_of_one, read_stores, unit}
 use Rattle.board.specs.World.{World, buffers_of, changed, unit_at, world_after}
-use Rattle.judge.specs.Passed.{None}
+use Rattle.judge.specs.Passed.{NoneGiven}
 
 -- What a read of the first sector leaves, as the block after i others.
 abbrev read_world : World → (at i buffer : ℕ) → World
 read_world w at i buffer =
     changed w (unit_at w at)
-    (after (begun at ++ copies buffer ++ finish (block_at w.host at) at i Ended (pos 0)) (buffers_of w (unit_at w at))) (unit 0)
+    (after (begun at ++ copies buffer ++ finish (block_at w.host at) at i (Ok tt) (pos 0)) (buffers_of w (unit_at w at))) (unit 0)
 
 read_leaves :
     (w : World) (at i buffer : ℕ) (image : List ℕ) → length image ≡ 130 → get_or image 128 0 ≡ 0 →
     named_drive (visit w at i) ≡ drive_on image → (block_at w.host at).options.reserve ≡ false →
-    Carried w at true buffer 1 1 Ended → world_left (visit w at i) ≡ read_world w at i buffer
+    Carried w at true buffer 1 1 (Ok tt) → world_left (visit w at i) ≡ read_world w at i buffer
 unfolding world_after bytes_from
 read_leaves w at i buffer image long good same free c =
     rw (
@@ -77,7 +76,7 @@ start = first_in from_disk
 first_pass : Passes 0 1 start
 first_pass = passes_at start 0 refl refl (omega arith)
 
-first_read : Carried start 0 true 56 1 1 Ended
+first_read : Carried start 0 true 56 1 1 (Ok tt)
 unfolding word task_of
 first_read = read_carried_from start 0 first_pass 56 disk.image refl refl refl refl (omega arith)
 
@@ -91,7 +90,7 @@ second_pass : Passes 56 1 brought
 unfolding after bytes_from up_to
 second_pass = passes_at brought 56 refl refl (omega arith)
 
-second_read : Carried brought 56 true 120 1 1 Ended
+second_read : Carried brought 56 true 120 1 1 (Ok tt)
 unfolding word task_of after bytes_from up_to
 second_read = read_carried_from brought 56 second_pass 120 disk.image refl refl refl refl (omega arith)
 
@@ -120,7 +119,7 @@ linked_wrote k less = by_second leads (λ v. WritesHost v (120 + k)) (given (dat
 write_pass : Passes 28 1 (second_in from_disk)
 write_pass = passes_at (second_in from_disk) 28 refl refl (omega arith)
 
-write : Carried (second_in from_disk) 28 false 184 1 1 Ended
+write : Carried (second_in from_disk) 28 false 184 1 1 (Ok tt)
 unfolding word task_of
 write = write_carried (second_in from_disk) 28 write_pass 9 0 refl 184 refl (omega arith)
 
@@ -135,7 +134,7 @@ from_disk_met = met linked two from_disk linked_lies write.footprint differ (ome
 earlier_pass : Passes 56 1 start
 earlier_pass = passes_at start 56 refl refl (omega arith)
 
-earlier_read : Carried start 56 true 184 1 1 Ended
+earlier_read : Carried start 56 true 184 1 1 (Ok tt)
 unfolding word task_of
 earlier_read = read_carried_from start 56 earlier_pass 184 disk.image refl refl refl refl (omega arith)
 
@@ -145,7 +144,7 @@ initialize_pass : Passes 248 1 (second_in from_disk)
 initialize_pass = passes_at (second_in from_disk) 248 refl refl (omega arith)
 
 -- Alone its UIB says that volume 0 has no heads.
-uib_outside : verdict_of (visit (second_in from_disk) 248 0) ≡ Verdict.Refused Refusal.UibOutsideLimits
+uib_outside : verdict_of (visit (second_in from_disk) 248 0) ≡ Err Refusal.UibOutsideLimits
 unfolding word task_of Present
 uib_outside =
     rw (shape_at_inside from_disk.host1 148 (omega arith))
@@ -163,7 +162,7 @@ then_pass : Passes 248 1 (second_in then)
 unfolding after bytes_from up_to
 then_pass = passes_at (second_in then) 248 refl refl (omega arith)
 
-then_within : verdict_of (visit (second_in then) 248 0) ≡ Verdict.Do (only (Leaving.Fresh tiny))
+then_within : verdict_of (visit (second_in then) 248 0) ≡ Ok (only (Leaving.Fresh tiny))
 unfolding word task_of after bytes_from up_to
 then_within =
     rw (shape_at_inside then.host1 148 (omega arith))
@@ -179,7 +178,7 @@ uib_differs =
     (comes_refused (second_in from_disk) 248 initialize_pass _ uib_outside) (λ same. omega arith)
 
 uib_read : HostReads initialize (second_in from_disk) 148
-unfolding word task_of None
+unfolding word task_of NoneGiven
 uib_read =
     by_block 248 _ initialize_pass (λ v. ReadsHost v 148)
     (read_uib (visit (second_in from_disk) 248 0) 148

@@ -1,12 +1,12 @@
 -- A block that is refused because the other controller holds its drive reads its 28 bytes and nothing else (02, K10): no UIB, no list, no data.
 -- What a block reads of these it reads past the check that refuses this one.
+use Rattle.std.proofs.Common.{Err}
 use Prim.Native.Nat.{ℕ}
 use mathlib.Core.Path.{◌≡◌, subst}
 use native.Mathlib.Nat.{zero-mul}
 use native.Mathlib.Omega.{arith}
 use lib.Dec.{T}
 use Rattle.wire.specs.Among.{Among}
-use Rattle.answers.specs.declared.BlockAnswer.{BlockAnswer}
 use Rattle.answers.specs.declared.Refusal.{Refusal}
 use Rattle.judge.specs.Asks.{checks_of}
 use Rattle.judge.proofs.Locality.{read_uib_placed}
@@ -21,19 +21,19 @@ use Rattle.demands.proofs.BlockLaws.{answer_24_exactly, refusal_moves_nothing, r
 use Rattle.demands.proofs.Read.{ReadJudged, reads_judged}
 use Rattle.demands.proofs.Read.ReadJudged.{list, own, taken, uib}
 use Rattle.demands.proofs.Written.{sectors_come}
-use Rattle.judge.specs.Passed.{None, before}
+use Rattle.judge.specs.Passed.{NoneGiven, before}
 
 module _ (a : Asked) (held : T (held_by_other a.controller (holder a.unit))) where
   no_uib : (at bytes x : ℕ) → InUib a at bytes x → ⊥
   no_uib at bytes x u = (read_uib_placed a at bytes x u).1 held
 
   no_list : (x : ℕ) → InList a x → ⊥
-  unfolding None
+  unfolding NoneGiven
   no_list x l =
-      let passed = subst (λ (t : Task). None (before Refusal.ListBad (checks_of a t))) l.asks l.passed in
+      let passed = subst (λ (t : Task). NoneGiven (before Refusal.ListBad (checks_of a t))) l.asks l.passed in
       passed.0 held
 
-module _ (v : Visit) (refused : (effect_of v).answer ≡ BlockAnswer.Failed Refusal.DriveHeld) where
+module _ (v : Visit) (refused : (effect_of v).answer ≡ Err Refusal.DriveHeld) where
   pub reads_its_28_bytes_alone : (x : ℕ) → ReadsHost v x → Among v.at 28 x
   reads_its_28_bytes_alone x read = own_alone (reads_judged v x read)
     where

@@ -1,6 +1,7 @@
 -- Whether judging a block reads its UIB, and which list it reads, goes by the length of host memory and by no byte of it.
 -- What an 87 asks looks at the place of its UIB before it looks at its bytes; what the others ask looks at no byte, and neither do the
 -- checks before a list.
+use Rattle.std.proofs.Common.{Option, Some}
 use Prim.Native.Nat.{ℕ, ◌*◌}
 use mathlib.Core.List.{List}
 use mathlib.Core.Logic.{by_cases}
@@ -13,7 +14,6 @@ use Rattle.wire.proofs.Promises.{never}
 use Rattle.answers.specs.declared.Refusal.TheVariants.{ListBad}
 use Rattle.request.specs.declared.Buffer.TheVariants.{List as Elements}
 use Rattle.request.specs.declared.Move.{Move}
-use Rattle.request.specs.declared.Shape.{Shape}
 use Rattle.request.specs.declared.Task.{Task}
 use Rattle.request.specs.declared.Task.TheVariants.{Move as Moves, Initialize}
 use Rattle.iopb.specs.declared.Block.{Block}
@@ -27,20 +27,20 @@ use Rattle.iopb.specs.Layout.{uib_at}
 use Rattle.judge.specs.Reads.{InList, InUib}
 use Rattle.unit.specs.declared.Controller.{Controller}
 use Rattle.unit.specs.Standing.{UnitRecord}
-use Rattle.judge.specs.Passed.{None, before, checks}
+use Rattle.judge.specs.Passed.{NoneGiven, before, checks}
 
-no_shape_moves : {s : Shape} {m : Move} → Initialize s ≡ Moves m → ⊥
+no_shape_moves : {s : Option Geometry} {m : Move} → Initialize s ≡ Moves m → ⊥
 no_shape_moves e = never cc
 
 module _ (by : Controller) (h k : List ℕ) (long : length h ≡ length k) (u : UnitRecord) (image : ℕ) where
   -- The checks before 18, of the same task.
   before_list_alike :
-      (t : Task) (m : Move) (at n : ℕ) → t ≡ Moves m → m.buffer ≡ Elements at n → None (before ListBad (checks (on by u image t h))) →
-      None (before ListBad (checks (on by u image t k)))
+      (t : Task) (m : Move) (at n : ℕ) → t ≡ Moves m → m.buffer ≡ Elements at n → NoneGiven (before ListBad (checks (on by u image t h))) →
+      NoneGiven (before ListBad (checks (on by u image t k)))
   before_list_alike t m at n asks buffer passed = rw (asks, buffer) (rw (asks, buffer) at passed)
 
   -- A UIB that is where it can be read in one memory is so in the other.
-  placed_alike : (at : ℕ) (g : Geometry) → shape_at h at ≡ Shape.Given g → shape_at k at ≡ Shape.Given (uib_at k at)
+  placed_alike : (at : ℕ) (g : Geometry) → shape_at h at ≡ Some g → shape_at k at ≡ Some (uib_at k at)
   placed_alike at g given =
       by_cases (in_memory? h at 18) (λ place. shape_at_inside k at (range_same h k at 18 long place))
       (λ out. absurd (never (cc (shape_at_outside h at out, given))))
@@ -62,7 +62,7 @@ module _ (by : Controller) (h k : List ℕ) (long : length h ≡ length k) (u : 
           elements = l.elements;
           buffer = l.buffer;
           passed =
-              subst (λ t. None (before ListBad (checks (on by u image t k)))) same
+              subst (λ t. NoneGiven (before ListBad (checks (on by u image t k)))) same
               (before_list_alike (task_of h b) l.move l.at l.elements l.asks l.buffer l.passed);
           some = l.some;
           most = l.most;
@@ -75,7 +75,7 @@ module _ (by : Controller) (h k : List ℕ) (long : length h ≡ length k) (u : 
         let read = read_uib_placed in_h b.address 18 x uib in
         by_cases (ℕ_discrete b.command 0x87)
         (λ is.
-        let given : shape_at h b.address ≡ Shape.Given read.0.0 = cc (asked_by_87 h b is, read.0.1) in
+        let given : shape_at h b.address ≡ Some read.0.0 = cc (asked_by_87 h b is, read.0.1) in
         placed_uib_read in_k b.address 18 x _ _ (asked_by_87 k b is) (placed_alike b.address _ given) read.1 uib.among)
         (λ other.
         placed_uib_read in_k b.address 18 x _ _ (sym (task_apart h k b other) ∙ read.0.1) refl read.1 uib.among)

@@ -1,17 +1,17 @@
 -- A chain of two blocks: it fetches the first, and then, from what that left, the one at its link, and comes to what both come to.
 -- What it names, reads and writes is what a chain of the one and a chain of the other do.
+use Rattle.std.proofs.Common.{Ok}
 use Prim.Native.Nat.{ℕ, ◌+◌}
 use mathlib.Core.Bool.{true, false}
 use mathlib.Core.List.{List, [], ◌∷◌, ◌++◌}
 use mathlib.Core.Logic.{◌⊎◌, inl, inr, ⊎_elim, if_pos}
 use mathlib.Core.Path.{◌≡◌, sym, ap, subst, ◌∙◌}
 use native.Mathlib.Omega.{arith}
-use Rattle.answers.specs.declared.BlockAnswer.TheVariants.{Ended}
 use Rattle.answers.specs.declared.RunAnswer.{RunAnswer}
 use Rattle.unit.specs.declared.UnitNumber.{UnitNumber}
 use Rattle.board.specs.Chain.{ends, nothing, ran}
 use Rattle.board.proofs.Runs.{ran_chain}
-use Rattle.demands.specs.Footprint.{ReadsHost, RunNames, RunReads, RunWrites, Some, WritesHost, names}
+use Rattle.demands.specs.Footprint.{ReadsHost, RunNames, RunReads, RunWrites, SomeBlock, WritesHost, names}
 use Rattle.demands.specs.Visits.{Passes, Visit, block_of, effect_of, fetched_by, passes?, visits, world_left}
 use Rattle.demands.proofs.Endings.{fetched_step, visits_step}
 use Rattle.demands.proofs.Written.{effect_is}
@@ -44,7 +44,7 @@ ends_alike w at i = (
 pub record Leads (at : ℕ) (w : World) (next : ℕ) (then : World) : Type 0 where
   pub first : Passes at 1 w
   pub second : Passes next 1 then
-  pub ended : (effect_of (visit w at 0)).answer ≡ Ended
+  pub ended : (effect_of (visit w at 0)).answer ≡ Ok tt
   pub linked : (block_of (visit w at 0)).options.link ≡ true
   pub goes : (block_of (visit w at 0)).link ≡ next
   pub left : world_left (visit w at 0) ≡ then
@@ -63,21 +63,21 @@ module _ {at : ℕ} {w : World} {next : ℕ} {then : World} (l : Leads at w next
       ap (λ vs. visit then next 1 ∷ vs) (none_onwards (effect_of (visit then next 1)).answer (block_of (visit then next 1)).options.link)))
 
   -- What the run does, one of the two does, and the other way round.
-  of_either : (P : Visit → Type 0) → Some P (fetched_by at 2 w) → P (visit w at 0) ⊎ P (visit then next 1)
-  of_either P does = here (subst (Some P) fetches_two does)
+  of_either : (P : Visit → Type 0) → SomeBlock P (fetched_by at 2 w) → P (visit w at 0) ⊎ P (visit then next 1)
+  of_either P does = here (subst (SomeBlock P) fetches_two does)
     where
-      here : Some P (visit w at 0 ∷ visit then next 1 ∷ []) → P (visit w at 0) ⊎ P (visit then next 1)
+      here : SomeBlock P (visit w at 0 ∷ visit then next 1 ∷ []) → P (visit w at 0) ⊎ P (visit then next 1)
       here (inl p) = inl p
       here (inr (inl p)) = inr p
       here (inr (inr none)) = absurd none
 
-  pub by_second : (P : Visit → Type 0) → P (visit then next 1) → Some P (fetched_by at 2 w)
-  by_second P p = subst (Some P) (sym fetches_two) (inr (inl p))
+  pub by_second : (P : Visit → Type 0) → P (visit then next 1) → SomeBlock P (fetched_by at 2 w)
+  by_second P p = subst (SomeBlock P) (sym fetches_two) (inr (inl p))
 
   -- Where the second ends 80 and has no link, the run is done.
   pub done_both :
       (m n : ℕ) → (effect_of (visit w at 0)).sectors ≡ m → (effect_of (visit then next 0)).sectors ≡ n →
-      (effect_of (visit then next 0)).answer ≡ Ended → (block_of (visit then next 0)).options.link ≡ false →
+      (effect_of (visit then next 0)).answer ≡ Ok tt → (block_of (visit then next 0)).options.link ≡ false →
       ran at 2 w ≡ ends RunAnswer.Done 0 (record { blocks = 2; sectors = 0 + m + n }) (world_left (visit then next 1))
   done_both m n moved moved-too ended-too unlinked =
       let alike = ends_alike then next 1 in

@@ -1,5 +1,6 @@
 -- The pairs that show what does not count: what a chain reads and writes is told by the verdict on its one block, and what it does not read by the
 -- check that refuses it. This is shown of what demand 3 counts as read, on whatever world it is counted.
+use Rattle.std.proofs.Common.{Ok}
 use Prim.Native.Nat.{ℕ}
 use mathlib.Core.Bool.{true}
 use mathlib.Core.List.{[], ◌∷◌}
@@ -9,7 +10,6 @@ use native.Mathlib.Omega.{arith}
 use Rattle.board.specs.Ends.{end_of}
 use Rattle.wire.specs.Among.{Among}
 use Rattle.wire.specs.Words.{word}
-use Rattle.answers.specs.declared.BlockAnswer.TheVariants.{Ended}
 use Rattle.answers.specs.declared.RunAnswer.{RunAnswer}
 use Rattle.board.proofs.Runs.{ran_allowance_bad}
 use Rattle.iopb.specs.Ask.{task_of}
@@ -17,7 +17,6 @@ use Rattle.demands.specs.Footprint.{WritesHost, names, verdict_of}
 use Rattle.demands.specs.Footprint.HostWritten.{moved as given}
 use Rattle.demands.specs.Visits.{Passes}
 use Rattle.demands.proofs.Reports.{FormatTold}
-use Rattle.judge.specs.declared.Verdict.{Verdict}
 use Rattle.judge.specs.Plans.{plan_of}
 use Rattle.request.specs.declared.Buffer.{Buffer}
 use Rattle.request.specs.declared.Task.{Task}
@@ -97,7 +96,7 @@ list_unread x r =
 format_pass : Passes 0 1 (first_in format_data) × Passes 28 1 (second_in format_data)
 format_pass = both_pass format_data refl refl (omega arith)
 
-format_judged : verdict_of (v (first_in format_data) 0 format_pass.0) ≡ Verdict.Do (plan_of (fresh (shaped 1 2)) (Task.Format (track 56)))
+format_judged : verdict_of (v (first_in format_data) 0 format_pass.0) ≡ Ok (plan_of (fresh (shaped 1 2)) (Task.Format (track 56)))
 unfolding word task_of
 format_judged = format_passes FirstController format_data.host1 1 2 56 (omega arith) refl (omega arith)
 
@@ -109,7 +108,7 @@ format_told : FormatTold (record { at = 0; index = 0; world = first_in format_da
 unfolding word task_of
 format_told = format_comes _ format_pass.0 56 refl refl format_judged
 
-format_second : Carried (second_in format_data) 28 true 120 1 1 Ended
+format_second : Carried (second_in format_data) 28 true 120 1 1 (Ok tt)
 unfolding word task_of
 format_second = read_carried _ 28 format_pass.1 9 0 refl 120 refl (omega arith)
 
@@ -130,11 +129,11 @@ format_unread r =
 run_pass : Passes 0 1 (first_in refused_run) × Passes 28 1 (second_in refused_run)
 run_pass = both_pass refused_run refl refl (omega arith)
 
-run_first : Carried (first_in refused_run) 0 true 56 1 1 Ended
+run_first : Carried (first_in refused_run) 0 true 56 1 1 (Ok tt)
 unfolding word task_of
 run_first = read_carried _ 0 run_pass.0 7 0 refl 56 refl (omega arith)
 
-run_second : Carried (second_in refused_run) 28 true 56 1 1 Ended
+run_second : Carried (second_in refused_run) 28 true 56 1 1 (Ok tt)
 unfolding word task_of
 run_second = read_carried _ 28 run_pass.1 7 0 refl 56 refl (omega arith)
 

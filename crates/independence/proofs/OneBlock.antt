@@ -1,5 +1,6 @@
 -- A chain of one block: it fetches that block and no other, and comes to what the block comes to.
 -- What a block reads and writes lies in ranges, a range for each of its lines.
+use Rattle.std.proofs.Common.{Err, Ok}
 use Prim.Native.Nat.{ℕ, ◌+◌, ◌*◌, ◌<◌}
 use mathlib.Core.Bool.{Bool, true, false}
 use mathlib.Core.List.{List, [], ◌∷◌}
@@ -9,11 +10,9 @@ use native.Mathlib.Nat.{zero-mul}
 use native.Mathlib.Omega.{arith}
 use Rattle.board.specs.declared.chain.Count.{Count}
 use Rattle.wire.specs.Among.{Among}
-use Rattle.answers.specs.declared.BlockAnswer.{BlockAnswer}
-use Rattle.answers.specs.declared.BlockAnswer.TheVariants.{Ended, Failed}
+use Rattle.answers.specs.Numbers.{BlockAnswer, refusal_number}
 use Rattle.answers.specs.declared.Refusal.{Refusal}
 use Rattle.answers.specs.declared.RunAnswer.{RunAnswer}
-use Rattle.answers.specs.Numbers.{refusal_number}
 use Rattle.geometry.specs.Drive.{B}
 use Rattle.judge.specs.declared.Moving.{Moving}
 use Rattle.judge.specs.declared.Report.{Report}
@@ -23,7 +22,7 @@ use Rattle.transfer.specs.Progress.{progress}
 use Rattle.block.specs.Block.{transfer_of}
 use Rattle.board.specs.Chain.{Ending, ends, follows, nothing, ran}
 use Rattle.board.proofs.Runs.{ran_chain}
-use Rattle.demands.specs.Footprint.{HostData, InReport, ReadsHost, Some, WritesHost, asked_of, moving_of, named_drive, report_of, verdict_of}
+use Rattle.demands.specs.Footprint.{HostData, InReport, ReadsHost, SomeBlock, WritesHost, asked_of, moving_of, named_drive, report_of, verdict_of}
 use Rattle.demands.specs.Footprint.HostWritten.{moved as given, report, status_word}
 use Rattle.demands.specs.Visits.{Passes, Visit, block_of, effect_of, fetched_by, onwards, passes?, visits, world_left}
 use Rattle.demands.proofs.Endings.{fetched_step, visits_step}
@@ -33,13 +32,13 @@ use Rattle.unit.specs.Standing.{geometry}
 use Rattle.board.specs.World.{World}
 
 pub none_onwards : (a : BlockAnswer) (linked : Bool) → onwards a linked [] ≡ []
-none_onwards (Failed r) linked = refl
-none_onwards Ended false = refl
-none_onwards Ended true = refl
+none_onwards (Err r) linked = refl
+none_onwards (Ok _) false = refl
+none_onwards (Ok _) true = refl
 
 unlinked_leaves : (a : BlockAnswer) (t : Count) (w : World) (next : Ending) → (follows a false t w next).world ≡ w
-unlinked_leaves Ended t w next = refl
-unlinked_leaves (Failed r) t w next = refl
+unlinked_leaves (Ok _) t w next = refl
+unlinked_leaves (Err r) t w next = refl
 
 module _ (at : ℕ) (w : World) (passes : Passes at 1 w) where
   abbrev v : Visit
@@ -52,18 +51,18 @@ module _ (at : ℕ) (w : World) (passes : Passes at 1 w) where
       ap (λ vs. v ∷ vs) (none_onwards (effect_of v).answer (block_of v).options.link)
 
   -- What the run does, the block does, and the other way round.
-  pub of_block : (P : Visit → Type 0) → Some P (fetched_by at 1 w) → P v
-  of_block P does = here (subst (Some P) fetches_one does)
+  pub of_block : (P : Visit → Type 0) → SomeBlock P (fetched_by at 1 w) → P v
+  of_block P does = here (subst (SomeBlock P) fetches_one does)
     where
-      here : Some P (v ∷ []) → P v
+      here : SomeBlock P (v ∷ []) → P v
       here (inl p) = p
       here (inr none) = absurd none
 
-  pub by_block : (P : Visit → Type 0) → P v → Some P (fetched_by at 1 w)
-  by_block P p = subst (Some P) (sym fetches_one) (inl p)
+  pub by_block : (P : Visit → Type 0) → P v → SomeBlock P (fetched_by at 1 w)
+  by_block P p = subst (SomeBlock P) (sym fetches_one) (inl p)
 
   module _ (unlinked : (block_of v).options.link ≡ false) where
-    pub done : (n : ℕ) → (effect_of v).answer ≡ Ended → (effect_of v).sectors ≡ n →
+    pub done : (n : ℕ) → (effect_of v).answer ≡ Ok tt → (effect_of v).sectors ≡ n →
         ran at 1 w ≡ ends RunAnswer.Done 0 (record { blocks = 1; sectors = 0 + n }) (world_left v)
     done n ended moved =
         ran_chain at 1 w passes.events (passes.least, passes.most) passes.place ∙
@@ -77,7 +76,7 @@ module _ (at : ℕ) (w : World) (passes : Passes at 1 w) where
         fetched_step 0 nothing at w passes.place) ∙
         rw unlinked (unlinked_leaves (effect_of v).answer _ (world_left v) _)
 
-  pub failed : (r : Refusal) (n : ℕ) → (effect_of v).answer ≡ Failed r → (effect_of v).sectors ≡ n →
+  pub failed : (r : Refusal) (n : ℕ) → (effect_of v).answer ≡ Err r → (effect_of v).sectors ≡ n →
       ran at 1 w ≡ ends RunAnswer.BlockFailed (refusal_number r) (record { blocks = 1; sectors = 0 + n }) (world_left v)
   failed r n ended moved =
       ran_chain at 1 w passes.events (passes.least, passes.most) passes.place ∙
@@ -85,9 +84,9 @@ module _ (at : ℕ) (w : World) (passes : Passes at 1 w) where
 
 -- A run that is refused fetches no block.
 pub none_fetched :
-    (first allowance : ℕ) (w : World) (P : Visit → Type 0) → Some P (fetched_by first allowance w) → (Passes first allowance w → ⊥) → ⊥
+    (first allowance : ℕ) (w : World) (P : Visit → Type 0) → SomeBlock P (fetched_by first allowance w) → (Passes first allowance w → ⊥) → ⊥
 unfolding fetched_by
-none_fetched first allowance w P does refused = subst (Some P) (if_neg (passes? first allowance w) refused _ _) does
+none_fetched first allowance w P does refused = subst (SomeBlock P) (if_neg (passes? first allowance w) refused _ _) does
 
 -- ---- what a block reads and writes
 

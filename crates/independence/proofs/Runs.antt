@@ -8,7 +8,7 @@ use mathlib.Core.Path.{◌≡◌, sym, ◌∙◌, ap}
 use native.Mathlib.Decide.{dec_le, dec_lt}
 use native.Mathlib.Omega.{arith}
 use lib.ListN.{length}
-use Rattle.board.specs.declared.chain.End.{End}
+use Rattle.board.specs.declared.chain.Outcome.{Outcome}
 use Rattle.wire.proofs.Memory.{range_same}
 use Rattle.answers.specs.declared.RunAnswer.{RunAnswer}
 use Rattle.board.specs.Ends.{end_of, ended_of}
@@ -40,16 +40,16 @@ module _ (chain : Chain) where
       record { out = ap end_of is; left = ap (λ e. e.world) is; reads = of_same ReadsHost all; writes = of_same WritesHost all }
 
   -- One that is refused does nothing.
-  refused_with : RunAnswer → End
+  refused_with : RunAnswer → Outcome
   refused_with a = ended_of a 0 nothing
 
-  abbrev answer_for : ℕ → End
+  abbrev answer_for : ℕ → Outcome
   answer_for long =
       ite (dec_lt long 512) (refused_with RunAnswer.EventsShort)
       (ite (Dec.not (Dec.and (dec_le 1 allowance) (dec_le allowance 64))) (refused_with RunAnswer.AllowanceBad)
       (refused_with RunAnswer.FirstBad))
 
-  abbrev refusal : Step worlds End
+  abbrev refusal : Step worlds Outcome
   refusal = still worlds NoBlock (λ w. answer_for (length w.events))
 
   refused_out : (w : World) → (Passes first allowance w → ⊥) → end_of (ran first allowance w) ≡ answer_for (length w.events)

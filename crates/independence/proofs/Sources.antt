@@ -1,5 +1,8 @@
 -- Every byte of host memory that a store of a block takes its value from is one that the block reads, in the paper's words.
 -- What is stored before and after the data are numbers; the data of a write comes from where its transfer has it.
+use Rattle.answers.specs.declared.Refusal.{Refusal}
+use Rattle.judge.specs.declared.Plan.{Plan}
+use Rattle.std.proofs.Common.{Err, Ok, Result}
 use Prim.Native.Nat.{ℕ, zero, suc, ◌+◌, ◌*◌, ◌<◌}
 use mathlib.Core.Bool.{Bool, true, false}
 use mathlib.Core.List.{List, [], ◌∷◌, ◌++◌}
@@ -8,13 +11,10 @@ use mathlib.Core.Path.{◌≡◌, refl, subst}
 use native.Mathlib.Omega.{arith}
 use lib.IntN.{ℤ}
 use Rattle.wire.proofs.Promises.{never}
-use Rattle.answers.specs.declared.BlockAnswer.{BlockAnswer}
-use Rattle.answers.specs.Numbers.{status_of}
+use Rattle.answers.specs.Numbers.{BlockAnswer, status_of}
 use Rattle.geometry.specs.Drive.{B}
 use Rattle.iopb.specs.declared.Block.{Block}
 use Rattle.iopb.specs.Errors.{error_byte}
-use Rattle.judge.specs.declared.Verdict.{Verdict}
-use Rattle.judge.specs.declared.Verdict.TheVariants.{Refused, Do}
 use Rattle.transfer.specs.Data.{Transfer, data_on, move_at, progress_on}
 use Rattle.transfer.specs.Stores.{ByteAt, Store, bytes_from, copy_of, event_byte, host_byte, image_byte, up_to}
 use Rattle.block.specs.Block.{Drive, Effect, begun, finish, reported, transfer_of}
@@ -86,11 +86,11 @@ finish_has_none b at i answer travel x there =
 
 -- Of what performing stores only the data has a source.
 performed_sources :
-    (host : List ℕ) (d : Drive) (at : ℕ) (verd : Verdict) (x : ℕ) → Sourced (acted_on host d at verd).stores x →
+    (host : List ℕ) (d : Drive) (at : ℕ) (verd : Result Plan Refusal) (x : ℕ) → Sourced (acted_on host d at verd).stores x →
     Sourced (data_on d.image (transfer_of host d.unit (moving_of verd))) x
 unfolding Sourced
-performed_sources host d at (Refused r) x there = absurd there
-performed_sources host d at (Do p) x there =
+performed_sources host d at (Err r) x there = absurd there
+performed_sources host d at (Ok p) x there =
     ⊎_elim
     (λ earlier.
     ⊎_elim (λ mark. absurd (numbers_have_none host_byte (at + 2) (0x81 ∷ 0x00 ∷ []) x mark)) (λ middle. middle)

@@ -1,5 +1,6 @@
 -- The two-sector drives of the pairs: its numbers, which of its requests pass, and what becomes of each of its sectors.
 -- The geometry's shut definitions are opened by their equations, and what is left is arithmetic on numerals.
+use Rattle.std.proofs.Common.{Err, Ok}
 use Prim.Native.Nat.{ℕ, ◌+◌, ◌*◌, ◌/◌, ◌≤◌, ◌<◌}
 use mathlib.Core.Bool.{Bool, true, false, not}
 use mathlib.Core.List.{List}
@@ -8,7 +9,6 @@ use native.Mathlib.Omega.{arith}
 use lib.Dec.{eqb}
 use lib.ListN.{get_or, length}
 use Rattle.wire.specs.Memory.{InMemory}
-use Rattle.answers.specs.declared.BlockAnswer.{BlockAnswer}
 use Rattle.answers.specs.declared.Refusal.{Refusal}
 use Rattle.block.specs.Steps.{transfer_with}
 use Rattle.geometry.specs.declared.Geometry.{Geometry}
@@ -21,7 +21,6 @@ use Rattle.geometry.specs.Sectors.{first_byte}
 use Rattle.geometry.specs.Sectors.Inside.{address_of_is, first_byte_is, mark_byte_is, place_of_is}
 use Rattle.geometry.proofs.Ends.{end_absent, end_present}
 use Rattle.judge.specs.declared.Moving.{Moving}
-use Rattle.judge.specs.declared.Verdict.{Verdict}
 use Rattle.judge.specs.Given.{on}
 use Rattle.judge.specs.Plans.{carrying, job_of, plan_of}
 use Rattle.judge.specs.Verdict.{verdict}
@@ -144,13 +143,13 @@ module _ (k : Controller) (host : List ℕ) (c : ℕ) (heads : c < 2) where
   pub move_passes :
       (to_host : Bool) (n count at : ℕ) → 0 < count → n + count ≤ 2 → InMemory host at (count * 64) →
       verdict (on k (unit c) 130 (Task.Move (move_of to_host n count at)) host) ≡
-      Verdict.Do (carrying (job_of (move_of to_host n count at) n))
+      Ok (carrying (job_of (move_of to_host n count at) n))
   move_passes to_host n count at some fits held =
       by_its_buffer to_host n count (Buffer.Piece at) some fits ∙ piece_done k (unit c) 130 host (move_of to_host n count at) at refl n refl held
 
   pub long_list_refused :
       (to_host : Bool) (n count at elements : ℕ) → 0 < count → n + count ≤ 2 → 64 < elements →
-      verdict (on k (unit c) 130 (Task.Move (move_by to_host n count (Buffer.List at elements))) host) ≡ Verdict.Refused Refusal.ListBad
+      verdict (on k (unit c) 130 (Task.Move (move_by to_host n count (Buffer.List at elements))) host) ≡ Err Refusal.ListBad
   long_list_refused to_host n count at elements some fits over =
       let b = Buffer.List at elements in
       by_its_buffer to_host n count b some fits ∙
@@ -168,7 +167,7 @@ pub format_passes :
     (k : Controller) (host : List ℕ) (cylinders sectors buffer : ℕ) → SizesWithin (shaped cylinders sectors) → cylinders * sectors ≡ 2 →
     InMemory host buffer 64 →
     let u = fresh (shaped cylinders sectors) in
-    verdict (on k u 130 (Task.Format (track buffer)) host) ≡ Verdict.Do (plan_of u (Task.Format (track buffer)))
+    verdict (on k u 130 (Task.Format (track buffer)) host) ≡ Ok (plan_of u (Task.Format (track buffer)))
 format_passes k host cylinders sectors buffer sizes two held =
     let u = fresh (shaped cylinders sectors) in
     own k u 130 host _ tt (nobody k (shaped cylinders sectors)) ∙
@@ -200,12 +199,12 @@ module _ (image : List ℕ) (long : length image ≡ 130) (at : ℕ) where
   abbrev pub carried_on : Bool → ℕ → Progress
   carried_on to_host count = progress_on image (transfer_with (unit 0) (Moving.Sectors (job_of (move_of to_host 0 count at) 0)) (λ k. k))
 
-  pub write_of_one : carried_on false 1 ≡ record { sectors = 1; answer = BlockAnswer.Ended }
+  pub write_of_one : carried_on false 1 ≡ record { sectors = 1; answer = Ok tt }
   unfolding progress
   write_of_one = rw (place_is 0 0, unheeded image 0)
 
   module _ (good : get_or image 128 0 ≡ 0) where
-    pub read_of_one : carried_on true 1 ≡ record { sectors = 1; answer = BlockAnswer.Ended }
+    pub read_of_one : carried_on true 1 ≡ record { sectors = 1; answer = Ok tt }
     unfolding progress
     read_of_one = rw (place_is 0 0, heeded image 0, good)
 
@@ -217,7 +216,7 @@ module _ (image : List ℕ) (long : length image ≡ 130) (at : ℕ) where
         (up_to_same 64 _ _ (λ i less. ap (λ (x : ℕ). record { to = host_byte (at + i); value = copy_of (image_byte x) }) (rw (place_is 0 (0 + i / 64), starts_at (0 + i / 64)) (omega arith))))
 
     pub read_stopped :
-        get_or image 129 0 ≡ 1 → carried_on true 2 ≡ record { sectors = 1; answer = BlockAnswer.Failed Refusal.Unreadable }
+        get_or image 129 0 ≡ 1 → carried_on true 2 ≡ record { sectors = 1; answer = Err Refusal.Unreadable }
     unfolding progress
     read_stopped bad =
         rw (place_is 0 0, place_is 0 1, heeded image 0, heeded image 1, good, bad)

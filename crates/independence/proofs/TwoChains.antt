@@ -1,5 +1,6 @@
 -- The pairs of demand 3: what each chain of a pair comes to, reads and writes is told by the verdict on its one block.
 -- Which bytes are shared is then arithmetic on their addresses.
+use Rattle.std.proofs.Common.{Err, Ok, Result}
 use Prim.Native.Nat.{ℕ, ◌+◌, ◌-◌, ◌≤◌, ◌<◌}
 use mathlib.Core.Bool.{true, false}
 use mathlib.Core.List.{[], ◌∷◌, ◌++◌}
@@ -10,7 +11,6 @@ use lib.ListN.{get_or, length}
 use Rattle.board.specs.Ends.{end_of}
 use Rattle.wire.specs.Among.{Among}
 use Rattle.wire.specs.Words.{word}
-use Rattle.answers.specs.declared.BlockAnswer.TheVariants.{Ended, Failed}
 use Rattle.answers.specs.declared.Refusal.{Refusal}
 use Rattle.answers.specs.declared.RunAnswer.{RunAnswer}
 use Rattle.iopb.specs.Ask.{task_of}
@@ -21,7 +21,6 @@ use Rattle.judge.specs.declared.Leaving.{Leaving}
 use Rattle.judge.specs.declared.Moving.{Moving}
 use Rattle.judge.specs.declared.Plan.{Plan}
 use Rattle.judge.specs.declared.Report.{Report}
-use Rattle.judge.specs.declared.Verdict.{Verdict}
 use Rattle.judge.specs.Plans.{only, plan, plan_of}
 use Rattle.judge.proofs.First.{no_more}
 use Rattle.judge.proofs.Locality.{placed_uib_read}
@@ -59,7 +58,7 @@ use Rattle.independence.proofs.OneBlock.{In, by_block, done, failed, leaves}
 use Rattle.independence.proofs.Refused.{Bare, unready_unread}
 use Rattle.independence.proofs.Tiny.{counts, format_passes, heads_there, move_of, place_is, starts_at, track, unit}
 use Rattle.board.specs.World.{World, buffers_of, changed, world_after}
-use Rattle.judge.specs.Passed.{None}
+use Rattle.judge.specs.Passed.{NoneGiven}
 
 abbrev first_of : Both → Visit
 first_of s = record { at = 0; index = 0; world = first_in s }
@@ -79,11 +78,11 @@ both_pass s events1 events2 long =
 adjacent_pass : Passes 0 1 (first_in adjacent) × Passes 28 1 (second_in adjacent)
 adjacent_pass = both_pass adjacent refl refl (omega arith)
 
-adjacent_read : Carried (first_in adjacent) 0 true 56 1 1 Ended
+adjacent_read : Carried (first_in adjacent) 0 true 56 1 1 (Ok tt)
 unfolding word task_of
 adjacent_read = read_carried (first_in adjacent) 0 adjacent_pass.0 7 0 refl 56 refl (omega arith)
 
-adjacent_write : Carried (second_in adjacent) 28 false 120 1 1 Ended
+adjacent_write : Carried (second_in adjacent) 28 false 120 1 1 (Ok tt)
 unfolding word task_of
 adjacent_write = write_carried (second_in adjacent) 28 adjacent_pass.1 9 0 refl 120 refl (omega arith)
 
@@ -108,7 +107,7 @@ refused_first : Bare (first_in refused_data) 0 (come RunAnswer.BlockFailed 11 0)
 unfolding word task_of
 refused_first = unready_unread (first_in refused_data) 0 refused_pass.0 refl (move_of false 0 1 28) refl not_ready
 
-refused_read : Carried (second_in refused_data) 28 true 56 1 1 Ended
+refused_read : Carried (second_in refused_data) 28 true 56 1 1 (Ok tt)
 unfolding word task_of
 refused_read = read_carried (second_in refused_data) 28 refused_pass.1 9 0 refl 56 refl (omega arith)
 
@@ -132,11 +131,11 @@ one_of_two p q x (inr (inr none)) = absurd none
 stopped_pass : Passes 0 1 (first_in stopped_read) × Passes 28 1 (second_in stopped_read)
 stopped_pass = both_pass stopped_read refl refl (omega arith)
 
-stopped_read_lem : Carried (first_in stopped_read) 0 true 56 2 1 (Failed Refusal.Unreadable)
+stopped_read_lem : Carried (first_in stopped_read) 0 true 56 2 1 (Err Refusal.Unreadable)
 unfolding word task_of
 stopped_read_lem = read_stopped_carried (first_in stopped_read) 0 stopped_pass.0 7 1 refl 56 refl refl (omega arith)
 
-stopped_write : Carried (second_in stopped_read) 28 false 120 1 1 Ended
+stopped_write : Carried (second_in stopped_read) 28 false 120 1 1 (Ok tt)
 unfolding word task_of
 stopped_write = write_carried (second_in stopped_read) 28 stopped_pass.1 9 0 refl 120 refl (omega arith)
 
@@ -164,7 +163,7 @@ rest_not_written = (
 beside_pass : Passes 0 1 (first_in beside_format) × Passes 28 1 (second_in beside_format)
 beside_pass = both_pass beside_format refl refl (omega arith)
 
-beside_judged : verdict_of (first_of beside_format) ≡ Verdict.Do (plan_of (unit 0) (Task.Format (track 256)))
+beside_judged : verdict_of (first_of beside_format) ≡ Ok (plan_of (unit 0) (Task.Format (track 256)))
 unfolding word task_of
 beside_judged = format_passes FirstController beside_format.host1 2 1 256 (omega arith) refl (omega arith)
 
@@ -176,7 +175,7 @@ beside_told : FormatTold (first_of beside_format)
 unfolding word task_of
 beside_told = format_comes (first_in beside_format) beside_pass.0 256 refl refl beside_judged
 
-beside_second : Carried (second_in beside_format) 28 false 10 1 1 Ended
+beside_second : Carried (second_in beside_format) 28 false 10 1 1 (Ok tt)
 unfolding word task_of
 beside_second = write_carried (second_in beside_format) 28 beside_pass.1 9 0 refl 10 refl (omega arith)
 
@@ -207,7 +206,7 @@ three_bytes_written = (
 refused_format_pass : Passes 0 1 (first_in refused_format) × Passes 28 1 (second_in refused_format)
 refused_format_pass = both_pass refused_format refl refl (omega arith)
 
-refused_format_lem : verdict_of (first_of refused_format) ≡ Verdict.Refused Refusal.NotInitialized
+refused_format_lem : verdict_of (first_of refused_format) ≡ Err Refusal.NotInitialized
 unfolding word task_of
 refused_format_lem = own _ _ _ _ _ tt refl ∙ format_11 FirstController new_drive.unit 0 refused_format.host1 (track 256) not_ready
 
@@ -215,7 +214,7 @@ refused_format_first : Alone 0 (first_in refused_format) Zero ((0, 28) ∷ []) (
 unfolding word task_of
 refused_format_first = idle (first_in refused_format) 0 refused_format_pass.0 _ refused_format_lem refl refl (λ s is. impossible cc) (λ m is. impossible cc)
 
-refused_format_second : Carried (second_in refused_format) 28 false 6 1 1 Ended
+refused_format_second : Carried (second_in refused_format) 28 false 6 1 1 (Ok tt)
 unfolding word task_of
 refused_format_second = write_carried (second_in refused_format) 28 refused_format_pass.1 9 0 refl 6 refl (omega arith)
 
@@ -253,16 +252,16 @@ met_pairs =
 twice_pass : Passes 0 1 (first_in written_twice) × Passes 28 1 (second_in written_twice)
 twice_pass = both_pass written_twice refl refl (omega arith)
 
-twice_first : Carried (first_in written_twice) 0 true 56 1 1 Ended
+twice_first : Carried (first_in written_twice) 0 true 56 1 1 (Ok tt)
 unfolding word task_of
 twice_first = read_carried (first_in written_twice) 0 twice_pass.0 7 0 refl 56 refl (omega arith)
 
-twice_second : Carried (second_in written_twice) 28 true 56 1 1 Ended
+twice_second : Carried (second_in written_twice) 28 true 56 1 1 (Ok tt)
 unfolding word task_of
 twice_second = read_carried (second_in written_twice) 28 twice_pass.1 9 0 refl 56 refl (omega arith)
 
 -- Byte 56 gets the byte of the disk that was read.
-module _ (w : World) (at : ℕ) (passes : Passes at 1 w) (c : Carried w at true 56 1 1 Ended) where
+module _ (w : World) (at : ℕ) (passes : Passes at 1 w) (c : Carried w at true 56 1 1 (Ok tt)) where
   abbrev u : Visit
   u = v w at passes
 
@@ -336,13 +335,13 @@ within_tiny = (counts 0 (omega arith)).within
 shared_pass : Passes 0 1 (first_in shared_unit) × Passes 28 1 (second_in shared_unit)
 shared_pass = both_pass shared_unit refl refl (omega arith)
 
-shared_initialize : verdict_of (first_of shared_unit) ≡ Verdict.Do (only (Leaving.Fresh tiny))
+shared_initialize : verdict_of (first_of shared_unit) ≡ Ok (only (Leaving.Fresh tiny))
 unfolding word task_of
 shared_initialize =
     rw (shape_at_inside shared_unit.host1 32 (omega arith))
     (own _ _ _ _ _ tt refl ∙ shape_given FirstController new_drive.unit 0 shared_unit.host1 tiny within_tiny)
 
-shared_restore : verdict_of (second_of shared_unit) ≡ Verdict.Refused Refusal.NotInitialized
+shared_restore : verdict_of (second_of shared_unit) ≡ Err Refusal.NotInitialized
 unfolding word task_of
 shared_restore = own _ _ _ _ _ tt refl ∙ restore_refused FirstController new_drive.unit 0 shared_unit.host1 not_ready
 
@@ -358,7 +357,7 @@ shared_second = idle (second_in shared_unit) 28 shared_pass.1 _ shared_restore r
 abbrev initialized_world : World
 initialized_world =
     let w = first_in shared_unit in
-    changed w Zero (after (begun 0 ++ finish (block_at w.host 0) 0 0 Ended (pos 0)) (buffers_of w Zero)) (fresh tiny)
+    changed w Zero (after (begun 0 ++ finish (block_at w.host 0) 0 0 (Ok tt) (pos 0)) (buffers_of w Zero)) (fresh tiny)
 
 initialize_leaves : (run_of First one).left shared_unit ≡ leaving First FirstController shared_unit initialized_world
 unfolding world_after bytes_from data_on progress up_to
@@ -373,7 +372,7 @@ then_passes : Passes 28 1 (second_in then_shared)
 unfolding after bytes_from
 then_passes = passes_at (second_in then_shared) 28 refl refl (omega arith)
 
-then_restore : verdict_of (second_of then_shared) ≡ Verdict.Do (only (Leaving.HeadsAt 0))
+then_restore : verdict_of (second_of then_shared) ≡ Ok (only (Leaving.HeadsAt 0))
 unfolding word task_of after bytes_from
 then_restore = own _ _ _ _ _ tt refl ∙ restore_done FirstController (unit 0) 0 then_shared.host1 (counts 0 (omega arith))
 
@@ -402,11 +401,11 @@ shared_unit_lem = (
 read_pass : Passes 0 1 (first_in read_by_other) × Passes 28 1 (second_in read_by_other)
 read_pass = both_pass read_by_other refl refl (omega arith)
 
-read_report : verdict_of (first_of read_by_other) ≡ Verdict.Do (plan Moving.Nothing Report.Identity Leaving.AsItWas)
+read_report : verdict_of (first_of read_by_other) ≡ Ok (plan Moving.Nothing Report.Identity Leaving.AsItWas)
 unfolding word task_of
 read_report = handshake FirstController (unit 0) 130 read_by_other.host1
 
-read_initialize : verdict_of (second_of read_by_other) ≡ Verdict.Do (only (Leaving.Fresh tiny))
+read_initialize : verdict_of (second_of read_by_other) ≡ Ok (only (Leaving.Fresh tiny))
 unfolding word task_of
 read_initialize =
     rw (shape_at_inside read_by_other.host1 4 (omega arith))
@@ -418,7 +417,7 @@ read_first =
     alone (first_in read_by_other) 0 read_pass.0 [] ((4, 12) ∷ [])
     (λ x j. ⊎_elim (λ uib. absurd (no_uib _ _ _ x (λ s is. impossible cc) uib)) (λ list. absurd (no_list _ x (λ m is. impossible cc) list)) j)
     (still (first_in read_by_other) 0 read_pass.0 _ read_report refl false)
-    (λ x among. inl (subst (λ (verd : Verdict). InReport 0 (report_of verd) x) read_report among))
+    (λ x among. inl (subst (λ (verd : Result Plan Refusal). InReport 0 (report_of verd) x) read_report among))
     (λ x d. absurd (still (first_in read_by_other) 0 read_pass.0 _ read_report refl true x d))
 
 read_second : Alone 28 (second_in read_by_other) One ((28, 28) ∷ (4, 18) ∷ []) ((30, 2) ∷ [])
@@ -428,7 +427,7 @@ read_second = initialized (second_in read_by_other) 28 read_pass.1 _ read_initia
 abbrev reported_world : World
 reported_world =
     let w = first_in read_by_other in
-    changed w Zero (after (begun 0 ++ bytes_from Stores.host_byte 4 identity_bytes ++ finish (block_at w.host 0) 0 0 Ended (pos 0)) (buffers_of w Zero)) (unit 0)
+    changed w Zero (after (begun 0 ++ bytes_from Stores.host_byte 4 identity_bytes ++ finish (block_at w.host 0) 0 0 (Ok tt) (pos 0)) (buffers_of w Zero)) (unit 0)
 
 report_leaves : (run_of First one).left read_by_other ≡ leaving First FirstController read_by_other reported_world
 unfolding world_after bytes_from data_on progress up_to
@@ -444,7 +443,7 @@ unfolding after bytes_from
 then_read_passes = passes_at (second_in then_read) 28 refl refl (omega arith)
 
 -- The UIB now says that volume 0 has no heads.
-then_outside : verdict_of (second_of then_read) ≡ Verdict.Refused Refusal.UibOutsideLimits
+then_outside : verdict_of (second_of then_read) ≡ Err Refusal.UibOutsideLimits
 unfolding word task_of after bytes_from Present
 then_outside =
     rw (shape_at_inside then_read.host1 4 (omega arith))
@@ -459,7 +458,7 @@ read_differs =
 read_by_other_lem :
     (NoByteReadByOther one two read_by_other → ⊥) ×
     (NoUnitInCommon one two read_by_other × (NoByteWrittenByBoth one two read_by_other × (EitherWay one two read_by_other → ⊥)))
-unfolding word task_of None
+unfolding word task_of NoneGiven
 read_by_other_lem = (
   λ none.
       (none refl 4).0 (by_block 0 _ read_pass.0 (λ v. WritesHost v 4) (report (rw read_report (omega arith, omega arith))))
@@ -474,7 +473,7 @@ read_by_other_lem = (
 format_pass : Passes 0 1 (first_in format_read) × Passes 28 1 (second_in format_read)
 format_pass = both_pass format_read refl refl (omega arith)
 
-format_accepted : verdict_of (first_of format_read) ≡ Verdict.Do (plan_of (unit 0) (Task.Format (track 256)))
+format_accepted : verdict_of (first_of format_read) ≡ Ok (plan_of (unit 0) (Task.Format (track 256)))
 unfolding word task_of
 format_accepted = format_passes FirstController format_read.host1 2 1 256 (omega arith) refl (omega arith)
 
@@ -485,11 +484,11 @@ format_first = format_alone (first_in format_read) format_pass.0 256 refl refl f
 abbrev format_plan : ℕ → Plan
 format_plan c = let p = plan_of (unit 0) (Task.Format (track 256)) in plan p.moving p.report (Leaving.HeadsAt c)
 
-format_judged : verdict_of (first_of format_read) ≡ Verdict.Do (format_plan 0)
-format_judged = format_accepted ∙ ap (λ c. Verdict.Do (format_plan c)) heads_there
+format_judged : verdict_of (first_of format_read) ≡ Ok (format_plan 0)
+format_judged = format_accepted ∙ ap (λ c. Ok (format_plan c)) heads_there
 
 -- Alone the UIB says that volume 0 has no heads.
-format_outside : verdict_of (second_of format_read) ≡ Verdict.Refused Refusal.UibOutsideLimits
+format_outside : verdict_of (second_of format_read) ≡ Err Refusal.UibOutsideLimits
 unfolding word task_of Present
 format_outside =
     rw (shape_at_inside format_read.host1 8 (omega arith))
@@ -505,7 +504,7 @@ abbrev formatted_world : World
 formatted_world =
     let w = first_in format_read in
     let data-stores = data_on (drive_with 7 0).image (transfer_of w.host (unit 0) (plan_of (unit 0) (Task.Format (track 256))).moving) in
-    changed w Zero (after (begun 0 ++ data-stores ++ bytes_from Stores.host_byte 7 (0 ∷ 0 ∷ 1 ∷ []) ++ finish (block_at w.host 0) 0 0 Ended (pos 0)) (buffers_of w Zero)) (unit 0)
+    changed w Zero (after (begun 0 ++ data-stores ++ bytes_from Stores.host_byte 7 (0 ∷ 0 ∷ 1 ∷ []) ++ finish (block_at w.host 0) 0 0 (Ok tt) (pos 0)) (buffers_of w Zero)) (unit 0)
 
 format_leaves : (run_of First one).left format_read ≡ leaving First FirstController format_read formatted_world
 unfolding world_after bytes_from data_on progress up_to stops_at
@@ -520,7 +519,7 @@ then_format_passes : Passes 28 1 (second_in then_format)
 unfolding after bytes_from data_on progress up_to stops_at
 then_format_passes = passes_at (second_in then_format) 28 refl refl (omega arith)
 
-then_within : verdict_of (second_of then_format) ≡ Verdict.Do (only (Leaving.Fresh tiny))
+then_within : verdict_of (second_of then_format) ≡ Ok (only (Leaving.Fresh tiny))
 unfolding word task_of after bytes_from data_on progress up_to stops_at
 then_within =
     rw (shape_at_inside then_format.host1 8 (omega arith))
@@ -538,7 +537,7 @@ format_differs =
 format_read_lem :
     (NoByteReadByOther one two format_read → ⊥) ×
     (NoUnitInCommon one two format_read × (NoByteWrittenByBoth one two format_read × (EitherWay one two format_read → ⊥)))
-unfolding word task_of None
+unfolding word task_of NoneGiven
 format_read_lem = (
   λ none.
       (none refl 9).0 (format_wrote (first_in format_read) format_pass.0 256 refl refl format_accepted 9 (omega arith))

@@ -1,5 +1,6 @@
 -- The pairs where a drive is held, and those on two controllers.
 -- A block that is refused by 24 is told by its verdict alone, and bytes of two memories are no-more the same byte.
+use Rattle.std.proofs.Common.{Err, Ok, Some}
 use Prim.Native.Nat.{ℕ, ◌+◌}
 use mathlib.Core.Bool.{true}
 use mathlib.Core.List.{[], ◌∷◌, ◌++◌}
@@ -10,13 +11,11 @@ use lib.IntN.{pos}
 use Rattle.board.specs.Ends.{end_of}
 use Rattle.wire.specs.Words.{word}
 use Rattle.wire.proofs.Promises.{never as impossible}
-use Rattle.answers.specs.declared.BlockAnswer.TheVariants.{Ended}
 use Rattle.answers.specs.declared.Refusal.{Refusal}
 use Rattle.answers.specs.declared.RunAnswer.{RunAnswer}
 use Rattle.iopb.specs.Ask.{task_of}
 use Rattle.iopb.specs.Layout.{block_at}
 use Rattle.judge.specs.declared.Leaving.{Leaving}
-use Rattle.judge.specs.declared.Verdict.{Verdict}
 use Rattle.judge.specs.Plans.{only}
 use Rattle.judge.proofs.Tasks.{held_24, own, restore_done}
 use Rattle.request.specs.declared.Task.{Task}
@@ -25,7 +24,6 @@ use Rattle.transfer.specs.Data.{data_on}
 use Rattle.transfer.specs.Progress.{progress}
 use Rattle.transfer.specs.Stores.{after, bytes_from, up_to}
 use Rattle.unit.specs.declared.Controller.TheVariants.{First as FirstController, Second as SecondController}
-use Rattle.unit.specs.declared.Holder.TheVariants.{TheFirst}
 use Rattle.unit.specs.Standing.{held_by}
 use Rattle.block.specs.Block.{begun, finish}
 use Rattle.demands.specs.Footprint.{ReadsHost, WritesHost, names, verdict_of}
@@ -47,7 +45,7 @@ use Rattle.board.specs.World.{World, buffers_of, changed, world_after}
 
 -- A block that is refused by 24 reads its 28 bytes and writes its word 1, whatever it asked for.
 held_alone :
-    (w : World) (at : ℕ) (passes : Passes at 1 w) → verdict_of (v w at passes) ≡ Verdict.Refused Refusal.DriveHeld →
+    (w : World) (at : ℕ) (passes : Passes at 1 w) → verdict_of (v w at passes) ≡ Err Refusal.DriveHeld →
     Alone at w (names (v w at passes)) ((at, 28) ∷ []) ((at + 2, 2) ∷ [])
 held_alone w at passes is =
     record {
@@ -68,11 +66,11 @@ held_alone w at passes is =
 uib_pass : Passes 0 1 (first_in held_uib) × Passes 28 1 (second_in held_uib)
 uib_pass = both_pass held_uib refl refl (omega arith)
 
-uib_first : Carried (first_in held_uib) 0 true 56 1 1 Ended
+uib_first : Carried (first_in held_uib) 0 true 56 1 1 (Ok tt)
 unfolding word task_of
 uib_first = read_carried (first_in held_uib) 0 uib_pass.0 7 0 refl 56 refl (omega arith)
 
-uib_held : verdict_of (v (second_in held_uib) 28 uib_pass.1) ≡ Verdict.Refused Refusal.DriveHeld
+uib_held : verdict_of (v (second_in held_uib) 28 uib_pass.1) ≡ Err Refusal.DriveHeld
 unfolding word task_of
 uib_held = held_24 FirstController held_drive.unit _ _ (Task.Initialize _) tt refl
 
@@ -85,11 +83,11 @@ uib_second = held_alone (second_in held_uib) 28 uib_pass.1 uib_held
 list_pass : Passes 0 1 (first_in held_list) × Passes 28 1 (second_in held_list)
 list_pass = both_pass held_list refl refl (omega arith)
 
-list_first : Carried (first_in held_list) 0 true 56 1 1 Ended
+list_first : Carried (first_in held_list) 0 true 56 1 1 (Ok tt)
 unfolding word task_of
 list_first = read_carried (first_in held_list) 0 list_pass.0 7 0 refl 56 refl (omega arith)
 
-list_held : verdict_of (v (second_in held_list) 28 list_pass.1) ≡ Verdict.Refused Refusal.DriveHeld
+list_held : verdict_of (v (second_in held_list) 28 list_pass.1) ≡ Err Refusal.DriveHeld
 unfolding word task_of
 list_held = held_24 FirstController held_drive.unit _ _ (Task.Move _) tt refl
 
@@ -105,11 +103,11 @@ two_controllers same = impossible (cc same)
 same_pass : Passes 0 1 (first_in same_bytes) × Passes 28 1 (other_in same_bytes)
 same_pass = (passes_at (first_in same_bytes) 0 refl refl (omega arith), passes_at (other_in same_bytes) 28 refl refl (omega arith))
 
-same_first : Carried (first_in same_bytes) 0 true 28 1 1 Ended
+same_first : Carried (first_in same_bytes) 0 true 28 1 1 (Ok tt)
 unfolding word task_of
 same_first = read_carried (first_in same_bytes) 0 same_pass.0 7 0 refl 28 refl (omega arith)
 
-same_second : Carried (other_in same_bytes) 28 true 0 1 1 Ended
+same_second : Carried (other_in same_bytes) 28 true 0 1 1 (Ok tt)
 unfolding word task_of
 same_second = read_carried (other_in same_bytes) 28 same_pass.1 9 0 refl 0 refl (omega arith)
 
@@ -156,11 +154,11 @@ met_by_two =
 shared_pass : Passes 0 1 (first_in shared_drive) × Passes 28 1 (other_in shared_drive)
 shared_pass = (passes_at (first_in shared_drive) 0 refl refl (omega arith), passes_at (other_in shared_drive) 28 refl refl (omega arith))
 
-first_restores : verdict_of (v (first_in shared_drive) 0 shared_pass.0) ≡ Verdict.Do (only (Leaving.HeadsAt 0))
+first_restores : verdict_of (v (first_in shared_drive) 0 shared_pass.0) ≡ Ok (only (Leaving.HeadsAt 0))
 unfolding word task_of
 first_restores = own _ _ _ _ _ tt refl ∙ restore_done FirstController (unit 0) 130 shared_drive.host1 (counts 0 (omega arith))
 
-other_restores : verdict_of (v (other_in shared_drive) 28 shared_pass.1) ≡ Verdict.Do (only (Leaving.HeadsAt 0))
+other_restores : verdict_of (v (other_in shared_drive) 28 shared_pass.1) ≡ Ok (only (Leaving.HeadsAt 0))
 unfolding word task_of
 other_restores = own _ _ _ _ _ tt refl ∙ restore_done SecondController (unit 0) 130 shared_drive.host2 (counts 0 (omega arith))
 
@@ -171,7 +169,7 @@ alone_done = comes_done (other_in shared_drive) 28 shared_pass.1 refl _ other_re
 abbrev taken_world : World
 taken_world =
     let w = first_in shared_drive in
-    changed w Zero (after (begun 0 ++ finish (block_at w.host 0) 0 0 Ended (pos 0)) (buffers_of w Zero)) (held_by (unit 0) TheFirst)
+    changed w Zero (after (begun 0 ++ finish (block_at w.host 0) 0 0 (Ok tt) (pos 0)) (buffers_of w Zero)) (held_by (unit 0) (Some FirstController))
 
 takes : (run_of First one).left shared_drive ≡ leaving First FirstController shared_drive taken_world
 unfolding world_after bytes_from data_on progress up_to
@@ -186,9 +184,9 @@ then_pass : Passes 28 1 (other_in then)
 unfolding after bytes_from
 then_pass = passes_at (other_in then) 28 refl refl (omega arith)
 
-then_held : verdict_of (v (other_in then) 28 then_pass) ≡ Verdict.Refused Refusal.DriveHeld
+then_held : verdict_of (v (other_in then) 28 then_pass) ≡ Err Refusal.DriveHeld
 unfolding word task_of after bytes_from
-then_held = held_24 SecondController (held_by (unit 0) TheFirst) _ _ Task.Restore tt refl
+then_held = held_24 SecondController (held_by (unit 0) (Some FirstController)) _ _ Task.Restore tt refl
 
 then_refused : of_other then ≡ come RunAnswer.BlockFailed 24 0
 then_refused = comes_refused (other_in then) 28 then_pass _ then_held

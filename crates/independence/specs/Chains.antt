@@ -1,7 +1,7 @@
 -- A chain run on its world, and two chains, each run by either controller, on the memories of the two, the drives that they share, and an event
 -- buffer for each chain (00, demand 3; 02, K10), as steps with a footprint.
 use Rattle.std.specs.Prelude.{ℕ, List, ◌≡◌, get_or, length}
-use Rattle.board.specs.declared.chain.End.{End}
+use Rattle.board.specs.declared.chain.Outcome.{Outcome}
 use Rattle.unit.specs.declared.UnitNumber.{UnitNumber}
 use Rattle.unit.specs.declared.UnitNumber.TheVariants.{Zero, One}
 use Rattle.unit.specs.declared.Controller.{Controller}
@@ -32,7 +32,7 @@ module _ (c : Chain) (w : World) where
   HostWrites = RunWrites c.first c.allowance w
 
 -- The run of a chain as a step on its world. Its footprint is that of the chain followed alone.
-abbrev pub run_on : Chain → Step worlds End
+abbrev pub run_on : Chain → Step worlds Outcome
 run_on c =
     record {
       out = λ w. end_of (ran c.first c.allowance w);
@@ -128,5 +128,5 @@ abbrev pub place_of : Which → Controller → Place worlds both
 place_of t c = record { seen = world_for t c; back = leaving t c; Cells = cells_of t c }
 
 -- The run of a chain, as one of the two.
-abbrev pub run_of : Which → Chain → Step both End
+abbrev pub run_of : Which → Chain → Step both Outcome
 run_of t k = placed (place_of t k.controller) (run_on k)

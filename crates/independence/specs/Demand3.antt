@@ -6,7 +6,7 @@
 -- alone. A run that is refused fetches no block and is covered too; so is a chain that writes over its own blocks, for a chain may read what
 -- it wrote itself.
 use Rattle.std.specs.Prelude.{ℕ, ◌≡◌}
-use Rattle.board.specs.declared.chain.End.{End}
+use Rattle.board.specs.declared.chain.Outcome.{Outcome}
 use Rattle.unit.specs.declared.Controller.{Controller}
 use Rattle.unit.specs.declared.UnitNumber.{UnitNumber}
 use Rattle.independence.specs.Chains.{Both, BothCell, Chain, First, HostReads, HostWrites, Names, Second, Which, both, drive_in, events_of, holds, host_of, run_of, world_for}
@@ -46,10 +46,10 @@ module _ (one two : Chain) (s : Both) where
     pub read : NoByteReadByOther
 
   -- The two runs, and all that is there once both are made.
-  abbrev first_run : Step both End
+  abbrev first_run : Step both Outcome
   first_run = run_of First one
 
-  abbrev second_run : Step both End
+  abbrev second_run : Step both Outcome
   second_run = run_of Second two
 
   abbrev pub first_then_second : Both
@@ -59,16 +59,16 @@ module _ (one two : Chain) (s : Both) where
   second_then_first = first_run.left (second_run.left s)
 
   -- How each ends where it comes first, and where it comes after the other.
-  abbrev pub first_alone : End
+  abbrev pub first_alone : Outcome
   first_alone = first_run.out s
 
-  abbrev pub first_after : End
+  abbrev pub first_after : Outcome
   first_after = first_run.out (second_run.left s)
 
-  abbrev pub second_alone : End
+  abbrev pub second_alone : Outcome
   second_alone = second_run.out s
 
-  abbrev pub second_after : End
+  abbrev pub second_after : Outcome
   second_after = second_run.out (first_run.left s)
 
   -- "running them in either order gives the same memory, images, unit records, events, answers and counts": the first and then the second, beside the

@@ -2,7 +2,7 @@
 -- first chain is the block at 0 and the second the block at 28, each with an allowance of 1. Both are run by the first controller. NotCounted has
 -- pairs that show what does not count, FromDisk a chain of two blocks, and TwoControllers the pairs of K10.
 use Rattle.std.specs.Prelude.{ℕ, false, List, [], ◌∷◌, ◌++◌, ◌⊎◌, ◌↔◌, ◌≡◌, replicate}
-use Rattle.board.specs.declared.chain.End.{End}
+use Rattle.board.specs.declared.chain.Outcome.{Outcome}
 use Rattle.wire.specs.Among.{Among}
 use Rattle.answers.specs.declared.RunAnswer.{RunAnswer}
 use Rattle.geometry.specs.declared.Geometry.{Geometry}
@@ -93,16 +93,16 @@ abbrev pub second_in : Both → World
 second_in s = world_for Second FirstController s
 
 -- What a chain of a pair comes to, alone.
-abbrev pub of_first : Both → End
+abbrev pub of_first : Both → Outcome
 of_first s = (run_of First one).out s
 
-abbrev pub of_second : Both → End
+abbrev pub of_second : Both → Outcome
 of_second s = (run_of Second two).out s
 
-abbrev pub come_by : (blocks : ℕ) → RunAnswer → (failed sectors : ℕ) → End
+abbrev pub come_by : (blocks : ℕ) → RunAnswer → (failed sectors : ℕ) → Outcome
 come_by blocks answer failed sectors = record { answer = answer; failed = failed; blocks = blocks; sectors = sectors }
 
-abbrev pub come : RunAnswer → (failed sectors : ℕ) → End
+abbrev pub come : RunAnswer → (failed sectors : ℕ) → Outcome
 come = come_by 1
 
 -- ---- the condition is met

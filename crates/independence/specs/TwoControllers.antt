@@ -1,10 +1,9 @@
 -- Pairs of chains where a drive is held, and pairs on two controllers (02, K10).
-use Rattle.std.specs.Prelude.{ℕ, List, ◌++◌, ◌≡◌, replicate}
-use Rattle.board.specs.declared.chain.End.{End}
+use Rattle.std.specs.Prelude.{ℕ, List, ◌++◌, ◌≡◌, replicate, Some}
+use Rattle.board.specs.declared.chain.Outcome.{Outcome}
 use Rattle.wire.specs.Among.{Among}
 use Rattle.answers.specs.declared.RunAnswer.{RunAnswer}
 use Rattle.unit.specs.declared.Controller.TheVariants.{Second as SecondController}
-use Rattle.unit.specs.declared.Holder.TheVariants.{TheSecond}
 use Rattle.unit.specs.Standing.{held_by}
 use Rattle.independence.specs.Chains.{Both, Chain, First, HostReads, HostWrites, Second, run_of, world_for}
 use Rattle.independence.specs.Demand3.{EitherWay, Independent, NoUnitInCommon, NoByteReadByOther, NoByteWrittenByBoth}
@@ -16,7 +15,7 @@ use Rattle.board.specs.World.{World}
 
 -- A drive that the second holds.
 abbrev pub held_drive : Drive
-held_drive = let d = drive_with 9 0 in record { unit = held_by d.unit TheSecond; image = d.image }
+held_drive = let d = drive_with 9 0 in record { unit = held_by d.unit (Some SecondController); image = d.image }
 
 -- A read from unit 0 to bytes 56 to 119, and an initialize of unit 1 whose UIB begins at 56.
 abbrev pub held_uib : Both
@@ -34,7 +33,7 @@ other = two_by SecondController
 abbrev pub other_in : Both → World
 other_in s = world_for Second SecondController s
 
-abbrev pub of_other : Both → End
+abbrev pub of_other : Both → Outcome
 of_other s = (run_of Second other).out s
 
 -- The first block at 0 of the first memory, the second at 28 of the second; both have 320 bytes.

@@ -1,5 +1,5 @@
 pub mod Answers
 pub mod Attributes
+pub mod Bits
 pub mod Locality
-pub mod Lookup
 pub mod Outcomes

@@ -1,5 +1,6 @@
 -- What a block asks looks at the memory for command 87 alone, and there only at the UIB's place and its 18 bytes.
 -- So two memories of one length that agree on these bytes, where they can be read, have it ask the same.
+use Rattle.std.proofs.Common.{Some}
 use Prim.Native.Nat.{ℕ, ◌+◌, ◌<◌}
 use mathlib.Core.List.{List}
 use mathlib.Core.Logic.{by_cases}
@@ -8,7 +9,6 @@ use native.Mathlib.Omega.{arith}
 use borrow.Author.Tests.{ne_eqb}
 use lib.ListN.{get_or, length}
 use Rattle.geometry.specs.Drive.{geometry_of, volume_of, with_increment}
-use Rattle.request.specs.declared.Shape.{Shape}
 use Rattle.request.specs.declared.Task.{Task}
 use Rattle.wire.proofs.Decided.{in_memory?}
 use Rattle.wire.specs.Among.{Among}
@@ -38,7 +38,7 @@ module _ (h k : List ℕ) (long : length h ≡ length k) where
       by_cases (in_memory? h at 18)
       (λ place.
       shape_at_inside h at place
-      ∙ ap Shape.Given (uib_same at (alike place))
+      ∙ ap Some (uib_same at (alike place))
       ∙ sym (shape_at_inside k at (range_same h k at 18 long place)))
       (λ out. shape_at_outside h at out ∙ sym (shape_at_outside k at (λ place. out (range_same k h at 18 (sym long) place))))
 

@@ -1,12 +1,12 @@
 -- The request that a block makes (01, The block, One run; 02, K5).
-use Rattle.std.specs.Prelude.{ℕ, ◌/◌, ◌^◌, Bool, true, false, cond, List, [], ◌∷◌, eqb}
+use Rattle.geometry.specs.declared.Geometry.{Geometry}
+use Rattle.std.specs.Prelude.{ℕ, ◌/◌, ◌^◌, Bool, true, false, cond, List, [], ◌∷◌, eqb, None, Option, Some}
 use Rattle.std.proofs.Math.Logic.{ite}
 use Rattle.wire.proofs.Decided.{in_memory?}
 use Rattle.geometry.specs.declared.VolumeNumber.{VolumeNumber}
 use Rattle.request.specs.declared.Buffer.{Buffer}
 use Rattle.request.specs.declared.Move.{Move}
 use Rattle.request.specs.declared.Pair.{Pair}
-use Rattle.request.specs.declared.Shape.{Shape}
 use Rattle.request.specs.declared.Start.{Start}
 use Rattle.request.specs.declared.Target.{Target}
 use Rattle.request.specs.declared.Task.{Task}
@@ -51,8 +51,8 @@ pair_of b =
 
 -- A UIB is 18 bytes, read where they lie in host memory; elsewhere it is misplaced, which check 12 says of a "UIB address odd or
 -- UIB not wholly in host memory".
-unfoldable pub shape_at : List ℕ → ℕ → Shape
-shape_at host at = ite (in_memory? host at 18) (Shape.Given (uib_at host at)) Shape.Misplaced
+unfoldable pub shape_at : List ℕ → ℕ → Option Geometry
+shape_at host at = ite (in_memory? host at 18) (Some (uib_at host at)) None
 
 -- "A1 and A2 have a list's address there", in words 5 and 6, where 81 and 82 have their data's. What each command asks, by its code: "81 read, 82 write, 86 handshake, 87 initialize, 89 restore, 8A seek, 8C format with
 -- data, A1 scatter, A2 gather (hex)" (01, What the board answers for), and "command 85" (02, K5).

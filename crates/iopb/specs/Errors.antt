@@ -1,11 +1,13 @@
 -- The error bytes (docs/ERROR-BYTES.md): "one constant table", with a line for each block answer that the manual's Appendix D has one for.
-use Rattle.std.specs.Prelude.{ℕ, cond, List, [], ◌∷◌, eqb}
-use Rattle.answers.specs.declared.BlockAnswer.{BlockAnswer}
-use Rattle.answers.specs.declared.BlockAnswer.TheVariants.{Ended, Failed}
+use Rattle.std.specs.Prelude.{ℕ, cond, List, [], ◌∷◌, eqb, Err, Ok}
+use Rattle.answers.specs.Numbers.{BlockAnswer, refusal_number}
 use Rattle.answers.specs.declared.Refusal.{Refusal}
 use Rattle.answers.specs.declared.Refusal.TheVariants.{CommandUnknown, NotInitialized, UibMisplaced, UibOutsideLimits, VolumeAbsent, SectorOutside, DataMisplaced, Unreadable, DriveHeld}
-use Rattle.answers.specs.Numbers.{refusal_number}
-use Rattle.iopb.specs.declared.ErrorLine.{ErrorLine}
+
+-- A line: an answer's number, and its error byte. The code picks the byte by the refusal itself.
+pub record ErrorLine : Type 0 where
+  pub number : ℕ
+  pub error : ℕ
 
 abbrev line : Refusal → ℕ → ErrorLine
 line r error = record { number = refusal_number r; error = error }
@@ -30,5 +32,5 @@ error_in (l ∷ ls) n = cond (eqb l.number n) l.error (error_in ls n)
 
 -- "the final status and error, 00 at status 80" (01, One run)
 abbrev pub error_byte : BlockAnswer → ℕ
-error_byte Ended = 0
-error_byte (Failed r) = error_in error_table (refusal_number r)
+error_byte (Ok _) = 0
+error_byte (Err r) = error_in error_table (refusal_number r)

@@ -7,8 +7,8 @@ ghost use Rattle.wire.specs.Promise.{Says};
 ghost use Rattle.iopb.specs.Ask.{move_of, pair_of, shape_at, start_of, target_of, task_of, track_asked, unit_asked};
 
 use crate::{Block, Options, uib};
-use geometry::VolumeNumber;
-use request::{Buffer, Move, Pair, Shape, Start, Target, Task, Track};
+use geometry::{Geometry, VolumeNumber};
+use request::{Buffer, Move, Pair, Start, Target, Task, Track};
 use unit::UnitNumber;
 
 // The unit that the block at an address names, told without the rest of it: whoever picks a drive by it need not keep a block.
@@ -30,11 +30,11 @@ fn unit(options: Options) -> UnitNumber
 }
 
 // What a block asks of its unit; for command 87 its UIB is read, where it can be.
+#[tactic(auto, unfolding(crate::specs::Ask::task_of))]
 pub fn task(b: Block, host: &[u8]) -> Task
     ensures { result ≡ task_of host.now b }
 {
-    let command = b.command;
-    match command {
+    match b.command {
         0x81 => Task::Move(moving(b, true, Buffer::Piece(b.address))),
         0x82 => Task::Move(moving(b, false, Buffer::Piece(b.address))),
         0x86 => Task::Handshake,
@@ -52,12 +52,10 @@ pub fn task(b: Block, host: &[u8]) -> Task
 fn moving(b: Block, to_host: bool, buffer: Buffer) -> Move
     ensures { result ≡ move_of b to_host buffer }
 {
-    let options = b.options;
-    let target = target(b);
     Move {
         to_host,
-        past_marks: options.disable,
-        target,
+        past_marks: b.options.disable,
+        target: target(b),
         count: b.count,
         buffer,
     }
@@ -66,32 +64,27 @@ fn moving(b: Block, to_host: bool, buffer: Buffer) -> Move
 fn target(b: Block) -> Target
     ensures { result ≡ target_of b }
 {
-    let options = b.options;
-    let start = start(b);
-    if options.volume {
-        Target {
-            volume: VolumeNumber::One,
-            start,
-        }
+    let volume = if b.options.volume {
+        VolumeNumber::One
     } else {
-        Target {
-            volume: VolumeNumber::Zero,
-            start,
-        }
+        VolumeNumber::Zero
+    };
+    Target {
+        volume,
+        start: start(b),
     }
 }
 
 fn start(b: Block) -> Start
     ensures { result ≡ start_of b }
 {
-    let options = b.options;
-    if options.logical {
+    if b.options.logical {
         Start::Logical(b.number)
     } else {
         Start::Physical {
             cylinder: b.cylinder,
-            head: b.head as u16,
-            sector: b.sector as u16,
+            head: u16::from(b.head),
+            sector: u16::from(b.sector),
         }
     }
 }
@@ -110,7 +103,7 @@ fn track(b: Block) -> Track
 {
     Track {
         cylinder: b.cylinder,
-        head: b.head as u16,
+        head: u16::from(b.head),
         buffer: b.address,
     }
 }
@@ -133,11 +126,11 @@ fn holds_uib(host: &[u8], address: u32) -> bool
     wire::holds(host, address, 18)
 }
 
-fn shape(host: &[u8], address: u32) -> Shape
+fn shape(host: &[u8], address: u32) -> Option<Geometry>
     ensures { result ≡ shape_at host.now address }
 {
     if !holds_uib(host, address) {
-        return Shape::Misplaced;
+        return None;
     }
-    Shape::Given(uib(host, address as usize))
+    Some(uib(host, address as usize))
 }

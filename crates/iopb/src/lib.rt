@@ -4,11 +4,12 @@
 #![tactic(auto)]
 
 ghost use Rattle.std.specs.Prelude.{◌≡◌, ◌+◌, ◌≤◌, length};
+ghost use Rattle.answers.specs.Numbers.{refusal_number};
 ghost use Rattle.iopb.specs.Errors.{error_byte, error_in, error_table};
 ghost use Rattle.iopb.specs.Identity.{identity_bytes};
 ghost use Rattle.iopb.specs.Layout.{block_at, options_of, uib_at};
 
-use answers::BlockAnswer;
+use answers::Refusal;
 use geometry::{Geometry, Volume};
 
 mod ask;
@@ -55,14 +56,14 @@ impl Options {
         ensures { result ≡ options_of byte }
     {
         Options {
-            unit: byte / 128 % 2 == 1,
-            volume: byte / 64 % 2 == 1,
-            link: byte / 32 % 2 == 1,
-            logical: byte / 16 % 2 == 1,
-            reserve: byte / 8 % 2 == 1,
-            disable: byte / 4 % 2 == 1,
-            interrupt: byte / 2 % 2 == 1,
-            correct: byte / 1 % 2 == 1,
+            unit: byte & 0x80 != 0,
+            volume: byte & 0x40 != 0,
+            link: byte & 0x20 != 0,
+            logical: byte & 0x10 != 0,
+            reserve: byte & 0x08 != 0,
+            disable: byte & 0x04 != 0,
+            interrupt: byte & 0x02 != 0,
+            correct: byte & 0x01 != 0,
         }
     }
 }
@@ -103,7 +104,7 @@ pub fn uib(host: &[u8], at: usize) -> Geometry
 {
     let volume0 = Volume::new(host[at], host[at + 1]);
     let volume1 = Volume::new(host[at + 2], host[at + 3]);
-    let by_head = host[at + 14] / 4 % 2 == 1;
+    let by_head = host[at + 14] & 0x04 != 0;
     Geometry::new(
         wire::be16(host, at + 12),
         host[at + 4] as u16,
@@ -114,75 +115,35 @@ pub fn uib(host: &[u8], at: usize) -> Geometry
     .with_increment(by_head)
 }
 
-// An answer's number, and its error byte.
-#[derive(Clone, Copy)]
-pub(crate) struct ErrorLine {
-    number: u8,
-    error: u8,
-}
-
-// The answers for which the manual has a line.
-const ERROR_LINES: [ErrorLine; 9] = [
-    ErrorLine {
-        number: 10,
-        error: 0x14,
-    },
-    ErrorLine {
-        number: 11,
-        error: 0x40,
-    },
-    ErrorLine {
-        number: 12,
-        error: 0x62,
-    },
-    ErrorLine {
-        number: 13,
-        error: 0x51,
-    },
-    ErrorLine {
-        number: 14,
-        error: 0x21,
-    },
-    ErrorLine {
-        number: 16,
-        error: 0x16,
-    },
-    ErrorLine {
-        number: 19,
-        error: 0x62,
-    },
-    ErrorLine {
-        number: 20,
-        error: 0x13,
-    },
-    ErrorLine {
-        number: 24,
-        error: 0x2E,
-    },
-];
-
-// The error byte of the line with an answer's number, or FF where there is none.
-fn error_of(number: u8) -> u8
-    ensures { result ≡ error_in error_table number }
+// The error byte of a refusal: that of the manual's line for it, or FF where there is none.
+#[tactic(auto, unfolding(crate::specs::Errors::error_in))]
+fn error_of(refusal: Refusal) -> u8
+    ensures { result ≡ error_in error_table (refusal_number refusal) }
 {
-    let mut i = 0;
-    while i < ERROR_LINES.len() {
-        let line = ERROR_LINES[i];
-        if line.number == number {
-            return line.error;
-        }
-        i += 1;
+    match refusal {
+        Refusal::CommandUnknown => 0x14,
+        Refusal::NotInitialized => 0x40,
+        Refusal::UibMisplaced | Refusal::DataMisplaced => 0x62,
+        Refusal::UibOutsideLimits => 0x51,
+        Refusal::VolumeAbsent => 0x21,
+        Refusal::SectorOutside => 0x16,
+        Refusal::Unreadable => 0x13,
+        Refusal::DriveHeld => 0x2E,
+        Refusal::CountZero
+        | Refusal::ImageShort
+        | Refusal::ListBad
+        | Refusal::TracksTaken
+        | Refusal::TableFull => 0xFF,
     }
-    0xFF
 }
 
 // The error byte of an answer: 00 at status 80.
-pub fn error_byte(answer: BlockAnswer) -> u8
+pub fn error_byte(answer: Result<(), Refusal>) -> u8
     ensures { result ≡ error_byte answer }
 {
     match answer {
-        BlockAnswer::Ended => 0,
-        BlockAnswer::Failed(refusal) => error_of(refusal.number()),
+        Ok(()) => 0,
+        Err(refusal) => error_of(refusal),
     }
 }
 

@@ -1,5 +1,6 @@
 -- Two host memories of one length that agree on the bytes of a list that is read: the checks of a buffer are given alike in both.
 -- A range looks at the memory's length alone, and a list is looked at only where it is read.
+use Rattle.std.proofs.Common.{Err}
 use Prim.Native.Nat.{ℕ, ◌*◌}
 use mathlib.Core.List.{List, [], ◌∷◌, ◌++◌}
 use mathlib.Core.Logic.{◌↔◌, by_cases}
@@ -17,7 +18,6 @@ use Rattle.request.specs.declared.Task.TheVariants.{Move as Moves}
 use Rattle.wire.specs.Among.{Among}
 use Rattle.wire.proofs.Memory.{range_same}
 use Rattle.judge.specs.declared.Plan.{Plan}
-use Rattle.judge.specs.declared.Verdict.{Verdict}
 use Rattle.judge.specs.Steps.{before_buffer, bytes_of}
 use Rattle.judge.specs.Asks.{checks_of, data_misplaced, of_buffer}
 use Rattle.judge.specs.Checks.{Check, first}
@@ -26,13 +26,13 @@ use Rattle.judge.specs.Reads.{InList}
 use Rattle.judge.proofs.First.{early, none?, pass, skip, stop}
 use Rattle.unit.specs.declared.Controller.{Controller}
 use Rattle.unit.specs.Standing.{UnitRecord}
-use Rattle.judge.specs.Passed.{None, before, checks}
+use Rattle.judge.specs.Passed.{NoneGiven, before, checks}
 
 -- ---- two lists of checks
 
 -- The same checks, and then what gives the same where none of those is given.
 pub after_the_same :
-    (ks ls ms : List Check) (p : Plan) → (None ks → first ls p ≡ first ms p) → first (ks ++ ls) p ≡ first (ks ++ ms) p
+    (ks ls ms : List Check) (p : Plan) → (NoneGiven ks → first ls p ≡ first ms p) → first (ks ++ ls) p ≡ first (ks ++ ms) p
 after_the_same ks ls ms p same =
     by_cases (none? ks) (λ none. pass ks ls p none ∙ same none ∙ sym (pass ks ms p none)) (λ some. early ks ls ms p p some)
 
@@ -42,7 +42,7 @@ pub alike_then :
     ((k.Given → ⊥) → first ks p ≡ first ls p) → first (k ∷ ks) p ≡ first (l ∷ ls) p
 alike_then k l ks ls p answer same rest =
     by_cases k.given?
-    (λ given. stop k ks p given ∙ ap Verdict.Refused answer ∙ sym (stop l ls p (same.0 given)))
+    (λ given. stop k ks p given ∙ ap Err answer ∙ sym (stop l ls p (same.0 given)))
     (λ out. skip k ks p out ∙ rest out ∙ sym (skip l ls p (λ given. out (same.1 given))))
 
 -- ---- a buffer
@@ -50,10 +50,10 @@ alike_then k l ks ls p answer same rest =
 -- What comes before check 18 of a transfer through a list.
 pub before_list :
     (a : Asked) (m : Move) (at n : ℕ) → a.task ≡ Moves m → m.buffer ≡ Elements at n →
-    None (before_buffer a m) → None (before Refusal.ListBad (checks a))
+    NoneGiven (before_buffer a m) → NoneGiven (before Refusal.ListBad (checks a))
 before_list a m at n asks buffer none =
-    subst (λ (t : Task). None (before Refusal.ListBad (checks_of a t))) (sym asks)
-    (subst (λ (b : Buffer). None (before Refusal.ListBad (before_buffer a m ++ of_buffer a b (bytes_of a m)))) (sym buffer) none)
+    subst (λ (t : Task). NoneGiven (before Refusal.ListBad (checks_of a t))) (sym asks)
+    (subst (λ (b : Buffer). NoneGiven (before Refusal.ListBad (before_buffer a m ++ of_buffer a b (bytes_of a m)))) (sym buffer) none)
 
 module _ (c : Controller) (u : UnitRecord) (image : ℕ) (h k : List ℕ) (long : length h ≡ length k) where
   pub same_range : (t : Task) (at bytes : ℕ) (p : Plan) → first (data_misplaced (on c u image t h) at bytes ∷ []) p ≡ first (data_misplaced (on c u image t k) at bytes ∷ []) p
@@ -64,7 +64,7 @@ module _ (c : Controller) (u : UnitRecord) (image : ℕ) (h k : List ℕ) (long 
       )
       (λ out. refl)
 
-  module _ (m : Move) (alike : (i : ℕ) → InList (on c u image (Moves m) h) i → get_or h i 0 ≡ get_or k i 0) (passed : None (before_buffer (on c u image (Moves m) h) m)) where
+  module _ (m : Move) (alike : (i : ℕ) → InList (on c u image (Moves m) h) i → get_or h i 0 ≡ get_or k i 0) (passed : NoneGiven (before_buffer (on c u image (Moves m) h) m)) where
     -- The elements of a list that can be read are the same in both.
     same_elements :
         (at n bytes : ℕ) → m.buffer ≡ Elements at n → (host : List ℕ) → length host ≡ length h → ListGood host at n bytes →

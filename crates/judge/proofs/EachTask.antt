@@ -1,5 +1,6 @@
 -- Whatever is shown by going through the tasks one by one: a task more is a line in each, here, and a law of its command in Table.
 -- What they have in common stands beside them (Buffers, Known), and what follows for every task above (Table, Locality, LetThrough).
+use Rattle.std.proofs.Common.{Err, None, Some}
 use Prim.Native.Nat.{ℕ, ◌<◌}
 use mathlib.Core.List.{List, [], ◌∷◌}
 use mathlib.Core.Logic.Dec
@@ -15,7 +16,6 @@ use Rattle.geometry.proofs.Decided.{covers?, within?}
 use Rattle.memory.specs.Lists.{ListGood}
 use Rattle.request.specs.declared.Buffer.{Buffer}
 use Rattle.request.specs.declared.Buffer.TheVariants.{Piece, List as Elements}
-use Rattle.request.specs.declared.Shape.TheVariants.{Misplaced, Given as Uib}
 use Rattle.request.specs.declared.Task.{Task}
 use Rattle.request.specs.declared.Task.TheVariants.{Unknown, Move as Moves, Handshake, Initialize, Restore, Seek, Format, Map}
 use Rattle.spares.specs.Lands.{counted}
@@ -34,7 +34,6 @@ use Rattle.judge.specs.declared.Leaving.{Leaving}
 use Rattle.judge.specs.declared.Moving.{Moving}
 use Rattle.judge.specs.declared.Plan.{Plan}
 use Rattle.judge.specs.declared.Report.{Report}
-use Rattle.judge.specs.declared.Verdict.{Verdict}
 use Rattle.judge.specs.Steps.{asks_holder, before_buffer, by_its_own, bytes_of, own_checks, begins_at}
 use Rattle.judge.specs.Plans.{number_there, job_of, only, plan, plan_of}
 use Rattle.judge.specs.Asks.{checks_of, drive_held, image_short, not_initialized, of_buffer, track_outside, tracks_outside, tracks_taken}
@@ -47,7 +46,7 @@ use Rattle.judge.specs.Verdict.{verdict}
 use Rattle.judge.proofs.Known.{Accepted, covered, good_buffer, has_number, heads_only, seek_inside, so}
 use Rattle.judge.proofs.Buffers.{after_the_same, alike_then, before_list, same_buffer, same_range}
 use Rattle.judge.proofs.First.{numbers_of, skip, stop}
-use Rattle.judge.specs.Passed.{None}
+use Rattle.judge.specs.Passed.{NoneGiven}
 
 -- ---- what is asked
 
@@ -56,8 +55,8 @@ asked_first : (a : Asked) (t : Task) → T (asks_holder t) → checks_of a t ≡
 asked_first a Unknown asks = absurd asks
 asked_first a (Moves m) asks = refl
 asked_first a Handshake asks = absurd asks
-asked_first a (Initialize Misplaced) asks = refl
-asked_first a (Initialize (Uib g)) asks = refl
+asked_first a (Initialize None) asks = refl
+asked_first a (Initialize (Some g)) asks = refl
 asked_first a Restore asks = refl
 asked_first a (Seek t) asks = refl
 asked_first a (Format k) asks = refl
@@ -70,7 +69,7 @@ on_its_own a asks free = ap (λ ks. first ks (plan_of a.unit a.task)) (asked_fir
 
 -- and refused where that holds it.
 pub stopped_by_holder :
-    (a : Asked) → T (asks_holder a.task) → T (held_by_other a.controller (holder a.unit)) → verdict a ≡ Verdict.Refused DriveHeld
+    (a : Asked) → T (asks_holder a.task) → T (held_by_other a.controller (holder a.unit)) → verdict a ≡ Err DriveHeld
 unfolding verdict
 stopped_by_holder a asks held = ap (λ ks. first ks (plan_of a.unit a.task)) (asked_first a a.task asks) ∙ stop _ _ _ held
 
@@ -83,8 +82,8 @@ never_asked_20 a (Moves m) there = by_buffer m.buffer there
     by_buffer (Piece at) there = there
     by_buffer (Elements at n) there = there
 never_asked_20 a Handshake there = there
-never_asked_20 a (Initialize Misplaced) there = there
-never_asked_20 a (Initialize (Uib g)) there = there
+never_asked_20 a (Initialize None) there = there
+never_asked_20 a (Initialize (Some g)) there = there
 never_asked_20 a Restore there = there
 never_asked_20 a (Seek t) there = there
 never_asked_20 a (Format k) there = there
@@ -102,8 +101,8 @@ module _ (c : Controller) (u : UnitRecord) (image : ℕ) (h k : List ℕ) (long 
       (of_buffer (on c u image (Moves m) k) m.buffer (bytes_of a m)) (plan_of u (Moves m))
       (λ passed. same_buffer c u image h k long m alike passed m.buffer refl (bytes_of a m) (plan_of u (Moves m)))
   verdict_local Handshake alike = refl
-  verdict_local (Initialize Misplaced) alike = refl
-  verdict_local (Initialize (Uib g)) alike = refl
+  verdict_local (Initialize None) alike = refl
+  verdict_local (Initialize (Some g)) alike = refl
   verdict_local Restore alike = refl
   verdict_local (Seek t) alike = refl
   verdict_local (Format x) alike =
@@ -133,8 +132,8 @@ module _
     plan_alike Unknown = refl
     plan_alike (Moves m) = refl
     plan_alike Handshake = refl
-    plan_alike (Initialize Misplaced) = refl
-    plan_alike (Initialize (Uib g)) = refl
+    plan_alike (Initialize None) = refl
+    plan_alike (Initialize (Some g)) = refl
     plan_alike Restore = refl
     plan_alike (Seek t) =
         ap (λ (s : Spot). only (Leaving.HeadsAt s.cylinder))
@@ -161,8 +160,8 @@ module _
     checks_alike Unknown p = refl
     checks_alike (Moves m) p = held_and_initialized (Moves m) _ _ p refl
     checks_alike Handshake p = refl
-    checks_alike (Initialize Misplaced) p = refl
-    checks_alike (Initialize (Uib g)) p = refl
+    checks_alike (Initialize None) p = refl
+    checks_alike (Initialize (Some g)) p = refl
     checks_alike Restore p = held_and_initialized Restore [] [] p refl
     checks_alike (Seek t) p = held_and_initialized (Seek t) _ _ p refl
     checks_alike (Format k) p = held_and_initialized (Format k) _ _ p refl
@@ -183,8 +182,8 @@ module _
 -- ---- what its plan is known to be
 
 module _ (c : Controller) (u : UnitRecord) (image : ℕ) (host : List ℕ) where
-  pub accepted : (t : Task) → None (checks_of (on c u image t host) t) → Accepted (on c u image t host) (plan_of u t)
-  unfolding None
+  pub accepted : (t : Task) → NoneGiven (checks_of (on c u image t host) t) → Accepted (on c u image t host) (plan_of u t)
+  unfolding NoneGiven
   accepted Unknown (listed, rest) = absurd (listed tt)
   accepted (Moves m) (free, (initialized, (present, (some-sectors, (inside, (long, buffer)))))) =
       let a = on c u image (Moves m) host in
@@ -223,8 +222,8 @@ module _ (c : Controller) (u : UnitRecord) (image : ℕ) (host : List ℕ) where
             };
       }
   accepted Handshake none = record { fits = record { moving = tt; report = tt; leaving = tt }; mover = tt; report = refl; quiet = tt; list = tt }
-  accepted (Initialize Misplaced) (free, (placed, rest)) = absurd (placed tt)
-  accepted (Initialize (Uib g)) (free, (within, rest)) = heads_only c u image host _ (Leaving.Fresh g) (so (within? g) within)
+  accepted (Initialize None) (free, (placed, rest)) = absurd (placed tt)
+  accepted (Initialize (Some g)) (free, (within, rest)) = heads_only c u image host _ (Leaving.Fresh g) (so (within? g) within)
   accepted Restore (free, (initialized, rest)) =
       let counts = so (counts? u) initialized in
       heads_only c u image host _ (Leaving.HeadsAt 0) (counts, omega (arith, counts.within.sizes.cylinders))

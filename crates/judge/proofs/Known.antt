@@ -1,5 +1,6 @@
 -- What is known of a request that no check refuses: that its plan fits, and whose it is.
 -- Here is what it says, and what a check that is not given leaves.
+use Rattle.std.proofs.Common.{Err, None, Ok, Option, Result, Some}
 use Prim.Native.Nat.{ℕ, ◌+◌, ◌*◌, ◌≤◌, ◌<◌}
 use mathlib.Core.List.{List, [], ◌∷◌}
 use mathlib.Core.Logic.{by_cases}
@@ -10,8 +11,6 @@ use Rattle.wire.proofs.Decided.{in_memory?}
 use Rattle.wire.specs.Among.{Among}
 use Rattle.wire.proofs.Promises.{never as impossible}
 use Rattle.answers.specs.declared.Refusal.{Refusal}
-use Rattle.geometry.specs.declared.Number.{Number}
-use Rattle.geometry.specs.declared.Number.TheVariants.{Is, Outside}
 use Rattle.geometry.specs.declared.VolumeNumber.{VolumeNumber}
 use Rattle.geometry.specs.Drive.{C, S, volume_sectors}
 use Rattle.geometry.proofs.Ends.{heads_of_within}
@@ -34,7 +33,6 @@ use Rattle.judge.specs.declared.Moving.{Moving}
 use Rattle.judge.specs.declared.Moving.TheVariants.{Sectors, Track}
 use Rattle.judge.specs.declared.Report.{Report}
 use Rattle.judge.specs.declared.Report.TheVariants.{Nothing, Identity, Formatted}
-use Rattle.judge.specs.declared.Verdict.{Verdict}
 use Rattle.judge.specs.Plans.{number_there, only}
 use Rattle.judge.specs.Asks.{of_buffer}
 use Rattle.judge.specs.Checks.{Check, first}
@@ -42,17 +40,17 @@ use Rattle.judge.specs.Fits.{BufferGood, LeavingFits, PlanFits}
 use Rattle.judge.specs.Given.{Asked, HasTrack, on}
 use Rattle.judge.specs.Reads.{InList}
 use Rattle.judge.proofs.First.{done, skip, stop}
-use Rattle.judge.specs.Passed.{None}
+use Rattle.judge.specs.Passed.{NoneGiven}
 
-no_refusal : {r : Refusal} {p : Plan} → Verdict.Refused r ≡ Verdict.Do p → ⊥
+no_refusal : {r : Refusal} {p : Plan} → Err r ≡ Ok p → ⊥
 no_refusal e = impossible cc
 
-plan_of : (p q : Plan) → Verdict.Do p ≡ Verdict.Do q → p ≡ q
+plan_of : (p q : Plan) → ◌≡◌ {A = Result Plan Refusal} (Ok p) (Ok q) → p ≡ q
 plan_of p q e = cc
 
 -- A list of checks that lets a plan through: none of them is given, and the plan is its own.
-pub all_passed : (ks : List Check) (p q : Plan) → first ks p ≡ Verdict.Do q → None ks × (p ≡ q)
-unfolding None
+pub all_passed : (ks : List Check) (p q : Plan) → first ks p ≡ Ok q → NoneGiven ks × (p ≡ q)
+unfolding NoneGiven
 all_passed [] p q e = (tt, plan_of p q (sym (done p) ∙ e))
 all_passed (k ∷ ks) p q e =
     by_cases k.given? (λ given. absurd (no_refusal (sym (stop k ks p given) ∙ e)))
@@ -99,19 +97,19 @@ module _ (c : Controller) (u : UnitRecord) (image : ℕ) (host : List ℕ) where
   abbrev asking : Task → Asked
   asking t = on c u image t host
 
-  pub good_buffer : (a : Asked) (b : Buffer) (bytes : ℕ) → None (of_buffer a b bytes) → BufferGood a.host b bytes
-  unfolding None
+  pub good_buffer : (a : Asked) (b : Buffer) (bytes : ℕ) → NoneGiven (of_buffer a b bytes) → BufferGood a.host b bytes
+  unfolding NoneGiven
   good_buffer a (Piece at) bytes none = so (in_memory? a.host at bytes) none.0
   good_buffer a (Elements at n) bytes none = (so (list_good? a.host at n bytes) none.0, so (ranges? a.host at n) none.1.0)
 
   pub covered :
-      (v : VolumeNumber) (x : Number) (count : ℕ) → 0 < count → Covers (geometry u) v x count → number_there x + count ≤ volume_sectors (geometry u) v
-  covered v (Is n) count some c = omega arith
-  covered v Outside count some c = absurd c
+      (v : VolumeNumber) (x : Option ℕ) (count : ℕ) → 0 < count → Covers (geometry u) v x count → number_there x + count ≤ volume_sectors (geometry u) v
+  covered v (Some n) count some c = omega arith
+  covered v None count some c = absurd c
 
-  pub seek_inside : (v : VolumeNumber) (x : Number) → Covers (geometry u) v x 1 → (spot_of u v (number_there x)).cylinder < C (geometry u)
-  seek_inside v (Is n) c = (spot_inside u v n c.0).cylinder
-  seek_inside v Outside c = absurd c
+  pub seek_inside : (v : VolumeNumber) (x : Option ℕ) → Covers (geometry u) v x 1 → (spot_of u v (number_there x)).cylinder < C (geometry u)
+  seek_inside v (Some n) c = (spot_inside u v n c.0).cylinder
+  seek_inside v None c = absurd c
 
   -- A track of a drive that counts as initialized has its number in a table.
   pub has_number : CountsAsInitialized u → (c h : ℕ) → HasTrack u c h → TrackOn (geometry u) (track_number c h)

@@ -6,6 +6,7 @@ pub mod LetThrough
 pub mod LongEnough
 pub mod Locality
 pub mod Outcomes
+mod Passing
 pub mod Read
 pub mod Sectors
 pub mod Table

@@ -1,5 +1,6 @@
 -- Two host memories of one length that agree on the bytes read get the same verdict.
 -- What a block asks looks at its UIB alone, and what is judged of it at its list, each where it is read.
+use Rattle.std.proofs.Common.{None, Option, Some}
 use Prim.Native.Nat.{ℕ, ◌*◌, ◌≤◌}
 use mathlib.Core.List.{List}
 use mathlib.Core.Logic.{by_cases}
@@ -15,7 +16,6 @@ use Rattle.iopb.proofs.Locality.{asked_by_87, shape_local, task_apart}
 use Rattle.memory.specs.Readable.{ListPlace}
 use Rattle.request.specs.declared.Buffer.TheVariants.{List as Elements}
 use Rattle.request.specs.declared.Move.{Move}
-use Rattle.request.specs.declared.Shape.{Shape}
 use Rattle.request.specs.declared.Task.{Task}
 use Rattle.request.specs.declared.Task.TheVariants.{Move as Moves, Initialize}
 use Rattle.wire.specs.Among.{Among}
@@ -30,7 +30,7 @@ use Rattle.unit.specs.declared.Controller.{Controller}
 use Rattle.unit.specs.Holding.{held_by_other}
 use Rattle.unit.specs.Standing.{UnitRecord, holder}
 use Rattle.judge.proofs.EachTask.{stopped_by_holder, verdict_local}
-use Rattle.judge.specs.Passed.{None, before, checks}
+use Rattle.judge.specs.Passed.{NoneGiven, before, checks}
 
 module _ (c : Controller) (u : UnitRecord) (image : ℕ) (h k : List ℕ) (long : length h ≡ length k) where
   -- ---- the verdict on a block
@@ -47,7 +47,7 @@ module _ (c : Controller) (u : UnitRecord) (image : ℕ) (h k : List ℕ) (long 
 
       -- An 87: where a check before its UIB refuses it the UIB is not looked at, and elsewhere it is where it can be.
       renewing : b.command ≡ 0x87 → verdict (asked_in h) ≡ verdict (asked_in k)
-      unfolding verdict None
+      unfolding verdict NoneGiven
       renewing is =
           let in_h = asked_by_87 h b is in
           let in_k = asked_by_87 k b is in
@@ -66,7 +66,7 @@ module _ (c : Controller) (u : UnitRecord) (image : ℕ) (h k : List ℕ) (long 
             shape = shape_at h b.address;
             asks = in_h;
             passed =
-                subst (λ (t : Task). None (before Refusal.UibOutsideLimits (checks (on c u image t h)))) (sym in_h)
+                subst (λ (t : Task). NoneGiven (before Refusal.UibOutsideLimits (checks (on c u image t h)))) (sym in_h)
                 (rw (shape_at_inside h b.address place) (free, tt));
             among = among;
           })))
@@ -80,38 +80,38 @@ module _ (c : Controller) (u : UnitRecord) (image : ℕ) (h k : List ℕ) (long 
 
 -- A UIB that lies in memory is read by an 87 on a drive that the other controller does not hold.
 pub placed_uib_read :
-    (a : Asked) (at bytes x : ℕ) (s : Shape) (g : Geometry) → a.task ≡ Initialize s → s ≡ Shape.Given g →
+    (a : Asked) (at bytes x : ℕ) (s : Option Geometry) (g : Geometry) → a.task ≡ Initialize s → s ≡ Some g →
     (T (held_by_other a.controller (holder a.unit)) → ⊥) → Among at bytes x → InUib a at bytes x
-unfolding None
+unfolding NoneGiven
 placed_uib_read a at bytes x s g is given free among =
     record {
       shape = s;
       asks = is;
-      passed = subst (λ (t : Task). None (before Refusal.UibOutsideLimits (checks_of a t))) (sym (is ∙ ap Initialize given)) (free, tt);
+      passed = subst (λ (t : Task). NoneGiven (before Refusal.UibOutsideLimits (checks_of a t))) (sym (is ∙ ap Initialize given)) (free, tt);
       among = among;
     }
 
 -- And one that is read lies in memory, on such a drive: a UIB that failed check 12 is not read.
 pub read_uib_placed :
     (a : Asked) (at bytes x : ℕ) → InUib a at bytes x →
-    ((g : Geometry) × (a.task ≡ Initialize (Shape.Given g))) × (T (held_by_other a.controller (holder a.unit)) → ⊥)
-unfolding None
+    ((g : Geometry) × (a.task ≡ Initialize (Some g))) × (T (held_by_other a.controller (holder a.unit)) → ⊥)
+unfolding NoneGiven
 read_uib_placed a at bytes x uib =
-    by_shape uib.shape uib.asks (subst (λ (t : Task). None (before Refusal.UibOutsideLimits (checks_of a t))) uib.asks uib.passed)
+    by_shape uib.shape uib.asks (subst (λ (t : Task). NoneGiven (before Refusal.UibOutsideLimits (checks_of a t))) uib.asks uib.passed)
   where
     by_shape :
-        (s : Shape) → a.task ≡ Initialize s → None (before Refusal.UibOutsideLimits (checks_of a (Initialize s))) →
-        ((g : Geometry) × (a.task ≡ Initialize (Shape.Given g))) × (T (held_by_other a.controller (holder a.unit)) → ⊥)
-    by_shape Shape.Misplaced is passed = absurd (passed.1.0 tt)
-    by_shape (Shape.Given g) is passed = ((g, is), passed.0)
+        (s : Option Geometry) → a.task ≡ Initialize s → NoneGiven (before Refusal.UibOutsideLimits (checks_of a (Initialize s))) →
+        ((g : Geometry) × (a.task ≡ Initialize (Some g))) × (T (held_by_other a.controller (holder a.unit)) → ⊥)
+    by_shape None is passed = absurd (passed.1.0 tt)
+    by_shape (Some g) is passed = ((g, is), passed.0)
 
-pub misplaced_uib_unread : (a : Asked) (at bytes x : ℕ) → a.task ≡ Initialize Shape.Misplaced → InUib a at bytes x → ⊥
+pub misplaced_uib_unread : (a : Asked) (at bytes x : ℕ) → a.task ≡ Initialize None → InUib a at bytes x → ⊥
 misplaced_uib_unread a at bytes x is uib = let read = read_uib_placed a at bytes x uib in never (cc (is, read.0.1))
 
 -- A list is read wherever it can be and no check before 18 refuses the block, whatever is then found in it.
 pub refused_list_read :
     (a : Asked) (m : Move) (at n x : ℕ) → a.task ≡ Moves m → m.buffer ≡ Elements at n →
-    None (before Refusal.ListBad (checks a)) → 1 ≤ n → ListPlace a.host at n → Among at (8 * n) x → InList a x
+    NoneGiven (before Refusal.ListBad (checks a)) → 1 ≤ n → ListPlace a.host at n → Among at (8 * n) x → InList a x
 refused_list_read a m at n x asks buffer passed some list among =
     record {
       move = m;

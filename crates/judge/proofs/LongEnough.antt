@@ -1,12 +1,12 @@
 -- Of an image the judge asks its length alone, and of that only whether it suffices: two images that are long enough get one verdict.
 -- The check that asks it is given of neither, and all others are the same.
+use Rattle.std.proofs.Common.{None, Some}
 use Prim.Native.Nat.{ℕ, ◌≤◌}
 use mathlib.Core.List.{List, [], ◌∷◌, ◌++◌}
 use mathlib.Core.Logic.{by_cases}
 use mathlib.Core.Path.{◌≡◌, refl, sym, ◌∙◌}
 use native.Mathlib.Omega.{arith}
 use Rattle.geometry.specs.Drive.{B, need}
-use Rattle.request.specs.declared.Shape.TheVariants.{Misplaced, Given as Uib}
 use Rattle.request.specs.declared.Task.{Task}
 use Rattle.request.specs.declared.Task.TheVariants.{Unknown, Move as Moves, Handshake, Initialize, Restore, Seek, Format, Map}
 use Rattle.unit.specs.declared.Controller.{Controller}
@@ -39,8 +39,8 @@ module _ (c : Controller) (u : UnitRecord) (image other : ℕ) (host : List ℕ)
       either_passed (drive_held a ∷ of_unit a m ++ sector_outside a m.target m.count ∷ []) (image_short a) (image_short b)
       (of_buffer a m.buffer (bytes_of a m)) (plan_of u (Moves m)) (λ short. omega arith) (λ short. omega arith)
   long_enough_alike Handshake = refl
-  long_enough_alike (Initialize Misplaced) = refl
-  long_enough_alike (Initialize (Uib g)) = refl
+  long_enough_alike (Initialize None) = refl
+  long_enough_alike (Initialize (Some g)) = refl
   long_enough_alike Restore = refl
   long_enough_alike (Seek t) = refl
   long_enough_alike (Format k) =

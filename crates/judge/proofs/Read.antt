@@ -1,5 +1,6 @@
 -- What judging a block reads beside its own bytes, by the papers' table: an 87 its UIB, where no line before 13 applies, and an A1 or A2 its list, where none
 -- before 18 does. That a task has a UIB or a list tells its command; and of these commands the checks before that number are the table's lines, one by one.
+use Rattle.std.proofs.Common.{Some}
 use Prim.Native.Nat.{ℕ, ◌*◌, ◌≤◌}
 use mathlib.Core.Bool.{true, false}
 use mathlib.Core.List.{[], ◌∷◌}
@@ -16,7 +17,6 @@ use Rattle.iopb.proofs.Locality.{asked_by_87}
 use Rattle.request.specs.declared.Buffer.{Buffer}
 use Rattle.request.specs.declared.Buffer.TheVariants.{Piece, List as Elements}
 use Rattle.request.specs.declared.Move.{Move}
-use Rattle.request.specs.declared.Shape.TheVariants.{Given as Uib}
 use Rattle.request.specs.declared.Task.{Task}
 use Rattle.request.specs.declared.Task.TheVariants.{Unknown, Move as Moves, Handshake, Initialize, Restore, Seek, Format, Map}
 use Rattle.unit.specs.Holding.{held_by_other}
@@ -26,7 +26,7 @@ use Rattle.wire.specs.Memory.{InMemory}
 use Rattle.wire.proofs.Decided.{in_memory?}
 use Rattle.wire.proofs.Promises.{never}
 use Rattle.judge.specs.Given.{Asked, on}
-use Rattle.judge.specs.Passed.{None, before, checks}
+use Rattle.judge.specs.Passed.{NoneGiven, before, checks}
 use Rattle.judge.specs.Reads.{InList, InUib}
 use Rattle.judge.specs.Table.{Unanswered, lines_before, listed, one_of, paper}
 use Rattle.judge.proofs.Known.{so}
@@ -86,17 +86,17 @@ module _ (b : Block) (a : Asked) where
 
   -- A list: of an A1 or A2 they are its checks before 18.
   abbrev AsChecked : ℕ → Task → Type 0
-  AsChecked c t = None (before Refusal.ListBad (checks (on a.controller a.unit a.image t a.host))) ↔ Passes 18 c
+  AsChecked c t = NoneGiven (before Refusal.ListBad (checks (on a.controller a.unit a.image t a.host))) ↔ Passes 18 c
 
   abbrev Of : ℕ → Type 0
   Of c = AsChecked c (task_at c (tasks a.host b))
 
   of_A1 : Of 0xa1
-  unfolding None
+  unfolding NoneGiven
   of_A1 = beside (λ x. x.1) (same (same (other (other (same (same (alike (outside b a b.count) (other (other (other (same Iff.rfl)))))))))))
 
   of_A2 : Of 0xa2
-  unfolding None
+  unfolding NoneGiven
   of_A2 = beside (λ x. x.1) (same (same (other (other (same (same (alike (outside b a b.count) (other (other (other (same Iff.rfl)))))))))))
 
 -- ---- what is read
@@ -109,7 +109,7 @@ module _ (b : Block) (a : Asked) (is : a.task ≡ task_of a.host b) (x : ℕ) wh
     λ uib.
         let read = read_uib_placed a b.address 18 x uib in
         let code : b.command ≡ 0x87 = subst (Tells b a b.command) (sym is ∙ read.0.1) (tells b a) in
-        let asks : Initialize (shape_at a.host b.address) ≡ Initialize (Uib read.0.0) = sym (asked_by_87 a.host b code) ∙ sym is ∙ read.0.1 in
+        let asks : Initialize (shape_at a.host b.address) ≡ Initialize (Some read.0.0) = sym (asked_by_87 a.host b code) ∙ sym is ∙ read.0.1 in
         let place : InMemory a.host b.address 18 =
         so (in_memory? a.host b.address 18) (λ out. never (cc (shape_at_outside a.host b.address out, asks))) in
         (code, subst (Passes b a 13) (sym code) ((of_87 b a).1 (read.1, place)), uib.among),
@@ -125,7 +125,7 @@ module _ (b : Block) (a : Asked) (is : a.task ≡ task_of a.host b) (x : ℕ) wh
   CanBeRead (Elements at n) = ((1 ≤ n) × (n ≤ 64)) × InMemory a.host at (8 * n) × Among at (8 * n) x
 
   module _ (one : T (one_of b.command (0xa1 ∷ 0xa2 ∷ []))) where
-    passed_alike : None (before Refusal.ListBad (checks a)) ↔ Unanswered b.command (lines_before 18 (paper b a))
+    passed_alike : NoneGiven (before Refusal.ListBad (checks a)) ↔ Unanswered b.command (lines_before 18 (paper b a))
     unfolding task_of
     passed_alike =
         subst (AsChecked b a b.command) (sym is) (one_of_lem (Of b a) b.command (0xa1 ∷ 0xa2 ∷ []) (of_A1 b a, (of_A2 b a, tt)) one)

@@ -1,25 +1,24 @@
 -- What a transfer is asked before its buffer is for: one that passes has every sector in its volume, its bytes and mark in the image.
 -- Check 16 has the first number and the last inside, so all between are; check 17 has the image long enough for any place.
+use Rattle.std.proofs.Common.{None, Option, Some}
 use Prim.Native.Nat.{ℕ, ◌+◌, ◌≤◌, ◌<◌}
 use mathlib.Core.List.{List}
 use mathlib.Core.Logic.{by_cases}
 use mathlib.Core.Path.{◌≡◌, refl}
 use native.Mathlib.Omega.{arith}
 use Rattle.geometry.proofs.Decided.{covers?}
-use Rattle.geometry.specs.declared.Number.{Number}
-use Rattle.geometry.specs.declared.Number.TheVariants.{Is, Outside}
 use Rattle.geometry.specs.declared.VolumeNumber.{VolumeNumber}
 use Rattle.geometry.specs.Drive.{B, volume_sectors}
 use Rattle.geometry.specs.Sectors.{Covers, first_byte, mark_byte}
 use Rattle.geometry.proofs.Laws.{sector_in_image}
 use Rattle.unit.specs.Landing.{spot_of}
 use Rattle.unit.proofs.Laws.{spot_inside}
-use Rattle.unit.specs.Standing.{UnitRecord, geometry, unit_of}
+use Rattle.unit.specs.Standing.{UnitRecord, geometry}
 use Rattle.request.specs.declared.Move.{Move}
 use Rattle.request.specs.declared.Task.{Task}
 use Rattle.judge.specs.declared.Standing.{Standing}
 use Rattle.judge.specs.Steps.{asked, before_buffer, begins_at}
-use Rattle.judge.specs.Passed.{None}
+use Rattle.judge.specs.Passed.{NoneGiven}
 
 -- A sector of a transfer: in its volume, its bytes and its mark in the image.
 pub record Reachable (u : UnitRecord) (image : ℕ) (v : VolumeNumber) (n : ℕ) : Type 0 where
@@ -27,28 +26,28 @@ pub record Reachable (u : UnitRecord) (image : ℕ) (v : VolumeNumber) (n : ℕ)
   pub bytes : first_byte (geometry u) (spot_of u v n).place + B (geometry u) ≤ image
   pub mark : mark_byte (geometry u) (spot_of u v n).place < image
 
-module _ (m : Move) (s : Standing) (ts host : List ℕ) where
+module _ (m : Move) (s : Standing) (host : List ℕ) where
   abbrev u : UnitRecord
-  u = unit_of s.record ts
+  u = s.unit.now
 
   abbrev v : VolumeNumber
   v = m.target.volume
 
-  abbrev begin : Number
+  abbrev begin : Option ℕ
   begin = begins_at u m.target
 
   pub sectors_reachable :
-      None (before_buffer (asked (Task.Move m) s ts host) m) →
-      (n : ℕ) × ((begin ≡ Is n) × ((j : ℕ) → j < m.count → Reachable u s.image v (n + j)))
-  unfolding None
+      NoneGiven (before_buffer (asked (Task.Move m) s host) m) →
+      (n : ℕ) × ((begin ≡ Some n) × ((j : ℕ) → j < m.count → Reachable u s.image v (n + j)))
+  unfolding NoneGiven
   sectors_reachable (free, (initialized, (present, (some, (inside, (long, rest)))))) =
       by_number begin refl (by_cases (covers? (geometry u) v begin m.count) (λ c. c) (λ out. absurd (inside out)))
     where
       by_number :
-          (x : Number) → begin ≡ x → Covers (geometry u) v x m.count →
-          (n : ℕ) × ((begin ≡ Is n) × ((j : ℕ) → j < m.count → Reachable u s.image v (n + j)))
-      by_number Outside is covers = absurd covers
-      by_number (Is n) is covers = (
+          (x : Option ℕ) → begin ≡ x → Covers (geometry u) v x m.count →
+          (n : ℕ) × ((begin ≡ Some n) × ((j : ℕ) → j < m.count → Reachable u s.image v (n + j)))
+      by_number None is covers = absurd covers
+      by_number (Some n) is covers = (
         n,
         (
           is,

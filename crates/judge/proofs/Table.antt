@@ -1,5 +1,6 @@
 -- A block gets the answer that the papers' table gives it, and no other: of each command, the checks are the table's lines for it, in order.
 -- So the first check that is given is the first line that applies; and a table has one answer at most, so that the same is so the other way.
+use Rattle.std.proofs.Common.{Err, None, Ok, Option, Result, Some}
 use Prim.Native.Nat.{ℕ}
 use mathlib.Core.Bool.{Bool, true, false, cond, not, ◌||◌}
 use mathlib.Core.List.{List, [], ◌∷◌}
@@ -20,8 +21,6 @@ use Rattle.iopb.specs.declared.Block.{Block}
 use Rattle.iopb.specs.Ask.{shape_at, target_of, task_at, task_of, tasks, volume_asked}
 use Rattle.iopb.proofs.Answers.{shape_at_inside, shape_at_outside}
 use Rattle.request.specs.declared.Start.{Start}
-use Rattle.request.specs.declared.Shape.{Shape}
-use Rattle.request.specs.declared.Shape.TheVariants.{Misplaced, Given as Uib}
 use Rattle.request.specs.declared.Task.{Task}
 use Rattle.request.specs.declared.Task.TheVariants.{Initialize}
 use Rattle.unit.specs.Standing.{UnitRecord, geometry}
@@ -29,8 +28,6 @@ use Rattle.wire.proofs.Decided.{in_memory?}
 use Rattle.judge.specs.declared.Plan.{Plan}
 use Rattle.judge.specs.declared.Report.{Report}
 use Rattle.judge.specs.declared.Report.TheVariants.{Nothing as Silent, Identity, Formatted}
-use Rattle.judge.specs.declared.Verdict.{Verdict}
-use Rattle.judge.specs.declared.Verdict.TheVariants.{Refused, Do}
 use Rattle.judge.specs.Passed.{checks}
 use Rattle.judge.specs.Plans.{plan_of}
 use Rattle.judge.specs.Checks.{Check, first}
@@ -93,13 +90,13 @@ module _ (c : ℕ) where
       )
 
   -- What a verdict says of some lines.
-  abbrev Told : Verdict → List Line → Type 0
-  Told (Refused r) ls = AnsweredWith (refusal_number r) c ls
-  Told (Do p) ls = Unanswered c ls
+  abbrev Told : Result Plan Refusal → List Line → Type 0
+  Told (Err r) ls = AnsweredWith (refusal_number r) c ls
+  Told (Ok p) ls = Unanswered c ls
 
-  passed_over : (v : Verdict) (l : Line) (ls : List Line) → (Applies c l → ⊥) → Told v ls → Told v (l ∷ ls)
-  passed_over (Refused r) l ls out so = inr (out, so)
-  passed_over (Do p) l ls out so = (out, so)
+  passed_over : (v : Result Plan Refusal) (l : Line) (ls : List Line) → (Applies c l → ⊥) → Told v ls → Told v (l ∷ ls)
+  passed_over (Err r) l ls out so = inr (out, so)
+  passed_over (Ok p) l ls out so = (out, so)
 
   -- Some checks are those of the lines that are for the command, one by one, but for lines whose case cannot be: each has its line's number, and its
   -- line's case where none before it is given.
@@ -264,31 +261,31 @@ module _ (b : Block) (a : Asked) where
 -- "Block answers, in order": a block is refused with a number exactly where the table's first line that applies has it,
 pub refused_by_the_table :
     (b : Block) (a : Asked) → a.task ≡ task_of a.host b → (r : Refusal) →
-    (verdict a ≡ Verdict.Refused r) ↔ AnsweredWith (refusal_number r) b.command (paper b a)
+    (verdict a ≡ Err r) ↔ AnsweredWith (refusal_number r) b.command (paper b a)
 refused_by_the_table b a is r =
     let so = told_by_the_table b a is in
-    (λ e. subst (λ (v : Verdict). Told b.command v (paper b a)) e so, by_verdict (verdict a) so)
+    (λ e. subst (λ (v : Result Plan Refusal). Told b.command v (paper b a)) e so, by_verdict (verdict a) so)
   where
-    by_verdict : (v : Verdict) → Told b.command v (paper b a) → AnsweredWith (refusal_number r) b.command (paper b a) → v ≡ Verdict.Refused r
-    by_verdict (Refused s) so x = ap Refused (refusals_differ s r (one_answer b.command _ _ (paper b a) so x))
-    by_verdict (Do p) so x = absurd (not_both b.command _ (paper b a) so x)
+    by_verdict : (v : Result Plan Refusal) → Told b.command v (paper b a) → AnsweredWith (refusal_number r) b.command (paper b a) → v ≡ Err r
+    by_verdict (Err s) so x = ap Err (refusals_differ s r (one_answer b.command _ _ (paper b a) so x))
+    by_verdict (Ok p) so x = absurd (not_both b.command _ (paper b a) so x)
 
 -- and let through, with its own plan, exactly where none does.
 pub let_through_by_the_table :
     (b : Block) (a : Asked) → a.task ≡ task_of a.host b →
-    (verdict a ≡ Verdict.Do (plan_of a.unit a.task)) ↔ Unanswered b.command (paper b a)
+    (verdict a ≡ Ok (plan_of a.unit a.task)) ↔ Unanswered b.command (paper b a)
 let_through_by_the_table b a is =
     let so = told_by_the_table b a is in
-    (λ e. subst (λ (v : Verdict). Told b.command v (paper b a)) e so, by_verdict (verdict a) refl so)
+    (λ e. subst (λ (v : Result Plan Refusal). Told b.command v (paper b a)) e so, by_verdict (verdict a) refl so)
   where
     by_verdict :
-        (v : Verdict) → verdict a ≡ v → Told b.command v (paper b a) → Unanswered b.command (paper b a) →
-        v ≡ Verdict.Do (plan_of a.unit a.task)
-    by_verdict (Refused s) e so none = absurd (not_both b.command _ (paper b a) none so)
-    by_verdict (Do p) e so none = ap Do (own_plan a p e)
+        (v : Result Plan Refusal) → verdict a ≡ v → Told b.command v (paper b a) → Unanswered b.command (paper b a) →
+        v ≡ Ok (plan_of a.unit a.task)
+    by_verdict (Err s) e so none = absurd (not_both b.command _ (paper b a) none so)
+    by_verdict (Ok p) e so none = ap Ok (own_plan a p e)
 
 -- A refusal is one before transfer.
-pub refused_before_transfer : (a : Asked) (r : Refusal) → verdict a ≡ Verdict.Refused r → BeforeTransfer r
+pub refused_before_transfer : (a : Asked) (r : Refusal) → verdict a ≡ Err r → BeforeTransfer r
 unfolding verdict
 refused_before_transfer a r e is = never_asked_20 a a.task (rw is at (refused_among (checks a) _ r e))
 
@@ -302,9 +299,9 @@ Tells c (Formatted n) = c ≡ 0x8c
 
 module _ (u : UnitRecord) (host : List ℕ) (b : Block) where
   -- An 87 reports nothing, whatever its UIB says.
-  shape_silent : (s : Shape) → Tells 0x87 (plan_of u (Initialize s)).report
-  shape_silent Misplaced = tt
-  shape_silent (Uib g) = tt
+  shape_silent : (s : Option Geometry) → Tells 0x87 (plan_of u (Initialize s)).report
+  shape_silent None = tt
+  shape_silent (Some g) = tt
 
   tells : Tells b.command (plan_of u (task_of host b)).report
   unfolding task_of

@@ -1,6 +1,6 @@
 -- What each command is asked, in the order in which it is asked (01, Answer numbers; 02, K5 and K10): a list of checks for each. That the lists are the
 -- paper's table is shown (Table and proofs/Table).
-use Rattle.std.specs.Prelude.{ℕ, ◌*◌, ◌≤◌, ◌<◌, List, [], ◌∷◌, ◌≡◌, T}
+use Rattle.std.specs.Prelude.{ℕ, ◌*◌, ◌≤◌, ◌<◌, List, [], ◌∷◌, ◌≡◌, T, None, Some}
 use Rattle.std.proofs.Math.Logic.Dec.{and as dec_and, not as dec_not}
 use Rattle.std.proofs.Math.Decide.{dec_le, dec_lt, ℕ_discrete}
 use Rattle.answers.specs.declared.Refusal.TheVariants.{CommandUnknown, NotInitialized, UibMisplaced, UibOutsideLimits, VolumeAbsent, CountZero, SectorOutside, ImageShort, ListBad, DataMisplaced, TracksTaken, TableFull, DriveHeld}
@@ -15,7 +15,6 @@ use Rattle.memory.proofs.Decided.{list_good?, ranges?}
 use Rattle.request.specs.declared.Buffer.{Buffer}
 use Rattle.request.specs.declared.Buffer.TheVariants.{Piece, List as Elements}
 use Rattle.request.specs.declared.Pair.{Pair}
-use Rattle.request.specs.declared.Shape.TheVariants.{Misplaced, Given as Uib}
 use Rattle.request.specs.declared.Target.{Target}
 use Rattle.request.specs.declared.Task.{Task}
 use Rattle.request.specs.declared.Task.TheVariants.{Unknown, Move as Moves, Handshake, Initialize, Restore, Seek, Format, Map}
@@ -119,8 +118,8 @@ module _ (a : Asked) where
       of_buffer m.buffer (m.count * B (geometry a.unit))
   checks_of Handshake = []
   -- "UIB address odd or UIB not wholly in host memory", which the shape of a request says (iopb, shape_at)
-  checks_of (Initialize Misplaced) = drive_held ∷ always UibMisplaced ∷ []
-  checks_of (Initialize (Uib g)) = drive_held ∷ uib_outside_limits g ∷ []
+  checks_of (Initialize None) = drive_held ∷ always UibMisplaced ∷ []
+  checks_of (Initialize (Some g)) = drive_held ∷ uib_outside_limits g ∷ []
   checks_of Restore = drive_held ∷ not_initialized ∷ []
   checks_of (Seek t) = drive_held ∷ not_initialized ∷ volume_absent t.volume ∷ sector_outside t 1 ∷ []
   checks_of (Format k) = drive_held ∷ not_initialized ∷ track_outside k ∷ image_short ∷ data_misplaced k.buffer (B (geometry a.unit)) ∷ []

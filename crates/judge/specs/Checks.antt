@@ -1,9 +1,8 @@
 -- A list of checks in order, and the first of them that is given (01, Answer numbers: "Block answers, in order").
-use Rattle.std.specs.Prelude.{List, [], ◌∷◌}
+use Rattle.std.specs.Prelude.{List, [], ◌∷◌, Err, Ok, Result}
 use Rattle.std.proofs.Math.Logic.{ite}
 use Rattle.answers.specs.declared.Refusal.{Refusal}
 use Rattle.judge.specs.declared.Plan.{Plan}
-use Rattle.judge.specs.declared.Verdict.{Verdict}
 
 -- A check: its answer, the case in which that answer is given, and the decision of the case. A check that is given refuses; one that is not
 -- is passed.
@@ -20,6 +19,6 @@ abbrev pub always : Refusal → Check
 always answer = check answer (Unit {0}) (yes tt)
 
 -- The answer of the first check that is given, or, where none is, what is to be done.
-unfoldable pub first : List Check → Plan → Verdict
-first [] plan = Verdict.Do plan
-first (k ∷ ks) plan = ite k.given? (Verdict.Refused k.answer) (first ks plan)
+unfoldable pub first : List Check → Plan → Result Plan Refusal
+first [] plan = Ok plan
+first (k ∷ ks) plan = ite k.given? (Err k.answer) (first ks plan)

@@ -1,8 +1,6 @@
 -- What is judged, and the cases of the answers before transfer that need words of their own (01, Answer numbers; 02, K5).
-use Rattle.std.specs.Prelude.{ℕ, List}
+use Rattle.std.specs.Prelude.{ℕ, List, Option, Some}
 use Rattle.geometry.specs.declared.Geometry.{Geometry}
-use Rattle.geometry.specs.declared.Number.{Number}
-use Rattle.geometry.specs.declared.Number.TheVariants.{Is}
 use Rattle.geometry.specs.declared.VolumeNumber.{VolumeNumber}
 use Rattle.geometry.specs.Sectors.{OnDrive, address, numbered}
 use Rattle.request.specs.declared.Pair.{Pair}
@@ -25,8 +23,8 @@ abbrev pub on : Controller → UnitRecord → (image : ℕ) → Task → (host :
 on c u image t host = record { task = t; controller = c; unit = u; image = image; host = host }
 
 -- The number at which a request begins: a logical number as it came, and a physical address's where the volume has it.
-abbrev pub start_number : Geometry → VolumeNumber → Start → Number
-start_number g v (Logical n) = Is n
+abbrev pub start_number : Geometry → VolumeNumber → Start → Option ℕ
+start_number g v (Logical n) = Some n
 start_number g v (Physical c h s) = numbered g v c h s
 
 -- The drive has a track, its head counted over the whole drive: check 16 refuses an 8C with "track outside the drive".

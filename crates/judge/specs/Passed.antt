@@ -11,9 +11,9 @@ abbrev pub checks : Asked → List Check
 checks a = checks_of a a.task
 
 -- None of the checks is given.
-unfoldable pub None : List Check → Type 0
-None [] = Unit {0}
-None (k ∷ ks) = (k.Given → ⊥) × None ks
+unfoldable pub NoneGiven : List Check → Type 0
+NoneGiven [] = Unit {0}
+NoneGiven (k ∷ ks) = (k.Given → ⊥) × NoneGiven ks
 
 -- Those before the first with an answer, which is told by its number.
 abbrev pub before : Refusal → List Check → List Check

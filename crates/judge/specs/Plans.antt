@@ -1,11 +1,8 @@
 -- What each command does where no check refuses it (01, One run; 02, K1 and K5): what is moved, what is reported in the block, and what becomes of the
 -- unit's record.
-use Rattle.std.specs.Prelude.{ℕ}
-use Rattle.geometry.specs.declared.Number.{Number}
-use Rattle.geometry.specs.declared.Number.TheVariants.{Is, Outside}
+use Rattle.std.specs.Prelude.{ℕ, None, Option, Some}
 use Rattle.geometry.specs.Drive.{S}
 use Rattle.request.specs.declared.Move.{Move}
-use Rattle.request.specs.declared.Shape.TheVariants.{Misplaced, Given as Uib}
 use Rattle.request.specs.declared.Task.{Task}
 use Rattle.request.specs.declared.Task.TheVariants.{Unknown, Move as Moves, Handshake, Initialize, Restore, Seek, Format, Map}
 use Rattle.unit.specs.Landing.{spot_of, track_of}
@@ -21,9 +18,9 @@ use Rattle.judge.specs.declared.Report.TheVariants.{Identity, Formatted}
 use Rattle.judge.specs.Given.{bad_number, spare_number, start_number}
 
 -- The number of a start that check 16 has let pass, and 0 where there is none, which it refuses.
-abbrev pub number_there : Number → ℕ
-number_there (Is n) = n
-number_there Outside = 0
+abbrev pub number_there : Option ℕ → ℕ
+number_there (Some n) = n
+number_there None = 0
 
 -- A transfer from a number on.
 abbrev pub job_of : Move → ℕ → Job
@@ -54,8 +51,8 @@ plan_of u (Moves m) = carrying (job_of m (number_there (start_number (geometry u
 -- 86 "writes words 2 to 7 with this board's own identity"
 plan_of u Handshake = plan Moving.Nothing Identity AsItWas
 -- "87 replaces the unit record"
-plan_of u (Initialize Misplaced) = only AsItWas
-plan_of u (Initialize (Uib g)) = only (Fresh g)
+plan_of u (Initialize None) = only AsItWas
+plan_of u (Initialize (Some g)) = only (Fresh g)
 -- "89 goes to cylinder 0"; "8A goes to the address given", to the cylinder on which that lands
 plan_of u Restore = only (HeadsAt 0)
 plan_of u (Seek t) = only (HeadsAt (spot_of u t.volume (number_there (start_number (geometry u) t.volume t.start))).cylinder)

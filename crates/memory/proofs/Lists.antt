@@ -24,24 +24,23 @@ nothing_scanned host at =
     record { counts = λ i h. absurd (omega arith); ranges = λ i h. absurd (omega arith); sum = refl }
 
 pub one_more_scanned :
-    (host : List ℕ) (at n : ℕ) (so : Seen) (e : Element) (good fits counts ranges : Bool) →
+    (host : List ℕ) (at n : ℕ) (so : Seen) (e : Element) (bytes : ℕ) (good fits : Bool) →
     e ≡ element_of host at n →
-    counts ≡ (so.counts && good) →
-    ranges ≡ (so.ranges && fits) →
+    bytes ≡ e.bytes →
     Scanned host at n so →
     Says good (GoodCount e.bytes) →
-    Says fits (InMemory host e.address e.bytes) →
-    Scanned host at (n + 1) (record { counts = counts; ranges = ranges; sum = so.sum + e.bytes })
+    Says fits (InMemory host e.address bytes) →
+    Scanned host at (n + 1) (record { counts = so.counts && good; ranges = so.ranges && fits; sum = so.sum + bytes })
 unfolding total
-one_more_scanned host at n so e good fits counts ranges is c-is r-is so_far g f =
-    rw (add-one, is, c-is, r-is)
+one_more_scanned host at n so e bytes good fits is long so_far g f =
+    rw (add-one, long, is)
     (record {
       counts =
           says_all_more so.counts good (λ i. GoodCount (element_of host at i).bytes) n so_far.counts (rw is at g);
       ranges =
           says_all_more so.ranges fits (λ i. InMemory host (element_of host at i).address (element_of host at i).bytes) n
           so_far.ranges
-          (rw is at f);
+          (rw (long, is) at f);
       sum = ap (λ (x : ℕ). x + (element_of host at n).bytes) so_far.sum;
     })
 
@@ -65,13 +64,14 @@ good_list host at n bytes s number place scanned counts sum =
 
 -- One element more of the pieces.
 pub one_more_piece :
-    (host : List ℕ) (at n : ℕ) (e : Element) (lengths addresses : List ℕ) →
+    (host : List ℕ) (at n : ℕ) (e : Element) (bytes : ℕ) (lengths addresses : List ℕ) →
     e ≡ element_of host at n →
+    bytes ≡ e.bytes →
     lengths ≡ lengths_of host at n →
     addresses ≡ addresses_of host at n →
-    (set lengths n e.bytes ≡ lengths_of host at (n + 1)) × (set addresses n e.address ≡ addresses_of host at (n + 1))
+    (set lengths n bytes ≡ lengths_of host at (n + 1)) × (set addresses n e.address ≡ addresses_of host at (n + 1))
 unfolding lengths_of addresses_of
-one_more_piece host at n e lengths addresses is l a = rw (add-one, is, l, a) (refl, refl)
+one_more_piece host at n e bytes lengths addresses is long l a = rw (add-one, long, is, l, a) (refl, refl)
 
 -- The pieces of a list that can be read, and of any other.
 pub pieces_inside : (host : List ℕ) (at n : ℕ) → ListPlace host at n → pieces_of host at n ≡ filled host at n

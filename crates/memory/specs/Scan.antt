@@ -1,7 +1,9 @@
 -- What one pass over a list finds, between the code and the checks 18 and 19.
-use Rattle.std.specs.Prelude.{ℕ, ◌%◌, ◌<◌, List, ◌≡◌}
-use Rattle.memory.specs.declared.Listed.{Listed}
-use Rattle.memory.specs.declared.Listed.TheVariants.{Bad, RangeBad, Good}
+use Rattle.std.specs.Prelude.{ℕ, ◌%◌, ◌<◌, List, ◌≡◌, Result, Ok, Err}
+use Rattle.answers.specs.declared.Refusal.{Refusal}
+use Rattle.answers.specs.declared.Refusal.TheVariants.{ListBad, DataMisplaced}
+use Rattle.memory.specs.declared.ListFault.{ListFault}
+use Rattle.memory.specs.declared.ListFault.TheVariants.{Bad, RangeBad}
 use Rattle.memory.specs.declared.Seen.{Seen}
 use Rattle.memory.specs.Lists.{ListGood, Ranges, element_of, total}
 use Rattle.wire.specs.Promise.{Says}
@@ -18,8 +20,13 @@ pub record Scanned (host : List ℕ) (at n : ℕ) (s : Seen) : Type 0 where
   pub ranges : Says s.ranges (Ranges host at n)
   pub sum : s.sum ≡ total host at n
 
+-- The check that refuses such a list: 18, or 19.
+abbrev pub refusal_of : ListFault → Refusal
+refusal_of Bad = ListBad
+refusal_of RangeBad = DataMisplaced
+
 -- The two checks of a list, in their order.
-abbrev pub Listing : List ℕ → ℕ → ℕ → ℕ → Listed → Type 0
-Listing host at n bytes Bad = ListGood host at n bytes → ⊥
-Listing host at n bytes RangeBad = ListGood host at n bytes × (Ranges host at n → ⊥)
-Listing host at n bytes Good = ListGood host at n bytes × Ranges host at n
+abbrev pub Listing : List ℕ → ℕ → ℕ → ℕ → Result (Unit {0}) ListFault → Type 0
+Listing host at n bytes (Err Bad) = ListGood host at n bytes → ⊥
+Listing host at n bytes (Err RangeBad) = ListGood host at n bytes × (Ranges host at n → ⊥)
+Listing host at n bytes (Ok _) = ListGood host at n bytes × Ranges host at n

@@ -6,10 +6,11 @@
 ghost use Rattle.std.specs.Prelude.{◌&&◌, ◌≡◌, ◌+◌, ◌*◌, ◌≤◌, length};
 ghost use Rattle.memory.specs.Lists.{element_at};
 ghost use Rattle.memory.specs.Pieces.{filled, pieces_of};
-ghost use Rattle.memory.specs.Scan.{Listing, Scanned, GoodCount};
+ghost use Rattle.memory.specs.Scan.{Listing, Scanned, GoodCount, refusal_of};
 ghost use Rattle.wire.specs.Memory.{InMemory};
 ghost use Rattle.wire.specs.Promise.{Says};
 
+use answers::Refusal;
 use wire::holds;
 
 // An element of a scatter or gather list.
@@ -44,19 +45,10 @@ pub struct Seen {
     pub sum: u64,
 }
 
-fn both(a: bool, b: bool) -> bool
-    ensures { result ≡ (a && b) }
-{
-    if a { b } else { false }
-}
-
 fn is_good(bytes: u16) -> bool
     ensures { Says result (GoodCount bytes) }
 {
-    if bytes == 0 {
-        return false;
-    }
-    bytes % 2 == 0
+    bytes != 0 && bytes % 2 == 0
 }
 
 fn scan(host: &[u8], at: usize, elements: usize) -> Seen
@@ -66,13 +58,12 @@ fn scan(host: &[u8], at: usize, elements: usize) -> Seen
     let mut counts = true;
     let mut ranges = true;
     let mut sum: u64 = 0;
-    let mut i = 0;
-    while i < elements {
+    for i in 0..elements {
         let e = Element::read(host, at + 8 * i);
-        counts = both(counts, is_good(e.bytes));
-        ranges = both(ranges, holds(host, e.address, e.bytes as u64));
-        sum += e.bytes as u64;
-        i += 1;
+        let bytes = u64::from(e.bytes);
+        counts &= is_good(e.bytes);
+        ranges &= holds(host, e.address, bytes);
+        sum += bytes;
     }
     Seen {
         counts,
@@ -81,23 +72,33 @@ fn scan(host: &[u8], at: usize, elements: usize) -> Seen
     }
 }
 
-// What checks 18 and 19 find of a list.
-#[derive(Clone, Copy)]
-pub enum Listed {
+// What check 18, and what check 19, finds of a list that is not good.
+#[derive(Clone, Copy, PartialEq, Eq)]
+pub enum ListFault {
     Bad,
     RangeBad,
-    Good,
+}
+
+impl From<ListFault> for Refusal {
+    ghost from_gives = { λ fault refusal. refusal ≡ refusal_of fault };
+
+    fn from(fault: ListFault) -> Refusal {
+        match fault {
+            ListFault::Bad => Refusal::ListBad,
+            ListFault::RangeBad => Refusal::DataMisplaced,
+        }
+    }
 }
 
 // The list's own number and place are tested before any of it is read.
-pub fn list(host: &[u8], at: u32, elements: u8, bytes: u64) -> Listed
+pub fn list(host: &[u8], at: u32, elements: u8, bytes: u64) -> Result<(), ListFault>
     ensures { Listing host.now at elements bytes result }
 {
     if !number_is_good(elements) {
-        return Listed::Bad;
+        return Err(ListFault::Bad);
     }
     if !holds(host, at, 8 * (elements as u64)) {
-        return Listed::Bad;
+        return Err(ListFault::Bad);
     }
     pass_over(host, at as usize, elements as usize, bytes)
 }
@@ -105,31 +106,25 @@ pub fn list(host: &[u8], at: u32, elements: u8, bytes: u64) -> Listed
 fn number_is_good(elements: u8) -> bool
     ensures { Says result ((1 ≤ elements) × (elements ≤ 64)) }
 {
-    if elements == 0 {
-        return false;
-    }
-    if 64 < elements {
-        return false;
-    }
-    true
+    (1..=64).contains(&elements)
 }
 
 // A list of a good number at a good place, by what one pass over it finds.
-fn pass_over(host: &[u8], at: usize, elements: usize, bytes: u64) -> Listed
+fn pass_over(host: &[u8], at: usize, elements: usize, bytes: u64) -> Result<(), ListFault>
     requires { (1 ≤ elements) × (elements ≤ 64) × InMemory host.now at (8 * elements) }
     ensures { Listing host.now at elements bytes result }
 {
     let seen = scan(host, at, elements);
     if !seen.counts {
-        return Listed::Bad;
+        return Err(ListFault::Bad);
     }
     if seen.sum != bytes {
-        return Listed::Bad;
+        return Err(ListFault::Bad);
     }
     if !seen.ranges {
-        return Listed::RangeBad;
+        return Err(ListFault::RangeBad);
     }
-    Listed::Good
+    Ok(())
 }
 
 // The pieces of a list, copied out: byte counts and addresses, slot by slot, and 0 in every slot after the last.
@@ -145,12 +140,10 @@ fn copied(host: &[u8], at: usize, n: usize) -> Pieces
 {
     let mut lengths = [0u32; 64];
     let mut addresses = [0u32; 64];
-    let mut i = 0;
-    while i < n {
+    for i in 0..n {
         let e = Element::read(host, at + 8 * i);
-        lengths[i] = e.bytes as u32;
+        lengths[i] = u32::from(e.bytes);
         addresses[i] = e.address;
-        i += 1;
     }
     Pieces { lengths, addresses }
 }
@@ -159,11 +152,8 @@ fn copied(host: &[u8], at: usize, n: usize) -> Pieces
 pub fn copy_out(host: &[u8], at: u32, elements: u8) -> Pieces
     ensures { result ≡ pieces_of host.now at elements }
 {
-    let n = elements as usize;
-    if 64 < n {
-        return copied(host, 0, 0);
-    }
-    if !holds(host, at, 8 * (elements as u64)) {
+    let n = usize::from(elements);
+    if 64 < n || !holds(host, at, 8 * u64::from(elements)) {
         return copied(host, 0, 0);
     }
     copied(host, at as usize, n)

@@ -57,19 +57,13 @@ pub struct Pair {
     pub spare_head: u8,
 }
 
-// A geometry as its block of numbers gave it, where that block could be read.
-#[derive(Clone, Copy)]
-pub enum Shape {
-    Misplaced,
-    Given(Geometry),
-}
-
+// `Initialize` has the geometry as its block of numbers gave it, where that block could be read.
 #[derive(Clone, Copy)]
 pub enum Task {
     Unknown,
     Move(Move),
     Handshake,
-    Initialize(Shape),
+    Initialize(Option<Geometry>),
     Restore,
     Seek(Target),
     Format(Track),

@@ -1,5 +1,5 @@
 -- A field is read in two parts, its opening and what the opening wants after it; where the opening is cut, all there is was read.
-use Rattle.std.proofs.Common.{◌≡◌, ℕ, ◌+◌, ◌-◌, ◌≤◌, ◌<◌, List, ◌++◌, arith, length, take, drop, ap, sym, subst, ◌∙◌}
+use Rattle.std.proofs.Common.{◌≡◌, ℕ, ◌+◌, ◌-◌, ◌≤◌, ◌<◌, List, ◌++◌, arith, length, take, drop, ap, sym, subst, ◌∙◌, drop_at}
 use Rattle.std.proofs.Math.Logic.{by_cases, if_neg, if_pos}
 use Rattle.std.proofs.Math.Seq.{take-add}
 use Rattle.std.proofs.lemmas.List.{drop_all, drop_min, drop-drop, length-take, take_all}
@@ -25,6 +25,15 @@ module _ (bytes : List ℕ) where
   wanted_most =
       by_cases (opening? bytes) (λ good. rw (if_pos (opening? bytes) good (3 + long_of bytes) 3) (omega (arith, good.long)))
       (λ bad. rw (if_neg (opening? bytes) bad (3 + long_of bytes) 3) (omega arith))
+
+-- Where as much was read as there was room for, it is all from the front.
+taken_whole : (old new : Option (List ℕ)) (got : List ℕ) → Consumes old new got → TakesUpTo (length got) old new got
+taken_whole None new got c = tt
+taken_whole (Some xs) None got c = absurd c
+taken_whole (Some xs) (Some ys) got c = (
+  sym (ap (take (length got)) c ∙ take-append-le (length got) got ys (omega arith) ∙ take_all (length got) got (omega arith)),
+  ap Some (sym (ap (drop (length got)) c ∙ drop_at got ys (length got) (omega arith))),
+)
 
 -- With less than an opening there is all that was left,
 cut_opening : (old new : Option (List ℕ)) (got : List ℕ) → length got < 3 → TakesUpTo 3 old new got → TakesField old new got
@@ -84,12 +93,12 @@ module _
 
     pub whole_read :
         k ≡ wanted (take 3 (part ++ after)) → length rest ≡ k - 3 →
-        TakesUpTo (length part) old mid (take n part) → TakesUpTo (length rest) mid new (take m rest) →
+        Consumes old mid (take n part) → TakesUpTo (length rest) mid new (take m rest) →
         TakesField old new (take (3 + m) (put_mid 3 (k - 3) (part ++ after) rest))
-    whole_read wants filled t u =
+    whole_read wants filled c u =
         let opened = opening_is n part after whole three in
         let asked : k ≡ wanted part = wants ∙ ap wanted (opened.0) in
         rw parts
         (whole_opening old mid new part (take m rest) three
-        (subst (λ l. TakesUpTo 3 old mid l) (opened.1) (subst (λ i. TakesUpTo i old mid (take n part)) three t))
+        (subst (λ i. TakesUpTo i old mid part) three (taken_whole old mid part (subst (Consumes old mid) (opened.1) c)))
         (subst (λ i. TakesUpTo i mid new (take m rest)) (filled ∙ ap (λ i. i - 3) asked) u))

@@ -2,14 +2,14 @@
 use Rattle.std.proofs.Common.{◌≡◌, ℕ, zero, suc, ◌+◌, ◌≤◌, ◌<◌, List, [], ◌∷◌, ◌++◌, arith, length, take, drop, ap, refl, sym, subst, ◌∙◌, length-drop, length-take, append-nil, ◌⊎◌, inl, inr}
 use Rattle.std.proofs.lemmas.List.{length-replicate, take_all}
 use Rattle.std.specs.Prelude.{◌^◌, Option, replicate, None, Some}
+use Rattle.board.specs.declared.Units.{Units}
 use Rattle.transcript.specs.Rows.{in_a_row, onward, read_for}
 use Rattle.transcript.specs.Session.{begin, session}
-use Rattle.transcript.specs.Steps.{SessionLent, most_bytes, most_field, lent_of, spoken, state_of, text_room, wanted}
+use Rattle.transcript.specs.Steps.{SessionLent, most_bytes, most_field, lent_of, spoken, state_of, text_room, units_in, wanted}
 use Rattle.transcript.specs.declared.Next.{Next}
 use Rattle.transcript.specs.declared.Next.TheVariants.{On, Over, NoRoom}
 use Rattle.transcript.specs.declared.State.{State}
 use Rattle.transcript.proofs.Rows.{steps_in_a_row}
-use Rattle.unit.specs.Standing.{no_tracks}
 use Rattle.session.proofs.Ending.{last_at_the_end}
 use Rattle.session.proofs.Fields.{wanted_least}
 use Rattle.session.specs.Told.{IsLast, IsPlayed, Stays, in_the_end}
@@ -57,11 +57,11 @@ all_turns = 18446744073709551615
 whole :
     (xs : List ℕ) (l : SessionLent) → length xs + most_field < 2 ^ 64 →
     most_bytes ≤ length l.host → most_bytes ≤ length l.image0 → most_bytes ≤ length l.image1 → text_room ≤ length l.text →
-    l.tracks0 ≡ no_tracks → l.tracks1 ≡ no_tracks →
+    l.units ≡ units_in begin →
     in_a_row all_turns (state_of begin 0) l xs ≡ session xs
-whole xs l early host image0 image1 text none0 none1 =
+whole xs l early host image0 image1 text blank =
     enough all_turns (length xs + 1) (state_of begin 0) l xs (omega arith) (omega arith) ∙
-    steps_in_a_row xs l early host image0 image1 text none0 none1
+    steps_in_a_row xs l early host image0 image1 text blank
 
 -- No turn is left, or none comes.
 none_left : (k : ℕ) (next : Next) (l : SessionLent) (xs : List ℕ) → (k ≡ 0) ⊎ IsLast next → onward (λ s. in_a_row k s l xs) next ≡ []
@@ -75,31 +75,31 @@ none_left k NoRoom l xs (inl none) = refl
 played_out :
     (rest rest' told told' : Option (List ℕ)) (k : ℕ) (next : Next) (l l' : SessionLent) →
     most_bytes ≤ length l.host → most_bytes ≤ length l.image0 → most_bytes ≤ length l.image1 → text_room ≤ length l.text →
-    l.tracks0 ≡ no_tracks → l.tracks1 ≡ no_tracks →
+    l.units ≡ units_in begin →
     Stays (in_the_end all_turns (On (state_of begin 0)) l rest told) (in_the_end k next l' rest' told') → (k ≡ 0) ⊎ IsLast next →
     IsPlayed rest told told'
-played_out None rest' told told' k next l l' host image0 image1 text none0 none1 stays done = tt
-played_out (Some xs) rest' None told' k next l l' host image0 image1 text none0 none1 stays done = λ early. tt
-played_out (Some xs) None (Some ys) told' k next l l' host image0 image1 text none0 none1 stays done = cc
-played_out (Some xs) (Some xs') (Some ys) None k next l l' host image0 image1 text none0 none1 stays done = cc
-played_out (Some xs) (Some xs') (Some ys) (Some zs) k next l l' host image0 image1 text none0 none1 stays done =
+played_out None rest' told told' k next l l' host image0 image1 text blank stays done = tt
+played_out (Some xs) rest' None told' k next l l' host image0 image1 text blank stays done = λ early. tt
+played_out (Some xs) None (Some ys) told' k next l l' host image0 image1 text blank stays done = cc
+played_out (Some xs) (Some xs') (Some ys) None k next l l' host image0 image1 text blank stays done = cc
+played_out (Some xs) (Some xs') (Some ys) (Some zs) k next l l' host image0 image1 text blank stays done =
     λ early.
-    let all = whole xs l early host image0 image1 text none0 none1 in
+    let all = whole xs l early host image0 image1 text blank in
     let none = none_left k next l' xs' done in
     let same : zs ++ onward (λ s. in_a_row k s l' xs') next ≡ ys ++ in_a_row all_turns (state_of begin 0) l xs = cc in
     sym (append-nil zs) ∙ ap (λ b. zs ++ b) (sym none) ∙ same ∙ ap (λ b. ys ++ b) all
 
--- What is lent at first: zeros.
-abbrev pub zeros : SessionLent
-zeros =
-    lent_of (replicate most_bytes 0) (replicate most_bytes 0) (replicate most_bytes 0) (replicate text_room 0) (replicate 64 0) (replicate 64 0)
+-- What is lent at first: zeros, and the units.
+abbrev pub zeros : Units → SessionLent
+zeros units =
+    lent_of (replicate most_bytes 0) (replicate most_bytes 0) (replicate most_bytes 0) (replicate text_room 0) units
 
 -- The same of the program, which begins with what a session begins with.
 pub played_from_zeros :
-    (first : State) (rest rest' told told' : Option (List ℕ)) (k : ℕ) (next : Next) (l' : SessionLent) → first ≡ state_of begin 0 →
-    Stays (in_the_end all_turns (On first) zeros rest told) (in_the_end k next l' rest' told') → (k ≡ 0) ⊎ IsLast next →
+    (first : State) (units : Units) (rest rest' told told' : Option (List ℕ)) (k : ℕ) (next : Next) (l' : SessionLent) → first ≡ state_of begin 0 → units ≡ units_in begin →
+    Stays (in_the_end all_turns (On first) (zeros units) rest told) (in_the_end k next l' rest' told') → (k ≡ 0) ⊎ IsLast next →
     IsPlayed rest told told'
-played_from_zeros first rest rest' told told' k next l' is stays done =
+played_from_zeros first units rest rest' told told' k next l' is blank stays done =
     let long : (n : ℕ) → n ≤ length {A = ℕ} (replicate n 0) = λ n. omega (arith, length-replicate {A = ℕ} n 0) in
-    played_out rest rest' told told' k next zeros l' (long most_bytes) (long most_bytes) (long most_bytes) (long text_room) refl refl
-    (subst (λ s. Stays (in_the_end all_turns (On s) zeros rest told) (in_the_end k next l' rest' told')) is stays) done
+    played_out rest rest' told told' k next (zeros units) l' (long most_bytes) (long most_bytes) (long most_bytes) (long text_room) blank
+    (subst (λ s. Stays (in_the_end all_turns (On s) (zeros units) rest told) (in_the_end k next l' rest' told')) is stays) done

@@ -46,11 +46,13 @@ stays_on None second third a b = tt
 stays_on (Some e) second third a b = subst (λ o. IfSome o (λ e'. third ≡ Some e')) a b
 
 pub turn_by_turn :
-    (first : Option (List ℕ)) (turns : ℕ) (next next' : Next) (l l' : SessionLent) (rest rest' told told' : Option (List ℕ)) →
-    0 < turns → Stays first (in_the_end turns next l rest told) →
-    ((k : ℕ) → Stays (in_the_end (k + 1) next l rest told) (in_the_end k next' l' rest' told')) →
-    Stays first (in_the_end (turns - 1) next' l' rest' told')
-turn_by_turn first turns next next' l l' rest rest' told told' some stays turn =
-    let again : turns ≡ (turns - 1) + 1 = omega arith in
-    stays_on first (in_the_end ((turns - 1) + 1) next l rest told) (in_the_end (turns - 1) next' l' rest' told')
-    (subst (λ n. Stays first (in_the_end n next l rest told)) again stays) (turn (turns - 1))
+    (first : Option (List ℕ)) (all turn : ℕ) (next came next' : Next) (l l' : SessionLent) (rest rest' told told' : Option (List ℕ)) →
+    turn < all → Stays first (in_the_end (all - turn) next l rest told) →
+    ((k : ℕ) → Stays (in_the_end (k + 1) next l rest told) (in_the_end k came l' rest' told')) → came ≡ next' →
+    Stays first (in_the_end (all - (turn + 1)) next' l' rest' told')
+turn_by_turn first all turn next came next' l l' rest rest' told told' some stays step is =
+    let left = all - (turn + 1) in
+    let again : all - turn ≡ left + 1 = omega arith in
+    subst (λ n. Stays first (in_the_end left n l' rest' told')) is
+    (stays_on first (in_the_end (left + 1) next l rest told) (in_the_end left came l' rest' told')
+    (subst (λ n. Stays first (in_the_end n next l rest told)) again stays) (step left))

@@ -6,7 +6,6 @@
 
 mod drives;
 mod inspection;
-mod show;
 
 use std::io;
 

@@ -1,5 +1,6 @@
 -- A pair added to a good table: the table stays good, the pair serves its bad track, and what serves any other track is as before.
 -- The two tracks stand at the end, so that every place before them is as it was.
+use Rattle.std.proofs.Common.{Some}
 use Prim.Native.Nat.{ℕ, zero, suc, ◌+◌, ◌*◌, ◌≤◌, ◌<◌, min}
 use mathlib.Core.List.{List}
 use mathlib.Core.Logic.{by_cases, if_pos}
@@ -11,7 +12,6 @@ use native.Mathlib.Omega.{arith}
 use lib.ListN.{get_or, length, length-set, set}
 use lib.Seq.{get_or-set_other, get_or-set_same}
 use Rattle.geometry.specs.declared.Geometry.{Geometry}
-use Rattle.spares.specs.declared.Served.TheVariants.{By}
 use Rattle.spares.specs.Table.{Free, Good, bad_of, served_from, spare_of, with_pair}
 use Rattle.spares.specs.Tracks.{TrackOn, stands_for}
 use Rattle.spares.proofs.Laws.{served_by_its_spare, serves_first, serves_later, serves_none}
@@ -40,7 +40,7 @@ module _ (g : Geometry) (t : ℕ) where
       let bads = same (2 * i) (omega arith) in
       by_cases (serves? g ts i t)
       (λ it.
-      serves_first g ts t i n it ∙ ap (λ (x : ℕ). By (stands_for x)) spares ∙
+      serves_first g ts t i n it ∙ ap (λ (x : ℕ). Some (stands_for x)) spares ∙
       sym (serves_first g us t i n (record { bad = sym bads ∙ it.bad; on = subst (TrackOn g) spares it.on })))
       (λ not_it.
       serves_later g ts t i n not_it ∙ serve_alike ts us (suc i) n (λ j less. same j (omega arith)) ∙
@@ -120,10 +120,10 @@ module _ (n : ℕ) (ts : List ℕ) (b s : ℕ) (room : n < 32) (long : length ts
           apart i j less (spare there is) (spare here js) same = omega arith
 
       -- The pair serves its bad track, and every other track is served as before.
-      pub serves_its_bad : served g (n + 1) (with_pair n ts b s) b ≡ By (stands_for s)
+      pub serves_its_bad : served g (n + 1) (with_pair n ts b s) b ≡ Some (stands_for s)
       serves_its_bad =
           ap (served g (n + 1) (with_pair n ts b s)) (sym its_bad) ∙
-          served_by_its_spare g (n + 1) (with_pair n ts b s) stays_good n (omega arith) ∙ ap (λ (x : ℕ). By (stands_for x)) its_spare
+          served_by_its_spare g (n + 1) (with_pair n ts b s) stays_good n (omega arith) ∙ ap (λ (x : ℕ). Some (stands_for x)) its_spare
 
     pub others_as_before : (t : ℕ) → (t ≡ b → ⊥) → served g (n + 1) (with_pair n ts b s) t ≡ served g n ts t
     others_as_before t other =

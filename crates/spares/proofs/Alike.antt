@@ -1,5 +1,7 @@
 -- Two tables with the same pairs that count are alike: both are good or neither is, the same tracks are free, and they serve alike.
 -- Each of these looks at a table in the places of the pairs that count, and there the two hold the same.
+use Rattle.spares.specs.declared.Track.{Track}
+use Rattle.std.proofs.Common.{None, Option}
 use Prim.Native.Nat.{ℕ, ◌*◌, ◌<◌, min}
 use mathlib.Core.List.{List}
 use mathlib.Core.Logic.{ite}
@@ -10,8 +12,6 @@ use native.Mathlib.Omega.{arith}
 use lib.ListN.{get_or, length}
 use lib.Seq.{get_or-take}
 use Rattle.geometry.specs.declared.Geometry.{Geometry}
-use Rattle.spares.specs.declared.Served.{Served}
-use Rattle.spares.specs.declared.Served.TheVariants.{Itself}
 use Rattle.spares.specs.Lands.{InTable, counted}
 use Rattle.spares.specs.Table.{Free, Good, served_at}
 use Rattle.spares.specs.Tracks.{TrackOn, track_number}
@@ -47,5 +47,5 @@ module _ (n : ℕ) (ts us : List ℕ) (same : counted n ts ≡ counted n us) whe
 
   pub served_alike : (g : Geometry) (c h : ℕ) → served_at g n ts c h ≡ served_at g n us c h
   served_alike g c h =
-      ap (λ (s : Served). ite (dec_lt h 256) s Itself)
+      ap (λ (s : Option Track). ite (dec_lt h 256) s None)
       (serve_alike g (track_number c h) ts us 0 (min n 32) (λ j less. entry_alike j (omega arith)))

@@ -1,5 +1,6 @@
 -- What serves a track of a table, as the crates above may know it.
 -- The pairs are gone through from the first on, and one that serves a track ends the search.
+use Rattle.std.proofs.Common.{None, Option, Some}
 use Prim.Native.Nat.{ℕ, zero, suc, ◌+◌, ◌-◌, ◌*◌, ◌/◌, ◌%◌, ◌≤◌, ◌<◌, min}
 use mathlib.Core.List.{List}
 use mathlib.Core.Logic.Dec
@@ -14,14 +15,12 @@ use Rattle.geometry.specs.declared.Geometry.{Geometry}
 use Rattle.wire.proofs.Promises.{never}
 use Rattle.geometry.specs.Drive.{C, drive_heads}
 use Rattle.spares.specs.declared.Track.{Track}
-use Rattle.spares.specs.declared.Served.{Served}
-use Rattle.spares.specs.declared.Served.TheVariants.{Itself, By}
 use Rattle.spares.specs.Table.{Good, bad_of, served_at, served_from, spare_of}
 use Rattle.spares.specs.Tracks.{TrackOn, stands_for, track_number, track_on?}
 use Rattle.spares.specs.Lands.{lands_on, number_serving, Serves, serves?, served}
 
 module _ (g : Geometry) (ts : List ℕ) (t : ℕ) where
-  pub serves_first : (i n : ℕ) → Serves g ts i t → served_from g ts i (suc n) t ≡ By (stands_for (spare_of ts i))
+  pub serves_first : (i n : ℕ) → Serves g ts i t → served_from g ts i (suc n) t ≡ Some (stands_for (spare_of ts i))
   unfolding served_from
   serves_first i n it = if_pos (Dec.and (ℕ_discrete (bad_of ts i) t) (track_on? g (spare_of ts i))) (it.bad, it.on) _ _
 
@@ -30,12 +29,12 @@ module _ (g : Geometry) (ts : List ℕ) (t : ℕ) where
   serves_later i n not_it =
       if_neg (Dec.and (ℕ_discrete (bad_of ts i) t) (track_on? g (spare_of ts i))) (λ it. not_it (record { bad = it.0; on = it.1 })) _ _
 
-  pub serves_none : (i : ℕ) → served_from g ts i 0 t ≡ Itself
+  pub serves_none : (i : ℕ) → served_from g ts i 0 t ≡ None
   unfolding served_from
   serves_none i = refl
 
   -- The same of the pairs from the i-th on that n leaves, as a search goes through them.
-  pub serves_here : (i n : ℕ) → i < n → Serves g ts i t → served_from g ts i (n - i) t ≡ By (stands_for (spare_of ts i))
+  pub serves_here : (i n : ℕ) → i < n → Serves g ts i t → served_from g ts i (n - i) t ≡ Some (stands_for (spare_of ts i))
   serves_here i n less it =
       let more : n - i ≡ suc (n - (i + 1)) = omega arith in
       rw more (serves_first i (n - (i + 1)) it)
@@ -45,14 +44,19 @@ module _ (g : Geometry) (ts : List ℕ) (t : ℕ) where
       let more : n - i ≡ suc (n - (i + 1)) = omega arith in
       rw (more, add-one) (serves_later i (n - suc i) not_it)
 
+  pub serves_end : (i n : ℕ) → n ≤ i → served_from g ts i (n - i) t ≡ None
+  serves_end i n past =
+      let none : n - i ≡ 0 = omega arith in
+      rw none (serves_none i)
+
 -- ---- what a search finds
 
 -- No pair from the i-th on serves the track, of n; or the j-th does, and none before it.
-data Search (g : Geometry) (ts : List ℕ) (t i n : ℕ) : Served → Type 0 where
-  none : ((j : ℕ) → i ≤ j → j < i + n → Serves g ts j t → ⊥) → Search g ts t i n Itself
+data Search (g : Geometry) (ts : List ℕ) (t i n : ℕ) : Option Track → Type 0 where
+  none : ((j : ℕ) → i ≤ j → j < i + n → Serves g ts j t → ⊥) → Search g ts t i n None
   first :
       (j : ℕ) → i ≤ j → j < i + n → Serves g ts j t → ((l : ℕ) → i ≤ l → l < j → Serves g ts l t → ⊥) →
-      Search g ts t i n (By (stands_for (spare_of ts j)))
+      Search g ts t i n (Some (stands_for (spare_of ts j)))
 
 module _ (g : Geometry) (ts : List ℕ) (t : ℕ) where
   -- Where the i-th does not, those after it tell.
@@ -63,7 +67,7 @@ module _ (g : Geometry) (ts : List ℕ) (t : ℕ) where
       let same : j ≡ i = omega arith in
       not_it (subst (λ (x : ℕ). Serves g ts x t) same it))
 
-  widened : (i n : ℕ) {s : Served} → (Serves g ts i t → ⊥) → Search g ts t (suc i) n s → Search g ts t i (suc n) s
+  widened : (i n : ℕ) {s : Option Track} → (Serves g ts i t → ⊥) → Search g ts t (suc i) n s → Search g ts t i (suc n) s
   widened i n not_it (none nobody) = none (λ j from below it. later i j not_it (λ from-later. nobody j from-later (omega arith)) from it)
   widened i n not_it (first j from below it before) =
       first j (omega arith) (omega arith) it (λ l from-i less. later i l not_it (λ from-later. before l from-later less) from-i)
@@ -96,21 +100,21 @@ module _ (g : Geometry) (n : ℕ) (ts : List ℕ) (good : Good g n ts) where
   pub pair_serves : (i : ℕ) → i < n → Serves g ts i (bad_of ts i)
   pair_serves i less = record { bad = refl; on = good.on (2 * i + 1) (omega arith) }
 
-  pub served_by_its_spare : (i : ℕ) → i < n → served g n ts (bad_of ts i) ≡ By (stands_for (spare_of ts i))
+  pub served_by_its_spare : (i : ℕ) → i < n → served g n ts (bad_of ts i) ≡ Some (stands_for (spare_of ts i))
   served_by_its_spare i less = by_find (finds (bad_of ts i))
     where
-      by_find : {s : Served} → Search g ts (bad_of ts i) 0 n s → s ≡ By (stands_for (spare_of ts i))
+      by_find : {s : Option Track} → Search g ts (bad_of ts i) 0 n s → s ≡ Some (stands_for (spare_of ts i))
       by_find (none nobody) = absurd (nobody i (omega arith) (omega arith) (pair_serves i less))
       by_find (first j from below it before) =
           let twice = one_place (2 * j) (2 * i) (omega arith) (omega arith) it.bad in
           let same : j ≡ i = omega arith in
-          ap (λ (x : ℕ). By (stands_for (spare_of ts x))) same
+          ap (λ (x : ℕ). Some (stands_for (spare_of ts x))) same
 
   -- A spare is never itself mapped.
-  pub spare_serves_itself : (i : ℕ) → i < n → served g n ts (spare_of ts i) ≡ Itself
+  pub spare_serves_itself : (i : ℕ) → i < n → served g n ts (spare_of ts i) ≡ None
   spare_serves_itself i less = by_find (finds (spare_of ts i))
     where
-      by_find : {s : Served} → Search g ts (spare_of ts i) 0 n s → s ≡ Itself
+      by_find : {s : Option Track} → Search g ts (spare_of ts i) 0 n s → s ≡ None
       by_find (none nobody) = refl
       by_find (first j from below it before) =
           let twice = one_place (2 * j) (2 * i + 1) (omega arith) (omega arith) it.bad in
@@ -119,18 +123,18 @@ module _ (g : Geometry) (n : ℕ) (ts : List ℕ) (good : Good g n ts) where
 -- ---- where a track lands
 
 -- A track that no pair has as bad serves itself, whatever else the table holds.
-pub serves_itself : (g : Geometry) (n : ℕ) (ts : List ℕ) (t : ℕ) → ((i : ℕ) → i < min n 32 → bad_of ts i ≡ t → ⊥) → served g n ts t ≡ Itself
+pub serves_itself : (g : Geometry) (n : ℕ) (ts : List ℕ) (t : ℕ) → ((i : ℕ) → i < min n 32 → bad_of ts i ≡ t → ⊥) → served g n ts t ≡ None
 serves_itself g n ts t nobody = by_find (search g ts t 0 (min n 32))
   where
-    by_find : {s : Served} → Search g ts t 0 (min n 32) s → s ≡ Itself
+    by_find : {s : Option Track} → Search g ts t 0 (min n 32) s → s ≡ None
     by_find (none other) = refl
     by_find (first j from below it before) = absurd (nobody j (omega arith) it.bad)
 
 -- A spare that serves is on the drive, whatever the table.
-pub server_on_drive : (g : Geometry) (n : ℕ) (ts : List ℕ) (t : ℕ) (k : Track) → served g n ts t ≡ By k → (k.cylinder < C g) × (k.head < drive_heads g)
+pub server_on_drive : (g : Geometry) (n : ℕ) (ts : List ℕ) (t : ℕ) (k : Track) → served g n ts t ≡ Some k → (k.cylinder < C g) × (k.head < drive_heads g)
 server_on_drive g n ts t k is = by_find (search g ts t 0 (min n 32)) is
   where
-    by_find : {s : Served} → Search g ts t 0 (min n 32) s → s ≡ By k → (k.cylinder < C g) × (k.head < drive_heads g)
+    by_find : {s : Option Track} → Search g ts t 0 (min n 32) s → s ≡ Some k → (k.cylinder < C g) × (k.head < drive_heads g)
     by_find (none nobody) same = absurd (never cc)
     by_find (first j from below it before) same =
         let its : stands_for (spare_of ts j) ≡ k = cc in
@@ -138,15 +142,15 @@ server_on_drive g n ts t k is = by_find (search g ts t 0 (min n 32)) is
 
 -- The same of a cylinder and a head, which have a number where the head is below 256.
 module _ (g : Geometry) (n : ℕ) (ts : List ℕ) (c h : ℕ) where
-  pub itself_at : served g n ts (track_number c h) ≡ Itself → served_at g n ts c h ≡ Itself
+  pub itself_at : served g n ts (track_number c h) ≡ None → served_at g n ts c h ≡ None
   itself_at itself =
       by_cases (dec_lt h 256) (λ small. if_pos (dec_lt h 256) small _ _ ∙ itself) (λ large. if_neg (dec_lt h 256) large _ _)
 
-  pub server_at_on_drive : (k : Track) → served_at g n ts c h ≡ By k → (k.cylinder < C g) × (k.head < drive_heads g)
+  pub server_at_on_drive : (k : Track) → served_at g n ts c h ≡ Some k → (k.cylinder < C g) × (k.head < drive_heads g)
   server_at_on_drive k is =
       by_cases (dec_lt h 256) (λ small. server_on_drive g n ts (track_number c h) k (sym (if_pos (dec_lt h 256) small _ _) ∙ is))
       (λ large.
-      let none : served_at g n ts c h ≡ Itself = if_neg (dec_lt h 256) large _ _ in
+      let none : served_at g n ts c h ≡ None = if_neg (dec_lt h 256) large _ _ in
       absurd (never (cc none)))
 
 module _ (c h : ℕ) (less : h < 256) where
@@ -171,7 +175,7 @@ module _ (c h : ℕ) (less : h < 256) where
 pub empty_is_good : (g : Geometry) (ts : List ℕ) → length ts ≡ 64 → Good g 0 ts
 empty_is_good g ts long = record { long = long; room = omega arith; on = λ i less. absurd (omega arith); once = λ i j less j-in. absurd (omega arith) }
 
-pub empty_serves_itself : (g : Geometry) (ts : List ℕ) (t : ℕ) → served g 0 ts t ≡ Itself
+pub empty_serves_itself : (g : Geometry) (ts : List ℕ) (t : ℕ) → served g 0 ts t ≡ None
 empty_serves_itself g ts t = serves_itself g 0 ts t (λ i less. omega arith)
 
 -- The number of the track that a number stands for is that number again, where the drive has it.
@@ -187,7 +191,7 @@ module _ (g : Geometry) (n : ℕ) (ts : List ℕ) (good : Good g n ts) where
   lands : (t : ℕ) → Lands t (lands_on g n ts t)
   lands t = by_find (finds g n ts good t)
     where
-      by_find : {s : Served} → Search g ts t 0 n s → Lands t (number_serving t s)
+      by_find : {s : Option Track} → Search g ts t 0 n s → Lands t (number_serving t s)
       by_find (none nobody) =
           on_itself
           (λ i less is. nobody i (omega arith) (omega arith) (subst (Serves g ts i) is (pair_serves g n ts good i less)))

@@ -1,10 +1,9 @@
 -- What is proved of a table: which pair serves a track, where a track lands, and the tracks of the pairs that count.
-use Rattle.std.specs.Prelude.{ℕ, ◌*◌, min, List, ◌≡◌, take}
+use Rattle.spares.specs.declared.Track.{Track}
+use Rattle.std.specs.Prelude.{ℕ, ◌*◌, min, List, ◌≡◌, take, None, Option, Some}
 use Rattle.std.proofs.Math.Logic.Dec.{and as dec_and}
 use Rattle.std.proofs.Math.Decide.{map_dec, ℕ_discrete}
 use Rattle.geometry.specs.declared.Geometry.{Geometry}
-use Rattle.spares.specs.declared.Served.{Served}
-use Rattle.spares.specs.declared.Served.TheVariants.{Itself, By}
 use Rattle.spares.specs.Tracks.{TrackOn, track_number, track_on?}
 use Rattle.spares.specs.Table.{OneOf, bad_of, served_from, spare_of}
 
@@ -22,13 +21,13 @@ abbrev pub InTable : ℕ → List ℕ → ℕ → Type 0
 InTable n ts t = OneOf (2 * min n 32) ts t
 
 -- What serves the track with a number.
-abbrev pub served : Geometry → ℕ → List ℕ → ℕ → Served
+abbrev pub served : Geometry → ℕ → List ℕ → ℕ → Option Track
 served g n ts t = served_from g ts 0 (min n 32) t
 
 -- The number of the track that a track lands on.
-abbrev pub number_serving : ℕ → Served → ℕ
-number_serving t Itself = t
-number_serving t (By k) = track_number k.cylinder k.head
+abbrev pub number_serving : ℕ → Option Track → ℕ
+number_serving t None = t
+number_serving t (Some k) = track_number k.cylinder k.head
 
 abbrev pub lands_on : Geometry → ℕ → List ℕ → ℕ → ℕ
 lands_on g n ts t = number_serving t (served g n ts t)

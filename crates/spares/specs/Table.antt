@@ -1,12 +1,11 @@
 -- A table of bad tracks with their spares (02, K5): how many pairs of it count is told beside it. Pair i has its bad track at 2 i and the
 -- spare at 2 i + 1. There is room for 32 pairs.
-use Rattle.std.specs.Prelude.{ℕ, zero, suc, ◌+◌, ◌*◌, ◌≤◌, ◌<◌, min, List, ◌≡◌, get_or, length, set}
+use Rattle.spares.specs.declared.Track.{Track}
+use Rattle.std.specs.Prelude.{ℕ, zero, suc, ◌+◌, ◌*◌, ◌≤◌, ◌<◌, min, List, ◌≡◌, get_or, length, set, None, Option, Some}
 use Rattle.std.proofs.Math.Logic.{ite}
 use Rattle.std.proofs.Math.Logic.Dec.{and as dec_and}
 use Rattle.std.proofs.Math.Decide.{dec_lt, ℕ_discrete}
 use Rattle.geometry.specs.declared.Geometry.{Geometry}
-use Rattle.spares.specs.declared.Served.{Served}
-use Rattle.spares.specs.declared.Served.TheVariants.{Itself, By}
 use Rattle.spares.specs.Tracks.{TrackOn, track_number, stands_for, track_on?}
 
 abbrev pub bad_of : List ℕ → ℕ → ℕ
@@ -38,14 +37,14 @@ pub record Free (n : ℕ) (ts : List ℕ) (bad spare : ℕ) : Type 0 where
 
 -- What serves a track, of n pairs from the i-th on: "Every later command that lands on a bad track works on its spare". It is the first pair that
 -- has the track as bad and a spare that the drive has; where none does, the track itself.
-unfoldable pub served_from : Geometry → List ℕ → (i n t : ℕ) → Served
-served_from g ts i zero t = Itself
+unfoldable pub served_from : Geometry → List ℕ → (i n t : ℕ) → Option Track
+served_from g ts i zero t = None
 served_from g ts i (suc n) t =
-    ite (dec_and (ℕ_discrete (bad_of ts i) t) (track_on? g (spare_of ts i))) (By (stands_for (spare_of ts i))) (served_from g ts (suc i) n t)
+    ite (dec_and (ℕ_discrete (bad_of ts i) t) (track_on? g (spare_of ts i))) (Some (stands_for (spare_of ts i))) (served_from g ts (suc i) n t)
 
 -- What serves a track, by its cylinder and its head. From head 256 on no number stands for a track, and no table has it.
-abbrev pub served_at : Geometry → ℕ → List ℕ → ℕ → ℕ → Served
-served_at g n ts c h = ite (dec_lt h 256) (served_from g ts 0 (min n 32) (track_number c h)) Itself
+abbrev pub served_at : Geometry → ℕ → List ℕ → ℕ → ℕ → Option Track
+served_at g n ts c h = ite (dec_lt h 256) (served_from g ts 0 (min n 32) (track_number c h)) None
 
 -- One pair more after the n of a table, and how many there are then: where there is room, and else as it was.
 abbrev pub one_pair_more : ℕ → ℕ

@@ -3,7 +3,7 @@
 // It moves neither data nor heads, and changes a table by a pair at its end alone.
 #![tactic(auto)]
 
-ghost use Rattle.std.specs.Prelude.{◌≡◌, ℕ, ◌*◌, ◌≤◌, ◌<◌, min, get_or, length};
+ghost use Rattle.std.specs.Prelude.{◌≡◌, ℕ, ◌*◌, ◌≤◌, ◌<◌, min, get_or};
 ghost use Rattle.spares.specs.Lands.{Serves, served, InTable};
 ghost use Rattle.spares.specs.Table.{Free, Good, OneOf, one_pair_more, served_at, with_pair};
 ghost use Rattle.spares.specs.Tracks.{TrackOn, track_number, stands_for};
@@ -18,18 +18,11 @@ pub struct Track {
     pub head: u16,
 }
 
-// What serves a track: itself, or a spare.
-#[derive(Clone, Copy)]
-pub enum Served {
-    Itself,
-    By(Track),
-}
-
 // The number of a track as a table has it. A head of 8 bits is as wide as a block's.
 pub fn number(cylinder: u16, head: u8) -> u32
     ensures { result ≡ track_number cylinder head }
 {
-    (cylinder as u32) * 65536 + (head as u32) * 256
+    u32::from(cylinder) * 65536 + u32::from(head) * 256
 }
 
 // The track that a number stands for.
@@ -47,13 +40,7 @@ pub fn is_on_drive(g: Geometry, t: u32) -> bool
     ensures { Says result (TrackOn g t) }
 {
     let k = stands_for(t);
-    if g.cylinders() <= k.cylinder {
-        return false;
-    }
-    if g.heads() <= k.head {
-        return false;
-    }
-    t % 256 == 0
+    k.cylinder < g.cylinders() && k.head < g.heads() && t % 256 == 0
 }
 
 // Whether a track is one of the first m of a table.
@@ -61,14 +48,7 @@ fn is_one_of(table: &[u32; 64], m: usize, t: u32) -> bool
     requires { m ≤ 64 }
     ensures { Says result (OneOf m table.now t) }
 {
-    let mut i = 0;
-    while i < m {
-        if table[i] == t {
-            return true;
-        }
-        i += 1;
-    }
-    false
+    table[..m].iter().any(|&k| k == t)
 }
 
 // Whether no two of the first m tracks of a table are the same.
@@ -76,14 +56,7 @@ fn none_is_twice(table: &[u32; 64], m: usize) -> bool
     requires { m ≤ 64 }
     ensures { Says result ((i j : ℕ) → i < j → j < m → get_or table.now i 0 ≡ get_or table.now j 0 → ⊥) }
 {
-    let mut j = 0;
-    while j < m {
-        if is_one_of(table, j, table[j]) {
-            return false;
-        }
-        j += 1;
-    }
-    true
+    (0..m).all(|j| !is_one_of(table, j, table[j]))
 }
 
 // Whether the drive has each of the first m tracks of a table.
@@ -91,44 +64,22 @@ fn all_are_on_drive(table: &[u32; 64], m: usize, g: Geometry) -> bool
     requires { m ≤ 64 }
     ensures { Says result ((i : ℕ) → i < m → TrackOn g (get_or table.now i 0)) }
 {
-    let mut i = 0;
-    while i < m {
-        if !is_on_drive(g, table[i]) {
-            return false;
-        }
-        i += 1;
-    }
-    true
-}
-
-// How many numbers a table has, which its type says and a definition has to be told.
-fn numbers(table: &[u32; 64]) -> usize
-    ensures { length table.now ≡ 64 }
-{
-    let all = &table[..];
-    all.len()
+    table[..m].iter().all(|&t| is_on_drive(g, t))
 }
 
 // Whether a table of so many pairs is good.
 pub fn is_good(table: &[u32; 64], pairs: u16, g: Geometry) -> bool
     ensures { Says result (Good g pairs table.now) }
 {
-    let _long = numbers(table);
-    if 32 < pairs {
-        return false;
-    }
-    let m = 2 * (pairs as usize);
-    if !all_are_on_drive(table, m, g) {
-        return false;
-    }
-    none_is_twice(table, m)
+    let m = 2 * usize::from(pairs);
+    pairs <= 32 && all_are_on_drive(table, m, g) && none_is_twice(table, m)
 }
 
 // So many pairs, but no more than there is room for.
 pub fn in_room(pairs: u16) -> usize
     ensures { result ≡ min pairs 32 }
 {
-    if pairs <= 32 { pairs as usize } else { 32 }
+    usize::from(pairs).min(32)
 }
 
 // Whether a track is in a table, as bad or as spare.
@@ -142,16 +93,7 @@ pub fn is_in(table: &[u32; 64], pairs: u16, t: u32) -> bool
 pub fn are_free(table: &[u32; 64], pairs: u16, bad: u32, spare: u32) -> bool
     ensures { Says result (Free pairs table.now bad spare) }
 {
-    if bad == spare {
-        return false;
-    }
-    if is_in(table, pairs, bad) {
-        return false;
-    }
-    if is_in(table, pairs, spare) {
-        return false;
-    }
-    true
+    bad != spare && !is_in(table, pairs, bad) && !is_in(table, pairs, spare)
 }
 
 // Whether pair i of a table serves a track.
@@ -159,35 +101,35 @@ fn serves(table: &[u32; 64], i: usize, g: Geometry, t: u32) -> bool
     requires { i < 32 }
     ensures { Says result (Serves g table.now i t) }
 {
-    if table[2 * i] != t {
-        return false;
-    }
-    is_on_drive(g, table[2 * i + 1])
+    table[2 * i] == t && is_on_drive(g, table[2 * i + 1])
 }
 
-// What serves the track with a number.
-fn server(table: &[u32; 64], pairs: u16, g: Geometry, t: u32) -> Served
+// The spare that serves the track with a number, where one does.
+fn server(table: &[u32; 64], pairs: u16, g: Geometry, t: u32) -> Option<Track>
     ensures { result ≡ served g pairs table.now t }
 {
-    let n = in_room(pairs);
-    let mut i = 0;
-    while i < n {
+    for i in 0..in_room(pairs) {
         if serves(table, i, g, t) {
-            return Served::By(stands_for(table[2 * i + 1]));
+            return Some(stands_for(table[2 * i + 1]));
         }
-        i += 1;
     }
-    Served::Itself
+    None
 }
 
-// What serves a track. A head that no number has is in no table.
-pub fn serving(table: &[u32; 64], pairs: u16, g: Geometry, cylinder: u16, head: u16) -> Served
+// The spare that serves a track, where it does not serve itself. A head that no number has is in no table.
+pub fn serving(
+    table: &[u32; 64],
+    pairs: u16,
+    g: Geometry,
+    cylinder: u16,
+    head: u16,
+) -> Option<Track>
     ensures { result ≡ served_at g pairs table.now cylinder head }
 {
-    if head < 256 {
-        return server(table, pairs, g, number(cylinder, head as u8));
+    if let Ok(head) = u8::try_from(head) {
+        return server(table, pairs, g, number(cylinder, head));
     }
-    Served::Itself
+    None
 }
 
 // How many pairs there are with one more. Where there is no room for it they stay as many.
@@ -202,7 +144,7 @@ pub fn add(table: &mut [u32; 64], pairs: u16, bad: u32, spare: u32)
     ensures { table.new ≡ with_pair pairs table.old bad spare }
 {
     if pairs < 32 {
-        let at = 2 * (pairs as usize);
+        let at = 2 * usize::from(pairs);
         table[at] = bad;
         table[at + 1] = spare;
     }

@@ -11,11 +11,11 @@ use lib.ListN.{drop, get_or, length, replicate, take, length-append, length-drop
 use lib.Seq.{get_or-drop, get_or-take, length-take-le, sets-eq}
 use Rattle.answers.specs.Numbers.{run_number}
 use Rattle.board.specs.declared.chain.Outcome.{Outcome}
+use Rattle.board.specs.declared.Units.{Units}
 use Rattle.board.specs.Chain.{Ending, ends, ran}
 use Rattle.unit.specs.declared.Controller.TheVariants.{First}
 use Rattle.demands.proofs.RunAnswers.{blocks_within_the_allowance}
 use Rattle.board.proofs.Runs.{ran_allowance_bad}
-use Rattle.wire.specs.Copy.{copied}
 use Rattle.wire.specs.Words.{be32}
 use Rattle.wire.proofs.Laws.{word_same}
 use Rattle.transcript.specs.declared.State.{State}
@@ -45,8 +45,8 @@ module _ (field : List ℕ) (whole : 3 + long_of field ≤ length field) where
   pub bytes_long : length (bytes_in field) ≡ long_of field
   bytes_long = length-take-le (long_of field) (drop 3 field) (omega (arith, length-drop 3 field))
 
-  pub copied_over : (buffer : List ℕ) → copied field 3 buffer 0 (long_of field) ≡ at_start (bytes_in field) buffer
-  copied_over buffer = rw (zero-add, bytes_long)
+  pub copied_over : (buffer : List ℕ) → bytes_in field ++ drop (long_of field) buffer ≡ at_start (bytes_in field) buffer
+  copied_over buffer = rw bytes_long
 
 -- ---- bytes for a buffer
 
@@ -68,34 +68,34 @@ module _ (field : List ℕ) (s : State) (l : SessionLent) (at : ℕ) (room : Ses
   image1_stays = stays s.image1 l.image1 room.image1
 
   pub host_given :
-      spoken_of (on_with s.units (long_of field) s.image0 s.image1 at 0)
-      (lent_of (copied field 3 l.host 0 (long_of field)) l.image0 l.image1 l.text l.tracks0 l.tracks1) ≡
+      spoken_of (on_with (long_of field) s.image0 s.image1 at 0)
+      (lent_of (bytes_in field ++ drop (long_of field) l.host) l.image0 l.image1 l.text l.units) ≡
       went (heard (held_in s l) 1 (bytes_in field)) at l
   unfolding heard ℕ_discrete
   host_given =
       λ i.
-      spoken_of (on_with s.units (sym (bytes_long field whole) i) (image0_stays.0 i) (image1_stays.0 i) at 0)
-      (lent_of (copied_over field whole l.host i) (image0_stays.1 i) (image1_stays.1 i) l.text l.tracks0 l.tracks1)
+      spoken_of (on_with (sym (bytes_long field whole) i) (image0_stays.0 i) (image1_stays.0 i) at 0)
+      (lent_of (copied_over field whole l.host i) (image0_stays.1 i) (image1_stays.1 i) l.text l.units)
 
   pub image0_given :
-      spoken_of (on_with s.units s.host (long_of field) s.image1 at 0)
-      (lent_of l.host (copied field 3 l.image0 0 (long_of field)) l.image1 l.text l.tracks0 l.tracks1) ≡
+      spoken_of (on_with s.host (long_of field) s.image1 at 0)
+      (lent_of l.host (bytes_in field ++ drop (long_of field) l.image0) l.image1 l.text l.units) ≡
       went (heard (held_in s l) 2 (bytes_in field)) at l
   unfolding heard ℕ_discrete
   image0_given =
       λ i.
-      spoken_of (on_with s.units (host_stays.0 i) (sym (bytes_long field whole) i) (image1_stays.0 i) at 0)
-      (lent_of (host_stays.1 i) (copied_over field whole l.image0 i) (image1_stays.1 i) l.text l.tracks0 l.tracks1)
+      spoken_of (on_with (host_stays.0 i) (sym (bytes_long field whole) i) (image1_stays.0 i) at 0)
+      (lent_of (host_stays.1 i) (copied_over field whole l.image0 i) (image1_stays.1 i) l.text l.units)
 
   pub image1_given :
-      spoken_of (on_with s.units s.host s.image0 (long_of field) at 0)
-      (lent_of l.host l.image0 (copied field 3 l.image1 0 (long_of field)) l.text l.tracks0 l.tracks1) ≡
+      spoken_of (on_with s.host s.image0 (long_of field) at 0)
+      (lent_of l.host l.image0 (bytes_in field ++ drop (long_of field) l.image1) l.text l.units) ≡
       went (heard (held_in s l) 3 (bytes_in field)) at l
   unfolding heard ℕ_discrete
   image1_given =
       λ i.
-      spoken_of (on_with s.units (host_stays.0 i) (image0_stays.0 i) (sym (bytes_long field whole) i) at 0)
-      (lent_of (host_stays.1 i) (image0_stays.1 i) (copied_over field whole l.image1 i) l.text l.tracks0 l.tracks1)
+      spoken_of (on_with (host_stays.0 i) (image0_stays.0 i) (sym (bytes_long field whole) i) at 0)
+      (lent_of (host_stays.1 i) (image0_stays.1 i) (copied_over field whole l.image1 i) l.text l.units)
 
 -- ---- a run
 
@@ -149,8 +149,8 @@ came_back used buffer part fits kept =
 -- The lines of a run are what it says, and the parts that it leaves are what is held.
 pub run_went :
     (s : State) (l : SessionLent) (at : ℕ) → SessionRoom s l →
-    {e : Ending} (host image0 image1 events tracks0 tracks1 : List ℕ) (r : Outcome) →
-    CameTo e (world_of First host image0 image1 events tracks0 tracks1 r.units) r →
+    {e : Ending} (host image0 image1 events : List ℕ) (units : Units) (r : Outcome) →
+    CameTo e (world_of First host image0 image1 events units) r →
     length host ≡ length (take s.host l.host) →
     length image0 ≡ length (take s.image0 l.image0) →
     length image1 ≡ length (take s.image1 l.image1) →
@@ -158,11 +158,11 @@ pub run_went :
     number < 2 ^ 64 → r.blocks ≤ 64 → r.sectors < 2 ^ 64 →
     Appended l.text 0 (run_line number r.blocks r.sectors) text' next →
     Appended text' next (block_lines events r.blocks) text'' end →
-    spoken_of (on_with r.units s.host s.image0 s.image1 at end)
+    spoken_of (on_with s.host s.image0 s.image1 at end)
     (lent_of (host ++ drop s.host l.host) (image0 ++ drop s.image0 l.image0) (image1 ++ drop s.image1 l.image1)
-    text'' tracks0 tracks1) ≡
+    text'' units) ≡
     went (run_heard e) at l
-run_went s l at room host image0 image1 events tracks0 tracks1 r came kept kept0 kept1 {number = number} is a b c line lines =
+run_went s l at room host image0 image1 events units r came kept kept0 kept1 {number = number} is a b c line lines =
     let h = came_back s.host l.host host room.host kept in
     let i0 = came_back s.image0 l.image0 image0 room.image0 kept0 in
     let i1 = came_back s.image1 l.image1 image1 room.image1 kept1 in
@@ -176,5 +176,5 @@ run_went s l at room host image0 image1 events tracks0 tracks1 r came kept kept0
       block_lines_short events r.blocks (omega arith),
     )) in
     (λ t.
-    spoken_of (on_with r.units (h.0 t) (i0.0 t) (i1.0 t) at (told.1 t)) (lent_of (h.1 t) (i0.1 t) (i1.1 t) (told.0 t) tracks0 tracks1)) ∙
+    spoken_of (on_with (h.0 t) (i0.0 t) (i1.0 t) at (told.1 t)) (lent_of (h.1 t) (i0.1 t) (i1.1 t) (told.0 t) units)) ∙
     rw is (ap (λ x. went (run_heard x) at l) (ended_as_lem came))

@@ -9,7 +9,6 @@ use native.Mathlib.Decide.{ℕ_discrete}
 use native.Mathlib.Omega.{arith}
 use lib.ListN.{drop, get_or, length, take, length-append, length-drop, length-take}
 use lib.Seq.{take-append_seam}
-use Rattle.unit.specs.Standing.{no_tracks}
 use Rattle.unit.specs.declared.UnitNumber.TheVariants.{Zero, One}
 use Rattle.board.specs.Chain.{ran}
 use Rattle.demands.proofs.Keeps.{run_keeps_lengths}
@@ -17,7 +16,7 @@ use Rattle.wire.specs.Words.{be32}
 use Rattle.transcript.specs.declared.State.{State}
 use Rattle.transcript.specs.Rows.{in_a_row, onward, read_for}
 use Rattle.transcript.specs.Session.{Held, Heard, begin, bytes_in, ending_of, field?, heard, long_of, played_within, run_heard, session, tag_of}
-use Rattle.transcript.specs.Steps.{SessionLent, SessionRoom, Spoken, closed, held_in, lent_of, most_bytes, most_field, at_start, spoken, state_of, text_room, wanted, went}
+use Rattle.transcript.specs.Steps.{SessionLent, SessionRoom, Spoken, closed, held_in, lent_of, most_bytes, most_field, at_start, spoken, state_of, text_room, units_in, wanted, went}
 use Rattle.transcript.specs.Text.{refusal_line}
 use Rattle.transcript.proofs.Fields.{read_bytes, read_field, read_length, read_long, read_no_field, read_some, read_tag}
 use Rattle.transcript.proofs.Plays.{bytes_long, met, run_heard_lem}
@@ -151,17 +150,21 @@ row (suc k) s l (byte ∷ more) room early =
     (refused (read_for rest) s l room (read_some rest (omega arith)) (read_no_field rest none))
     ∙ sym (if_neg (field? rest) none _ _))
 
+-- The state and the units that a session begins with are what it holds at first, whatever the buffers are.
+pub begins : (l : SessionLent) → l.units ≡ units_in begin → held_in (state_of begin 0) l ≡ begin
+begins l blank = λ i. held_in (state_of begin 0) (lent_of [] [] [] [] (blank i))
+
 -- A program that, until a step is the last, reads what a field wants, makes a step of it on the buffers that the step before left,
 -- and prints what the step says, prints what the session prints: of any input of fewer than 2^64 - 16,387 bytes, with buffers that
--- have room for any field and for the lines of any run. It begins with nothing held, with tables of zeros, and makes at most one step more than the input
+-- have room for any field and for the lines of any run. It begins with what a session begins with, and makes at most one step more than the input
 -- has bytes.
 pub steps_in_a_row :
     (input : List ℕ) (l : SessionLent) → length input + most_field < 2 ^ 64 →
     most_bytes ≤ length l.host → most_bytes ≤ length l.image0 → most_bytes ≤ length l.image1 → text_room ≤ length l.text →
-    l.tracks0 ≡ no_tracks → l.tracks1 ≡ no_tracks →
+    l.units ≡ units_in begin →
     in_a_row (length input + 1) (state_of begin 0) l input ≡ session input
 unfolding session
-steps_in_a_row input l early host image0 image1 text none0 none1 =
+steps_in_a_row input l early host image0 image1 text blank =
     row (length input + 1) (state_of begin 0) l input
     (record {
       host = (omega arith, host);
@@ -171,4 +174,4 @@ steps_in_a_row input l early host image0 image1 text none0 none1 =
       at = omega arith;
     })
     (omega arith)
-    ∙ (λ i. played_within (length input + 1) (held_in (state_of begin 0) (lent_of [] [] [] [] (none0 i) (none1 i))) 0 input)
+    ∙ ap (λ h. played_within (length input + 1) h 0 input) (begins l blank)

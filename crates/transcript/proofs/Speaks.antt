@@ -6,16 +6,17 @@ use mathlib.Core.Logic.{if_neg, if_pos}
 use mathlib.Core.Path.{◌≡◌, refl, ◌∙◌}
 use native.Mathlib.Omega.{arith}
 use lib.ListN.{length}
+use Rattle.board.specs.declared.Units.{Units}
 use Rattle.transcript.specs.declared.Next.{Next}
 use Rattle.transcript.specs.declared.State.{State}
 use Rattle.transcript.specs.Session.{Field, bytes_in, field?, heard, long_of, tag_of}
 use Rattle.transcript.specs.Steps.{SessionLent, SessionRoom, closed, held_in, lent_of, room?, said_of, spoken, spoken_of, spoken_on, went}
 use Rattle.transcript.specs.Text.{refusal_line}
 
--- Whether there is room does not go by the tables.
+-- Whether there is room does not go by the units.
 pub room_with :
-    {s : State} {host image0 image1 text tracks0 tracks1 other0 other1 : List ℕ} →
-    SessionRoom s (lent_of host image0 image1 text tracks0 tracks1) → SessionRoom s (lent_of host image0 image1 text other0 other1)
+    {s : State} {host image0 image1 text : List ℕ} {units other : Units} →
+    SessionRoom s (lent_of host image0 image1 text units) → SessionRoom s (lent_of host image0 image1 text other)
 room_with r = record { host = r.host; image0 = r.image0; image1 = r.image1; text = r.text; at = r.at }
 
 module _ (field : List ℕ) (s : State) (l : SessionLent) where

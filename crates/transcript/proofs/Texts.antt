@@ -6,7 +6,6 @@ use mathlib.Core.Logic.{by_cases, if_neg, if_pos}
 use mathlib.Core.Path.{◌≡◌, refl, sym, ap, ◌∙◌}
 use native.Mathlib.Decide.{dec_lt}
 use native.Mathlib.Nat.{pow-suc}
-use native.Mathlib.Numerals.{add-one}
 use native.Mathlib.Omega.{arith}
 use lib.ListN.{length, set, length-append}
 use lib.Seq.{length-sets}
@@ -42,13 +41,6 @@ put_word {xs = xs} word ys a b = rw append_assoc (put_then a b)
 pub byte_put : (text : List ℕ) (at byte : ℕ) → Appended text at (byte ∷ []) (set text at byte) (at + 1)
 unfolding written
 byte_put text at byte = record { stored = refl; after = refl }
-
--- So two bytes are two.
-pub two_put :
-    (text : List ℕ) (at byte byte' : ℕ) →
-    Appended text at (byte ∷ byte' ∷ []) (set (set text at byte) (at + 1) byte') (at + 2)
-unfolding written
-two_put text at byte byte' = record { stored = rw add-one; after = refl }
 
 -- No text changes its length.
 pub put_keeps_length : {text text' : List ℕ} {at next : ℕ} {xs : List ℕ} → Appended text at xs text' next → length text' ≡ length text
@@ -133,9 +125,15 @@ pub no_lines : (events : List ℕ) → block_lines events 0 ≡ []
 unfolding block_lines
 no_lines events = refl
 
-pub one_line_more : (events : List ℕ) (k : ℕ) → block_lines events (k + 1) ≡ block_lines events k ++ block_line events (k + 1)
+pub one_line_more :
+    {text text' text'' : List ℕ} {at next end : ℕ} (events : List ℕ) (k : ℕ) → 1 ≤ k →
+    Appended text at (block_lines events (k - 1)) text' next → Appended text' next (block_line events k) text'' end →
+    Appended text at (block_lines events k) text'' end
 unfolding block_lines
-one_line_more events k = rw (add-one k)
+one_line_more events zero least a b = absurd (omega arith)
+one_line_more {at = at} events (suc k) least a b =
+    let before : suc k - 1 ≡ k = omega arith in
+    put_then (rw before at a) b
 
 pub block_lines_short : (events : List ℕ) (k : ℕ) → k < 2 ^ 32 → length (block_lines events k) ≤ 96 * k
 unfolding block_lines

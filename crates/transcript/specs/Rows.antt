@@ -1,4 +1,4 @@
--- The steps of a session in a row, as a program makes them that only reads, calls and writes. From the state of `begin` and tables of zeros, with
+-- The steps of a session in a row, as a program makes them that only reads, calls and writes. From the state and the units of `begin`, with
 -- buffers that have room, and for an input of fewer than 2^64 - 16,387 bytes, they print what `session` says: the theorem of proofs/Rows.
 use Rattle.std.specs.Prelude.{ℕ, zero, suc, List, [], ◌++◌, drop, length, take}
 use Rattle.transcript.specs.declared.Next.{Next}

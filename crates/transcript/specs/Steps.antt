@@ -1,10 +1,9 @@
 -- What the library promises of one field, over lent buffers: `Session` field by field. The memory and the images stand at the start of
--- the buffers lent for them, and a state says how much of each is theirs; the records are in two parts, one in the state and their tables lent.
+-- the buffers lent for them, and a state says how much of each is theirs; the units are lent whole.
 use Rattle.std.specs.Prelude.{ℕ, ◌+◌, ◌≤◌, ◌<◌, ◌^◌, List, [], ◌∷◌, ◌++◌, ◌≡◌, drop, length, take}
 use Rattle.std.proofs.Math.Logic.{ite}
 use Rattle.std.proofs.Math.Logic.Dec.{and as dec_and}
 use Rattle.std.proofs.Math.Decide.{dec_le, dec_lt, map_dec}
-use Rattle.unit.specs.Standing.{by_value, table, unit_of}
 use Rattle.board.specs.declared.Units.{Units}
 use Rattle.transcript.specs.declared.Next.{Next}
 use Rattle.transcript.specs.declared.Said.{Said}
@@ -29,12 +28,11 @@ pub record SessionLent : Type 0 where
   pub image0 : List ℕ
   pub image1 : List ℕ
   pub text : List ℕ
-  pub tracks0 : List ℕ
-  pub tracks1 : List ℕ
+  pub units : Units
 
-abbrev pub lent_of : (host image0 image1 text tracks0 tracks1 : List ℕ) → SessionLent
-lent_of host image0 image1 text tracks0 tracks1 =
-    record { host = host; image0 = image0; image1 = image1; text = text; tracks0 = tracks0; tracks1 = tracks1 }
+abbrev pub lent_of : (host image0 image1 text : List ℕ) → Units → SessionLent
+lent_of host image0 image1 text units =
+    record { host = host; image0 = image0; image1 = image1; text = text; units = units }
 
 -- So many bytes are in use of a buffer that has room for any field.
 abbrev pub Fits : ℕ → List ℕ → Type 0
@@ -66,14 +64,17 @@ abbrev pub held_in : State → SessionLent → Held
 held_in s l =
     record {
       host = take s.host l.host;
-      drive0 = record { unit = unit_of s.units.zero l.tracks0; image = take s.image0 l.image0 };
-      drive1 = record { unit = unit_of s.units.one l.tracks1; image = take s.image1 l.image1 };
+      drive0 = record { unit = l.units.zero; image = take s.image0 l.image0 };
+      drive1 = record { unit = l.units.one; image = take s.image1 l.image1 };
     }
+
+-- The same in two parts, the units and the state: those of `begin` are what a session begins with.
+abbrev pub units_in : Held → Units
+units_in h = record { zero = h.drive0.unit; one = h.drive1.unit }
 
 abbrev pub state_of : Held → ℕ → State
 state_of h at =
     record {
-      units = record { zero = by_value h.drive0.unit; one = by_value h.drive1.unit };
       host = length h.host;
       image0 = length h.drive0.image;
       image1 = length h.drive1.image;
@@ -84,7 +85,7 @@ state_of h at =
 abbrev pub at_start : List ℕ → List ℕ → List ℕ
 at_start bytes buffer = bytes ++ drop (length bytes) buffer
 
--- What a step comes to: what it answers, and every lent byte.
+-- What a step comes to: what it answers, and all that is lent.
 pub record Spoken : Type 0 where
   pub said : Said
   pub lent : SessionLent
@@ -96,23 +97,23 @@ abbrev pub said_of : Next → ℕ → Said
 said_of next text = record { next = next; text = text }
 
 -- An answer by which the session goes on.
-abbrev pub on_with : Units → (host image0 image1 at text : ℕ) → Said
-on_with units host image0 image1 at text =
-    said_of (Next.On (record { units = units; host = host; image0 = image0; image1 = image1; at = at })) text
+abbrev pub on_with : (host image0 image1 at text : ℕ) → Said
+on_with host image0 image1 at text =
+    said_of (Next.On (record { host = host; image0 = image0; image1 = image1; at = at })) text
 
--- A field that was heard: its text stands in the text buffer, and what is held after it in the others.
+-- A field that was heard: its text stands in the text buffer, and what is held after it in the others and in the units.
 abbrev pub went : Heard → ℕ → SessionLent → Spoken
 went x at l =
     let h = x.held in
     spoken_of (said_of (Next.On (state_of h at)) (length x.text))
     (lent_of (at_start h.host l.host) (at_start h.drive0.image l.image0) (at_start h.drive1.image l.image1)
-    (at_start x.text l.text) (table h.drive0.unit) (table h.drive1.unit))
+    (at_start x.text l.text) (units_in h))
 
 -- A text that is the session's last.
 abbrev pub closed : List ℕ → SessionLent → Spoken
 closed text l =
     spoken_of (said_of Next.Over (length text))
-    (lent_of l.host l.image0 l.image1 (at_start text l.text) l.tracks0 l.tracks1)
+    (lent_of l.host l.image0 l.image1 (at_start text l.text) l.units)
 
 -- A step on what was read of a field; that is [] where the input has ended.
 abbrev pub spoken_on : List ℕ → State → SessionLent → Spoken

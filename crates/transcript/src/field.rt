@@ -8,27 +8,14 @@ ghost use Rattle.wire.specs.Promise.{Says};
 fn length_fits(tag: u8, long: u16) -> bool
     ensures { Says result ((long ≤ 16384) × (tag ≡ 4 → long ≡ 5)) }
 {
-    if tag == 4 {
-        return long == 5;
-    }
-    long <= 16384
+    if tag == 4 { long == 5 } else { long <= 16384 }
 }
 
 // Whether a field begins so.
 fn opens(bytes: &[u8]) -> bool
     ensures { Says result (Opening bytes.now) }
 {
-    if bytes.len() < 3 {
-        return false;
-    }
-    let tag = bytes[0];
-    if tag < 1 {
-        return false;
-    }
-    if 4 < tag {
-        return false;
-    }
-    length_fits(tag, wire::be16(bytes, 1))
+    3 <= bytes.len() && (1..=4).contains(&bytes[0]) && length_fits(bytes[0], wire::be16(bytes, 1))
 }
 
 // How many bytes of the input the field takes that begins with these. With a bad opening it is refused for the 3 bytes alone.
@@ -45,8 +32,5 @@ pub fn wanted(bytes: &[u8]) -> usize
 pub(crate) fn is_field(bytes: &[u8]) -> bool
     ensures { Says result (Field bytes.now) }
 {
-    if !opens(bytes) {
-        return false;
-    }
-    3 + (wire::be16(bytes, 1) as usize) <= bytes.len()
+    opens(bytes) && 3 + (wire::be16(bytes, 1) as usize) <= bytes.len()
 }

@@ -1,15 +1,15 @@
-// The session, a field at a time: what is held goes in and comes back, and the lines that a field makes stand in a lent buffer.
-// What a field does to memory, images and records is board's run, by its promise; here are fields, states and text.
+// The session, a field at a time: what is held is lent, and the lines that a field makes stand in a lent buffer.
+// What a field does to memory, images and units is board's run, by its promise; here are fields, states and text.
 // It reads no input and writes no output, and it trusts no caller: without room nothing is done.
 #![tactic(auto)]
 
-ghost use Rattle.std.specs.Prelude.{[], ◌≡◌};
+ghost use Rattle.std.specs.Prelude.{◌≡◌};
 ghost use Rattle.transcript.specs.Session.{begin};
-ghost use Rattle.transcript.specs.Steps.{Fits, SessionRoom, lent_of, spoken, spoken_of, state_of};
+ghost use Rattle.transcript.specs.Steps.{Fits, SessionRoom, lent_of, spoken, spoken_of, state_of, units_in};
 ghost use Rattle.wire.specs.Promise.{Says};
 
 use board::Units;
-use unit::Record;
+use unit::Unit;
 
 mod field;
 mod lines;
@@ -22,10 +22,9 @@ pub const MOST_BYTES: usize = 16384;
 
 pub const TEXT_ROOM: usize = 8192;
 
-// What is held between fields: the unit records, how much of each buffer is the memory's or the image's, and the place in the input.
+// What is known between fields of what is lent: how much of each buffer is the memory's or the image's, and the place in the input.
 #[derive(Clone, Copy)]
 pub struct State {
-    pub units: Units,
     pub host: usize,
     pub image0: usize,
     pub image1: usize,
@@ -47,15 +46,11 @@ pub struct Said {
     pub text: usize,
 }
 
-// What a session begins with.
+// Where a session begins: nothing of the lent buffers is in use, and nothing of the input is read.
 pub fn start() -> State
     ensures { result ≡ state_of begin 0 }
 {
     State {
-        units: Units {
-            zero: Record::blank(),
-            one: Record::blank(),
-        },
         host: 0,
         image0: 0,
         image1: 0,
@@ -63,33 +58,32 @@ pub fn start() -> State
     }
 }
 
+// The units that a session begins with.
+pub fn units() -> Units
+    ensures { result ≡ units_in begin }
+{
+    Units {
+        zero: Unit::blank(),
+        one: Unit::blank(),
+    }
+}
+
 fn fits(buffer: &[u8], used: usize) -> bool
     ensures { Says result (Fits used buffer.now) }
 {
-    if MOST_BYTES < used {
-        return false;
-    }
-    MOST_BYTES <= buffer.len()
+    used <= MOST_BYTES && MOST_BYTES <= buffer.len()
 }
 
 fn has_room(host: &[u8], image0: &[u8], image1: &[u8], text: &[u8], s: State) -> bool
-    ensures { let before = lent_of host.now image0.now image1.now text.now [] [] in
+    ensures { let before = lent_of host.now image0.now image1.now text.now (units_in begin) in
         Says result (SessionRoom s before) }
 {
-    if !fits(host, s.host) {
-        return false;
-    }
-    if !fits(image0, s.image0) {
-        return false;
-    }
-    if !fits(image1, s.image1) {
-        return false;
-    }
-    if text.len() < TEXT_ROOM {
-        return false;
-    }
-    // the place after any field is a number of 64 bits
-    s.at <= 0xFFFF_FFFF_FFFF_BFFC
+    fits(host, s.host)
+        && fits(image0, s.image0)
+        && fits(image1, s.image1)
+        && TEXT_ROOM <= text.len()
+        // the place after any field is a number of 64 bits
+        && s.at <= 0xFFFF_FFFF_FFFF_BFFC
 }
 
 // Hears what was read of a field, or of the input's end, and leaves its lines at the start of the text buffer.
@@ -99,14 +93,11 @@ pub fn step(
     image0: &mut [u8],
     image1: &mut [u8],
     text: &mut [u8],
-    map0: &mut [u32; 64],
-    map1: &mut [u32; 64],
+    units: &mut Units,
     s: State,
 ) -> Said
-    ensures { let before = lent_of host.old image0.old image1.old text.old map0.old
-        map1.old in
-        let after = lent_of host.new image0.new image1.new text.new map0.new
-        map1.new in
+    ensures { let before = lent_of host.old image0.old image1.old text.old units.old in
+        let after = lent_of host.new image0.new image1.new text.new units.new in
         spoken_of result after ≡ spoken field.now s before }
 {
     if !has_room(host, image0, image1, text, s) {
@@ -115,7 +106,7 @@ pub fn step(
             text: 0,
         };
     }
-    if field.len() == 0 {
+    if field.is_empty() {
         return Said {
             next: Next::Over,
             text: 0,
@@ -127,5 +118,5 @@ pub fn step(
             text: lines::put_refusal(text, s.at),
         };
     }
-    play::hear(field, host, image0, image1, text, map0, map1, s)
+    play::hear(field, host, image0, image1, text, units, s)
 }

@@ -7,8 +7,9 @@ fn put(text: &mut [u8], at: usize, bytes: &[u8]) -> usize
     requires { at + length bytes.now ≤ length text.old }
     ensures { Appended text.old at bytes.now text.new result }
 {
-    wire::copy(bytes, 0, text, at, bytes.len());
-    at + bytes.len()
+    let next = at + bytes.len();
+    text[at..next].copy_from_slice(bytes);
+    next
 }
 
 fn digit(d: u8) -> u8
@@ -24,9 +25,7 @@ fn put_hex(text: &mut [u8], at: usize, word: &[u8], byte: u8) -> usize
     ensures { Appended text.old at (word.now ++ hex byte) text.new result }
 {
     let next = put(text, at, word);
-    text[next] = digit(byte / 16);
-    text[next + 1] = digit(byte % 16);
-    next + 2
+    put(text, next, &[digit(byte / 16), digit(byte % 16)])
 }
 
 fn put_decimal(text: &mut [u8], at: usize, n: u64) -> usize
@@ -94,9 +93,7 @@ pub(crate) fn put_blocks(text: &mut [u8], at: usize, events: &[u8], blocks: u32)
     ensures { Appended text.old at (block_lines events.now blocks) text.new result }
 {
     let mut next = at;
-    let mut k = 0;
-    while k < blocks {
-        k += 1;
+    for k in 1..=blocks {
         next = put_block(text, next, events, k);
     }
     next

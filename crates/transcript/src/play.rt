@@ -4,21 +4,15 @@ ghost use Rattle.transcript.specs.Session.{Field, bytes_in, ending_of, heard, lo
 ghost use Rattle.transcript.specs.Steps.{SessionRoom, held_in, lent_of, on_with, spoken_of, went};
 
 use crate::{Next, Said, State, lines};
+use board::Units;
 use unit::Controller;
 
 // A field without text: the session goes on with other lengths, from a later place.
-fn on(s: State, host: usize, image0: usize, image1: usize, at: u64) -> Said
-    ensures { result ≡ on_with s.units host image0 image1 at 0 }
+fn on(s: State) -> Said
+    ensures { result ≡ on_with s.host s.image0 s.image1 s.at 0 }
 {
-    let units = s.units;
     Said {
-        next: Next::On(State {
-            units,
-            host,
-            image0,
-            image1,
-            at,
-        }),
+        next: Next::On(s),
         text: 0,
     }
 }
@@ -30,49 +24,33 @@ fn run(
     image0: &mut [u8],
     image1: &mut [u8],
     text: &mut [u8],
-    map0: &mut [u32; 64],
-    map1: &mut [u32; 64],
+    units: &mut Units,
     s: State,
     at: u64,
 ) -> Said
-    requires { SessionRoom s (lent_of host.old image0.old image1.old text.old map0.old map1.old) ×
+    requires { SessionRoom s (lent_of host.old image0.old image1.old text.old units.old) ×
         ((long_of field.now ≡ 5) × (8 ≤ length field.now)) }
-    ensures { let before = lent_of host.old image0.old image1.old text.old map0.old
-        map1.old in
-        let after = lent_of host.new image0.new image1.new text.new map0.new
-        map1.new in
+    ensures { let before = lent_of host.old image0.old image1.old text.old units.old in
+        let after = lent_of host.new image0.new image1.new text.new units.new in
         spoken_of result after ≡ went (run_heard (ending_of (held_in s before) (bytes_in field.now))) at before }
 {
     let first = wire::be32(field, 3);
     let allowance = field[7] as u32;
-    let long = s.host;
-    let long0 = s.image0;
-    let long1 = s.image1;
     let mut events = [0u8; 512];
     let done = board::run(
-        &mut host[..long],
-        &mut image0[..long0],
-        &mut image1[..long1],
+        &mut host[..s.host],
+        &mut image0[..s.image0],
+        &mut image1[..s.image1],
         &mut events,
-        map0,
-        map1,
-        s.units,
+        units,
         Controller::First,
         first,
         allowance,
     );
-    let answer = done.answer;
-    let next = lines::put_run(text, answer.number(), done.blocks, done.sectors);
+    let next = lines::put_run(text, done.answer.number(), done.blocks, done.sectors);
     let end = lines::put_blocks(text, next, &events, done.blocks);
-    let units = done.units;
     Said {
-        next: Next::On(State {
-            units,
-            host: long,
-            image0: long0,
-            image1: long1,
-            at,
-        }),
+        next: Next::On(State { at, ..s }),
         text: end,
     }
 }
@@ -83,34 +61,42 @@ pub(crate) fn hear(
     image0: &mut [u8],
     image1: &mut [u8],
     text: &mut [u8],
-    map0: &mut [u32; 64],
-    map1: &mut [u32; 64],
+    units: &mut Units,
     s: State,
 ) -> Said
-    requires { SessionRoom s (lent_of host.old image0.old image1.old text.old map0.old map1.old) × Field field.now }
-    ensures { let before = lent_of host.old image0.old image1.old text.old map0.old
-        map1.old in
-        let after = lent_of host.new image0.new image1.new text.new map0.new
-        map1.new in
+    requires { SessionRoom s (lent_of host.old image0.old image1.old text.old units.old) × Field field.now }
+    ensures { let before = lent_of host.old image0.old image1.old text.old units.old in
+        let after = lent_of host.new image0.new image1.new text.new units.new in
         spoken_of result after ≡ went (heard (held_in s before) (tag_of field.now) (bytes_in field.now))
         (s.at + (3 + long_of field.now)) before }
 {
-    let tag = field[0];
     let long = wire::be16(field, 1) as usize;
-    let at = s.at + (3 + (long as u64));
-    match tag {
+    let at = s.at + (3 + long as u64);
+    match field[0] {
         1 => {
-            wire::copy(field, 3, host, 0, long);
-            on(s, long, s.image0, s.image1, at)
+            host[..long].copy_from_slice(&field[3..3 + long]);
+            on(State {
+                host: long,
+                at,
+                ..s
+            })
         }
         2 => {
-            wire::copy(field, 3, image0, 0, long);
-            on(s, s.host, long, s.image1, at)
+            image0[..long].copy_from_slice(&field[3..3 + long]);
+            on(State {
+                image0: long,
+                at,
+                ..s
+            })
         }
         3 => {
-            wire::copy(field, 3, image1, 0, long);
-            on(s, s.host, s.image0, long, at)
+            image1[..long].copy_from_slice(&field[3..3 + long]);
+            on(State {
+                image1: long,
+                at,
+                ..s
+            })
         }
-        _ => run(field, host, image0, image1, text, map0, map1, s, at),
+        _ => run(field, host, image0, image1, text, units, s, at),
     }
 }

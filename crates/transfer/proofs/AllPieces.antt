@@ -3,9 +3,7 @@
 use Prim.Native.Nat.{ℕ, ◌+◌, ◌-◌, ◌≤◌, ◌<◌, min}
 use mathlib.Core.Bool.{Bool}
 use mathlib.Core.List.{List}
-use mathlib.Core.Logic.{by_cases}
 use mathlib.Core.Path.{◌≡◌, refl, sym, ap, ◌∙◌}
-use native.Mathlib.Decide.{dec_lt}
 use native.Mathlib.Numerals.{add-one}
 use native.Mathlib.Omega.{arith}
 use lib.ListN.{get_or, length}
@@ -49,50 +47,60 @@ module _ (u : UnitRecord) (s : Span) (to_host : Bool) (lengths addresses host₀
         moved = refl;
       }
 
-  module _ (fit : PiecesFit (length host₀) all lengths addresses) (i done : ℕ) (host image : List ℕ) (c : Cursor) (now : Before i done host image c) (less : done < all) where
-    -- While bytes are left there is an i-th piece, and all before it are carried.
-    pub a_piece : (i < length lengths) × (done ≡ sum bytes i)
-    a_piece = (
-      by_cases (dec_lt i (length lengths)) (λ h. h)
-          (λ out.
-          let last : i ≡ length lengths = omega (arith, now.most) in
-          absurd (omega (arith, now.bytes_so_far, ap (λ (x : ℕ). sum bytes x) last, fit.enough))),
-      omega (arith, now.bytes_so_far),
-    )
+  -- The i-th piece is carried next: n bytes of it, which are all of it or all that is left, from its address on.
+  pub record Next (i done n at : ℕ) : Type 0 where
+    pub earlier : done ≡ sum bytes i
+    pub some : i < length lengths
+    pub n-is : n ≡ min (bytes i) (all - done)
+    pub at-is : at ≡ get_or addresses i 0
 
-    module _ (n : ℕ) (n-is : n ≡ min (bytes i) (all - done)) where
-      -- The piece may be carried.
-      pub piece_fits : Spans u s → InImage u s (length image₀) → CarryFits u s c (get_or addresses i 0) n host image
-      piece_fits spans held =
-          record {
-            spans = spans;
-            held = rw now.long_image held;
-            on = record { stands = now.on.stands; here = refl; most = now.on.most };
-            bytes = omega (arith, now.on.here);
-            memory = omega (arith, fit.inside i a_piece.0, now.long_host);
-          }
+  -- While bytes are left, all pieces before the i-th are carried.
+  pub a_piece :
+      (i done n at own whole : ℕ) (host image : List ℕ) (c : Cursor) → Before i done host image c →
+      whole ≡ all → (done ≡ whole → ⊥) → i < length lengths → own ≡ bytes i → at ≡ get_or addresses i 0 → n ≡ min own (whole - done) →
+      Next i done n at
+  a_piece i done n at own whole host image c now whole-is some less own-is at-is n-is =
+      record {
+        earlier = omega (arith, now.bytes_so_far);
+        some = less;
+        n-is = rw (own-is, whole-is) at n-is;
+        at-is = at-is;
+      }
 
-      same : (j : ℕ) → j < n → move to_host (disk_from u s.volume s.first (done + j)) (get_or addresses i 0 + j) ≡ stores (done + j)
-      same j j< =
-          let there : piece_byte lengths addresses (done + j) ≡ get_or addresses i 0 + j =
-          rw a_piece.1 (joined_at bytes (λ x. get_or addresses x 0) (length lengths) i j a_piece.0 (omega arith)) in
-          ap (λ (x : ℕ). move to_host (disk_from u s.volume s.first (done + j)) x) (sym there)
+  module _ (fit : PiecesFit (length host₀) all lengths addresses) (i done n at : ℕ) (host image : List ℕ) (c : Cursor) (now : Before i done host image c) (next : Next i done n at) where
+    -- The piece may be carried.
+    pub piece_fits : Spans u s → InImage u s (length image₀) → CarryFits u s c at n host image
+    piece_fits spans held =
+        record {
+          spans = spans;
+          held = rw now.long_image held;
+          on = record { stands = now.on.stands; here = refl; most = now.on.most };
+          bytes = omega (arith, now.on.here, now.bytes_so_far, next.n-is);
+          memory = omega (arith, fit.inside i next.some, now.long_host, next.n-is, next.at-is);
+        }
 
-      pub piece_carried :
-          (host' image' : List ℕ) (c' : Cursor) → length host' ≡ length host → length image' ≡ length image →
-          Carried u s to_host (behind u c) (get_or addresses i 0) n (lent host image) (lent host' image') c' →
-          Before (i + 1) (done + n) host' image' c'
-      unfolding sum
-      piece_carried host' image' c' lh li carried =
-          record {
-            most = omega (arith, a_piece);
-            bytes_so_far = rw add-one (omega (arith, a_piece, n-is));
-            on = rw now.on.here at carried.on;
-            long_host = lh ∙ now.long_host;
-            long_image = li ∙ now.long_image;
-            moved =
-                (rw now.on.here at carried.moved)
-                ∙ ap (λ (ss : List Store). after ss (lent host image)) (up_to_same n _ _ same)
-                ∙ ap (λ (m : Buffers). after (up_to n (λ j. stores (done + j))) m) now.moved
-                ∙ sym (after_add done n stores (lent host₀ image₀));
-          }
+    same : (j : ℕ) → j < n → move to_host (disk_from u s.volume s.first (done + j)) (at + j) ≡ stores (done + j)
+    same j j< =
+        let there : piece_byte lengths addresses (done + j) ≡ at + j =
+        rw (next.earlier, next.at-is)
+        (joined_at bytes (λ x. get_or addresses x 0) (length lengths) i j next.some (omega (arith, next.n-is))) in
+        ap (λ (x : ℕ). move to_host (disk_from u s.volume s.first (done + j)) x) (sym there)
+
+    pub piece_carried :
+        (host' image' : List ℕ) (c' : Cursor) → length host' ≡ length host → length image' ≡ length image →
+        Carried u s to_host (behind u c) at n (lent host image) (lent host' image') c' →
+        Before (i + 1) (done + n) host' image' c'
+    unfolding sum
+    piece_carried host' image' c' lh li carried =
+        record {
+          most = omega (arith, next.some);
+          bytes_so_far = rw add-one (omega (arith, next.earlier, next.n-is));
+          on = rw now.on.here at carried.on;
+          long_host = lh ∙ now.long_host;
+          long_image = li ∙ now.long_image;
+          moved =
+              (rw now.on.here at carried.moved)
+              ∙ ap (λ (ss : List Store). after ss (lent host image)) (up_to_same n _ _ same)
+              ∙ ap (λ (m : Buffers). after (up_to n (λ j. stores (done + j))) m) now.moved
+              ∙ sym (after_add done n stores (lent host₀ image₀));
+        }

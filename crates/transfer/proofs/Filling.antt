@@ -10,14 +10,16 @@ use native.Mathlib.Omega.{arith}
 use lib.Arith.{digits_mod}
 use lib.ListN.{length}
 use Rattle.wire.specs.Copy.{copied}
+use Rattle.geometry.specs.declared.Geometry.{Geometry}
 use Rattle.geometry.specs.Drive.{B, S, drive_sectors, need}
 use Rattle.geometry.specs.Sectors.{first_byte}
 use Rattle.geometry.proofs.Laws.{bytes_consecutive, sector_in_image}
+use Rattle.transfer.specs.declared.Moved.{Moved}
 use Rattle.unit.specs.declared.Spot.{Spot}
 use Rattle.unit.specs.Standing.{UnitRecord, geometry}
 use Rattle.transfer.specs.Data.{data_on, formatting, move, progress_on}
 use Rattle.transfer.specs.Progress.{Progress, stops_at}
-use Rattle.transfer.specs.Runs.{fill_store, lent}
+use Rattle.transfer.specs.Runs.{fill_store, in_a_row, lent, reached}
 use Rattle.transfer.specs.Stores.{Buffers, Store, after, up_to}
 use Rattle.transfer.specs.Whole.{TrackFits, made, misfit, track_fits?, track_result}
 use Rattle.transfer.proofs.Cursors.{row_of_bytes}
@@ -82,6 +84,31 @@ module _ (image : List ℕ) (u : UnitRecord) (spot : Spot) (at : ℕ) where
       (rw (zero-mul, zero-add) at
       (row_of_bytes (geometry u) (λ j. spot.place + j) 0 spot.place come.sectors (some_bytes come.sectors (B (geometry u)) k k<)
       (λ j j<. rw zero-add refl) k k<)))
+
+  -- What is known of a track that was scanned: where its bytes begin, how many a sector has, and how far it comes.
+  pub record Known (first bytes : ℕ) (m : Moved) : Type 0 where
+    pub begins : first ≡ first_byte (geometry u) spot.place
+    pub each : bytes ≡ B (geometry u)
+    pub comes : m ≡ reached come
+
+  pub known :
+      (g : Geometry) (first bytes sectors : ℕ) (m : Moved) → g ≡ geometry u →
+      first ≡ first_byte g spot.place → bytes ≡ B g → sectors ≡ S g → m ≡ reached (in_a_row image g false spot.place sectors) →
+      Known first bytes m
+  known g first bytes sectors m g-is begins each all comes =
+      record { begins = rw g-is at begins; each = rw g-is at each; comes = rw (all, g-is) at comes }
+
+  -- So they may be filled, and filling them is the track's data.
+  pub fill_fits :
+      (long first bytes : ℕ) (m : Moved) → Known first bytes m → TrackFits (geometry u) spot at long (length image) →
+      (at + bytes ≤ long) × (0 < m.sectors → first + m.sectors * bytes ≤ length image)
+  fill_fits long first bytes m k fits = rw (k.begins, k.each, k.comes) (fits.memory, track_room fits.inside fits.held)
+
+  pub filled :
+      (before after_fill : Buffers) (first bytes : ℕ) (m : Moved) → Known first bytes m →
+      after_fill ≡ after (up_to (m.sectors * bytes) (fill_store first at bytes)) before →
+      after_fill ≡ after (data_on image (formatting u spot at)) before
+  filled before after_fill first bytes m k stored = rw track_stores (rw (k.begins, k.each, k.comes) at stored)
 
   module _ (long : ℕ) where
     pub track_fit :

@@ -1,12 +1,12 @@
 -- A transfer's sectors stand on the drive, before the marks: it changes no mark and no byte after the marks.
 -- How many sectors come is read off its answer.
+use Rattle.std.proofs.Common.{Err, Ok}
 use Prim.Native.Nat.{ℕ, ◌+◌, ◌*◌, ◌/◌, ◌≤◌, ◌<◌}
 use mathlib.Core.Bool.{Bool, true, false}
 use mathlib.Core.List.{List}
 use mathlib.Core.Path.{◌≡◌}
 use native.Mathlib.Nat.{div-lt_iff_lt-mul, mod-lt, zero-add}
 use native.Mathlib.Omega.{arith}
-use Rattle.answers.specs.declared.BlockAnswer.{BlockAnswer}
 use Rattle.answers.specs.declared.Refusal.{Refusal}
 use Rattle.geometry.specs.declared.VolumeNumber.{VolumeNumber}
 use Rattle.geometry.specs.Drive.{B, S, drive_sectors, marks_at, volume_sectors}
@@ -102,8 +102,8 @@ module _ (image : List ℕ) (t : Transfer) where
   counts = rw zero-add at (progress_counts (λ j. stops_at image t.geometry t.heeds (t.place j)) 0 t.count).1
 
   -- A transfer that is stopped has moved fewer sectors than were asked for, and one that ended has moved them all.
-  pub stopped_short : (r : Refusal) → (progress_on image t).answer ≡ BlockAnswer.Failed r → (progress_on image t).sectors < t.count
+  pub stopped_short : (r : Refusal) → (progress_on image t).answer ≡ Err r → (progress_on image t).sectors < t.count
   stopped_short r is = rw is at counts
 
-  pub ended_whole : (progress_on image t).answer ≡ BlockAnswer.Ended → (progress_on image t).sectors ≡ t.count
+  pub ended_whole : (progress_on image t).answer ≡ Ok tt → (progress_on image t).sectors ≡ t.count
   ended_whole is = rw is at counts

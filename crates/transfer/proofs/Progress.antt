@@ -1,5 +1,6 @@
 -- How far a transfer comes: sectors that are moved are passed over together, and the first that stops it ends it.
 -- Each law goes along the count, which falls as the sector goes up.
+use Rattle.std.proofs.Common.{Err, Ok}
 use Prim.Native.Nat.{ℕ, zero, suc, ◌+◌, ◌-◌, ◌≤◌, ◌<◌}
 use mathlib.Core.Bool.{Bool, true, false, cond}
 use mathlib.Core.Logic.{by_cases}
@@ -7,7 +8,7 @@ use mathlib.Core.Path.{◌≡◌, refl, ◌∙◌}
 use native.Mathlib.Decide.{dec_lt}
 use native.Mathlib.Nat.{add-suc, add-zero, suc-add, zero-add}
 use native.Mathlib.Omega.{arith}
-use Rattle.answers.specs.declared.BlockAnswer.{BlockAnswer}
+use Rattle.answers.specs.Numbers.{BlockAnswer}
 use Rattle.transfer.specs.Runs.{stopped}
 use Rattle.transfer.specs.Progress.{Progress, progress}
 
@@ -62,8 +63,8 @@ progress_shift stops j k (suc n) = by_value (stops (j + k)) (rw add-suc at (prog
 
 -- Sectors that are all moved lead on; what stops them stops the whole.
 abbrev pub leads_on : BlockAnswer → Progress → Progress → Progress
-leads_on BlockAnswer.Ended p rest = rest
-leads_on (BlockAnswer.Failed r) p rest = p
+leads_on (Ok _) p rest = rest
+leads_on (Err r) p rest = p
 
 pub progress_then :
     (stops : ℕ → Bool) (j n m : ℕ) →
@@ -84,8 +85,8 @@ progress_then stops j (suc n) m =
 
 -- Sectors that came to their end are all moved, and those that were stopped are not.
 abbrev pub Counts : BlockAnswer → ℕ → ℕ → Type 0
-Counts BlockAnswer.Ended moved all = moved ≡ all
-Counts (BlockAnswer.Failed r) moved all = moved < all
+Counts (Ok _) moved all = moved ≡ all
+Counts (Err r) moved all = moved < all
 
 pub progress_counts :
     (stops : ℕ → Bool) (j n : ℕ) → (j ≤ (progress stops j n).sectors) × Counts (progress stops j n).answer (progress stops j n).sectors (j + n)
@@ -108,8 +109,8 @@ pub progress_most : (stops : ℕ → Bool) (j n : ℕ) → (progress stops j n).
 progress_most stops j n = by_answer (progress stops j n).answer (progress_counts stops j n).1
   where
     by_answer : (x : BlockAnswer) → Counts x (progress stops j n).sectors (j + n) → (progress stops j n).sectors ≤ j + n
-    by_answer BlockAnswer.Ended is = omega arith
-    by_answer (BlockAnswer.Failed r) is = omega arith
+    by_answer (Ok _) is = omega arith
+    by_answer (Err r) is = omega arith
 
 -- Every sector that was moved is one that no stop met.
 pub progress_moved :
@@ -137,6 +138,6 @@ stops_at_lem stops j r n less all is =
 
 pub all_move :
     (stops : ℕ → Bool) (j n : ℕ) → ((i : ℕ) → i < n → stops (j + i) ≡ false) →
-    progress stops j n ≡ record { sectors = j + n; answer = BlockAnswer.Ended }
+    progress stops j n ≡ record { sectors = j + n; answer = Ok tt }
 unfolding progress
 all_move stops j n all = rw add-zero at (progress_passes stops n j 0 all)

@@ -1,5 +1,6 @@
 -- Sectors in a row on the drive, on an image that has all its marks: the marks alone say how far a row comes.
 -- The marks of a row stand in a row too.
+use Rattle.std.proofs.Common.{Ok}
 use Prim.Native.Nat.{ℕ, ◌+◌, ◌≤◌, ◌<◌}
 use mathlib.Core.Bool.{Bool, true, false, not, ◌&&◌}
 use mathlib.Core.List.{List}
@@ -11,7 +12,6 @@ use native.Mathlib.Omega.{arith}
 use borrow.Author.Tests.{ne_eqb}
 use lib.Dec.{eqb}
 use lib.ListN.{get_or}
-use Rattle.answers.specs.declared.BlockAnswer.{BlockAnswer}
 use Rattle.geometry.specs.declared.Geometry.{Geometry}
 use Rattle.geometry.specs.Sectors.{mark_byte}
 use Rattle.geometry.proofs.Laws.{marks_consecutive}
@@ -24,7 +24,7 @@ module _ (good n : ℕ) where
   pub unreadable_of : good < n → row_of good n ≡ stopped good
   unreadable_of less = if_pos (dec_lt good n) less _ _
 
-  pub whole_of : n ≤ good → row_of good n ≡ record { sectors = n; answer = BlockAnswer.Ended }
+  pub whole_of : n ≤ good → row_of good n ≡ record { sectors = n; answer = Ok tt }
   whole_of whole = if_neg (dec_lt good n) (λ h. omega arith) _ _
 
 module _ (image : List ℕ) (g : Geometry) (heeds : Bool) (place n : ℕ) (mark : ℕ) (mark-is : mark ≡ mark_byte g place) where

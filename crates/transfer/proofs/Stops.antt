@@ -1,5 +1,6 @@
 -- Answer 20 in its case: a transfer that heeds the marks stops before the first of its sectors whose mark is not 0, and where there is none it comes whole.
 -- The sectors before the first such are passed over together; 20 is the one answer that a transfer can be stopped with.
+use Rattle.std.proofs.Common.{Err, Ok}
 use Prim.Native.Nat.{ℕ, zero, suc, ◌+◌, ◌<◌}
 use mathlib.Core.Bool.{Bool, true, false, cond, not, false≢true}
 use mathlib.Core.List.{List}
@@ -11,7 +12,7 @@ use borrow.Author.Tests.{eq-eqb, eqb-false, eqb-true, ne_eqb}
 use lib.Dec.{eqb}
 use lib.ListN.{get_or}
 use Rattle.wire.proofs.Promises.{never}
-use Rattle.answers.specs.declared.BlockAnswer.{BlockAnswer}
+use Rattle.answers.specs.Numbers.{BlockAnswer}
 use Rattle.answers.specs.declared.Refusal.{Refusal}
 use Rattle.geometry.specs.declared.Geometry.{Geometry}
 use Rattle.geometry.specs.Sectors.{mark_byte}
@@ -24,14 +25,14 @@ use Rattle.transfer.proofs.Progress.{progress_counts, progress_moved, stops_at_l
 -- The sector after those that were moved is the one that stopped a transfer, and its answer is 20.
 stopped_there :
     (stops : ℕ → Bool) (j n : ℕ) (r : Refusal) →
-    (progress stops j n).answer ≡ BlockAnswer.Failed r → (stops (progress stops j n).sectors ≡ true) × (r ≡ Refusal.Unreadable)
+    (progress stops j n).answer ≡ Err r → (stops (progress stops j n).sectors ≡ true) × (r ≡ Refusal.Unreadable)
 unfolding progress
 stopped_there stops j zero r is = absurd (never cc)
 stopped_there stops j (suc n) r is = by_value (stops j) refl is (stopped_there stops (suc j) n r)
   where
     by_value :
-        (f : Bool) → stops j ≡ f → (cond f (stopped j) (progress stops (suc j) n)).answer ≡ BlockAnswer.Failed r →
-        ((progress stops (suc j) n).answer ≡ BlockAnswer.Failed r →
+        (f : Bool) → stops j ≡ f → (cond f (stopped j) (progress stops (suc j) n)).answer ≡ Err r →
+        ((progress stops (suc j) n).answer ≡ Err r →
         (stops (progress stops (suc j) n).sectors ≡ true) × (r ≡ Refusal.Unreadable)) →
         (stops (cond f (stopped j) (progress stops (suc j) n)).sectors ≡ true) × (r ≡ Refusal.Unreadable)
     by_value false here is rest = rest is
@@ -65,7 +66,7 @@ module _ (image : List ℕ) (g : Geometry) (place : ℕ) where
 
 -- A transfer that is stopped has 20.
 pub stopped_with :
-    (image : List ℕ) (t : Transfer) (r : Refusal) → (progress_on image t).answer ≡ BlockAnswer.Failed r → r ≡ Refusal.Unreadable
+    (image : List ℕ) (t : Transfer) (r : Refusal) → (progress_on image t).answer ≡ Err r → r ≡ Refusal.Unreadable
 stopped_with image t r is = (stopped_there (λ j. stops_at image t.geometry t.heeds (t.place j)) 0 t.count r is).1
 
 module _ (image : List ℕ) (t : Transfer) where
@@ -82,7 +83,7 @@ module _ (image : List ℕ) (t : Transfer) where
       (rw (zero-add, first.heeds, ne_eqb (mark_of image t j) 0 first.bad) refl))
 
   -- The sector before which a transfer stops is the first unreadable one.
-  pub stopped_before : (progress_on image t).answer ≡ BlockAnswer.Failed Refusal.Unreadable → StopsBefore image t (progress_on image t).sectors
+  pub stopped_before : (progress_on image t).answer ≡ Err Refusal.Unreadable → StopsBefore image t (progress_on image t).sectors
   stopped_before is =
       let s = (progress_on image t).sectors in
       let stop = stops_marked image t.geometry (t.place s) t.heeds (stopped_there stops 0 t.count Refusal.Unreadable is).0 in
@@ -102,15 +103,15 @@ module _ (image : List ℕ) (t : Transfer) where
   whole_where_readable none = by_answer (progress_on image t).answer refl
     where
       by_answer : (x : BlockAnswer) → (progress_on image t).answer ≡ x → progress_on image t ≡ whole t.count
-      by_answer BlockAnswer.Ended is =
+      by_answer (Ok _) is =
           let all : (progress_on image t).sectors ≡ t.count = rw (is, zero-add) at (progress_counts stops 0 t.count).1 in
           λ i. record { sectors = all i; answer = is i }
-      by_answer (BlockAnswer.Failed r) is =
-          let first = stopped_before (is ∙ ap (λ (x : Refusal). BlockAnswer.Failed x) (stopped_with image t r is)) in
+      by_answer (Err r) is =
+          let first = stopped_before (is ∙ ap (λ (x : Refusal). Err x) (stopped_with image t r is)) in
           absurd (none (record { heeds = first.heeds; sector = _; there = first.there; bad = first.bad }))
 
   -- So 20 is the answer exactly where the transfer heeds the marks and one of its sectors is unreadable.
-  pub unreadable_exactly : ((progress_on image t).answer ≡ BlockAnswer.Failed Refusal.Unreadable) ↔ MeetsUnreadable image t
+  pub unreadable_exactly : ((progress_on image t).answer ≡ Err Refusal.Unreadable) ↔ MeetsUnreadable image t
   unreadable_exactly = (
     λ is. let first = stopped_before is in record { heeds = first.heeds; sector = _; there = first.there; bad = first.bad },
     λ meets. by_answer meets (progress_on image t).answer refl,
@@ -118,14 +119,14 @@ module _ (image : List ℕ) (t : Transfer) where
     where
       by_answer :
           MeetsUnreadable image t → (x : BlockAnswer) → (progress_on image t).answer ≡ x →
-          (progress_on image t).answer ≡ BlockAnswer.Failed Refusal.Unreadable
-      by_answer meets BlockAnswer.Ended is =
+          (progress_on image t).answer ≡ Err Refusal.Unreadable
+      by_answer meets (Ok _) is =
           let all : (progress_on image t).sectors ≡ t.count = rw (is, zero-add) at (progress_counts stops 0 t.count).1 in
           absurd
           (meets.bad
           (passes_good image t.geometry (t.place meets.sector)
           (rw meets.heeds at (progress_moved stops 0 t.count meets.sector (omega arith) (omega (arith, all, meets.there))))))
-      by_answer meets (BlockAnswer.Failed r) is = is ∙ ap (λ (x : Refusal). BlockAnswer.Failed x) (stopped_with image t r is)
+      by_answer meets (Err r) is = is ∙ ap (λ (x : Refusal). Err x) (stopped_with image t r is)
 
   -- 82, A2 and 8C "ignore marks": a transfer that does not heed them comes whole.
   pub whole_unheeding : t.heeds ≡ false → progress_on image t ≡ whole t.count

@@ -1,12 +1,12 @@
 -- A survey run by run: what is left to come decides, once all sectors so far are moved.
 -- A run that comes to its end leads on; one that is stopped stops the whole.
+use Rattle.std.proofs.Common.{Err, Ok}
 use Prim.Native.Nat.{ℕ, ◌+◌, ◌-◌, ◌≤◌, ◌<◌}
 use mathlib.Core.Bool.{Bool}
 use mathlib.Core.List.{List}
 use mathlib.Core.Path.{◌≡◌, sym, ap, ◌∙◌}
 use native.Mathlib.Nat.{add_assoc, add-zero, sub-add-eq, sub-zero, zero-add}
 use native.Mathlib.Omega.{arith}
-use Rattle.answers.specs.declared.BlockAnswer.{BlockAnswer}
 use Rattle.answers.specs.declared.Refusal.{Refusal}
 use Rattle.geometry.specs.declared.VolumeNumber.{VolumeNumber}
 use Rattle.unit.specs.Landing.{spot_of}
@@ -56,26 +56,26 @@ module _ (image : List ℕ) (u : UnitRecord) (v : VolumeNumber) (first count : �
 
       -- A run that is stopped: the whole is stopped there.
       pub survey_stopped :
-          (r : Refusal) → m.answer ≡ BlockAnswer.Failed r →
-          record { sectors = done + m.sectors; answer = BlockAnswer.Failed r } ≡
+          (r : Refusal) → m.answer ≡ Err r →
+          record { sectors = done + m.sectors; answer = Err r } ≡
           reached (progress_from image u v heeds first count)
       survey_stopped r stopped = ap reached (sym (rw stopped at onward))
 
       -- A run that came to its end: all of it is moved.
-      every : m.answer ≡ BlockAnswer.Ended → m.sectors ≡ a.run
+      every : m.answer ≡ Ok tt → m.sectors ≡ a.run
       every ended =
           rw (zero-add, a.comes, ended) at (progress_counts (λ j. stops_at image (geometry u) heeds (place_from u v (first + done) j)) 0 a.run).1
 
-      pub survey_grows : m.answer ≡ BlockAnswer.Ended → 0 < m.sectors
+      pub survey_grows : m.answer ≡ Ok tt → 0 < m.sectors
       survey_grows ended = omega (arith, every ended, a.some)
 
-      pub survey_on : m.answer ≡ BlockAnswer.Ended → Surveying (done + m.sectors)
+      pub survey_on : m.answer ≡ Ok tt → Surveying (done + m.sectors)
       survey_on ended = record { most = advanced_most; so_far = rw (every ended, sub-add-eq) (rw ended at onward) }
 
     -- All sectors are moved.
     pub survey_ends :
         count ≤ done →
-        record { sectors = done; answer = BlockAnswer.Ended } ≡ reached (progress_from image u v heeds first count)
+        record { sectors = done; answer = (Ok tt) } ≡ reached (progress_from image u v heeds first count)
     unfolding progress
     survey_ends all =
         let none : count - done ≡ 0 = omega arith in

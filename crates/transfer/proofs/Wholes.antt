@@ -1,6 +1,6 @@
 -- A transfer that fits: the sectors that come have all their bytes in the image, so they may be carried.
 -- Then how far it comes and what is carried are the two halves of its result.
-use Prim.Native.Nat.{ℕ, ◌+◌, ◌*◌, ◌/◌, ◌≤◌, ◌<◌}
+use Prim.Native.Nat.{ℕ, ◌+◌, ◌*◌, ◌/◌, ◌^◌, ◌≤◌, ◌<◌}
 use mathlib.Core.Bool.{Bool}
 use mathlib.Core.List.{List}
 use mathlib.Core.Logic.{by_cases, if_neg, if_pos}
@@ -10,7 +10,7 @@ use native.Mathlib.Nat.{div-lt_iff_lt-mul, mod-lt, mul-le-mul_right, mul-zero, z
 use native.Mathlib.Omega.{arith}
 use lib.ListN.{length}
 use Rattle.geometry.specs.declared.Geometry.{Geometry}
-use Rattle.geometry.specs.Drive.{B, need}
+use Rattle.geometry.specs.Drive.{B, need, volume_sectors}
 use Rattle.geometry.specs.Sectors.{first_byte}
 use Rattle.geometry.proofs.Laws.{sector_in_image}
 use Rattle.unit.proofs.Laws.{spot_inside}
@@ -29,6 +29,13 @@ some_bytes n b k less =
     (λ none.
     let zero : b ≡ 0 = omega arith in
     absurd (omega (arith, ap (λ (x : ℕ). n * x) zero, mul-zero n)))
+
+-- A span that fits has sectors whose numbers can be counted, since its volume's can.
+pub spans_fit :
+    (u : UnitRecord) (s : Span) (lengths addresses : List ℕ) (long image : ℕ) →
+    SectorsFit (geometry u) s lengths addresses long image → volume_sectors (geometry u) s.volume < 2 ^ 64 → Spans u s
+spans_fit u s lengths addresses long image fits small =
+    record { inside = fits.inside; small = omega (arith, fits.inside, small) }
 
 -- Sectors that all lie in the image have all their bytes there.
 pub bytes_held :

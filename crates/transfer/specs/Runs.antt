@@ -1,8 +1,7 @@
 -- Runs of sectors that follow one another in the image, between the code and the definitions of Data.
-use Rattle.std.specs.Prelude.{ℕ, zero, suc, ◌+◌, ◌-◌, ◌*◌, ◌%◌, ◌^◌, ◌≤◌, ◌<◌, Bool, true, false, List, [], ◌≡◌, get_or, length}
+use Rattle.std.specs.Prelude.{ℕ, zero, suc, ◌+◌, ◌-◌, ◌*◌, ◌%◌, ◌^◌, ◌≤◌, ◌<◌, Bool, true, false, List, [], ◌≡◌, get_or, length, Err, Ok}
 use Rattle.std.proofs.Math.Logic.{ite}
 use Rattle.std.proofs.Math.Decide.{dec_lt}
-use Rattle.answers.specs.declared.BlockAnswer.{BlockAnswer}
 use Rattle.answers.specs.declared.Refusal.{Refusal}
 use Rattle.geometry.specs.declared.Geometry.{Geometry}
 use Rattle.geometry.specs.declared.VolumeNumber.{VolumeNumber}
@@ -29,10 +28,10 @@ place_from u v first j = (spot_of u v (first + j)).place
 
 -- A transfer that is whole, so many sectors, and one that was stopped before a sector.
 abbrev pub whole : ℕ → Progress
-whole n = record { sectors = n; answer = BlockAnswer.Ended }
+whole n = record { sectors = n; answer = Ok tt }
 
 abbrev pub stopped : ℕ → Progress
-stopped j = record { sectors = j; answer = BlockAnswer.Failed Refusal.Unreadable }
+stopped j = record { sectors = j; answer = Err Refusal.Unreadable }
 
 -- Sectors that their volume has; their numbers can be counted in 64 bits.
 pub record Spans (u : UnitRecord) (s : Span) : Type 0 where
@@ -52,7 +51,7 @@ in_a_row image g heeds place n = progress (λ j. stops_at image g heeds (place +
 
 -- What n sectors in a row come to, where so many of their marks are good: the next mark stops them, or they come to their end.
 abbrev pub row_of : (good n : ℕ) → Progress
-row_of good n = ite (dec_lt good n) (stopped good) (record { sectors = n; answer = BlockAnswer.Ended })
+row_of good n = ite (dec_lt good n) (stopped good) (record { sectors = n; answer = Ok tt })
 
 -- How far n sectors from a number of a volume on come.
 abbrev pub progress_from : List ℕ → UnitRecord → VolumeNumber → Bool → ℕ → ℕ → Progress

@@ -1,6 +1,6 @@
 -- What a transfer comes to where the request fits, and that one which does not is left alone. A caller that has judged its request
 -- never meets the second; no caller is trusted to have.
-use Rattle.std.specs.Prelude.{ℕ, ◌+◌, ◌*◌, ◌≤◌, ◌<◌, Bool, List, [], get_or, length}
+use Rattle.std.specs.Prelude.{ℕ, ◌+◌, ◌*◌, ◌≤◌, ◌<◌, Bool, List, [], get_or, length, None, Option, Some}
 use Rattle.std.proofs.Math.Logic.{ite}
 use Rattle.std.proofs.Math.Logic.Dec.{and as dec_and}
 use Rattle.std.proofs.Math.Decide.{dec_le, dec_lt, map_dec, ℕ_discrete}
@@ -10,7 +10,6 @@ use Rattle.geometry.specs.Drive.{B, S, drive_sectors, need, volume_sectors}
 use Rattle.unit.specs.declared.Span.{Span}
 use Rattle.unit.specs.declared.Spot.{Spot}
 use Rattle.unit.specs.Standing.{UnitRecord, geometry}
-use Rattle.transfer.specs.declared.Attempt.{Attempt}
 use Rattle.transfer.specs.declared.Moved.{Moved}
 use Rattle.transfer.specs.Data.{Transfer, data_on, formatting, moving, progress_on}
 use Rattle.transfer.specs.Runs.{PiecesFit, piece_byte, sum}
@@ -66,14 +65,14 @@ track_fits? g spot at long image =
 -- The outcome of a call: what is returned, and the stores that were made. Where the request does not fit, that is said, and nothing is stored; which
 -- check refuses it is the judge's to say.
 pub record Result : Type 0 where
-  pub attempt : Attempt
+  pub attempt : Option Moved
   pub stores : List Store
 
 abbrev pub made : List ℕ → Transfer → Result
-made image t = record { attempt = Attempt.Made (moved_on image t); stores = data_on image t }
+made image t = record { attempt = Some (moved_on image t); stores = data_on image t }
 
 abbrev pub misfit : Result
-misfit = record { attempt = Attempt.Misfit; stores = [] }
+misfit = record { attempt = None; stores = [] }
 
 unfoldable pub sectors_result : ℕ → List ℕ → UnitRecord → Span → Bool → Bool → List ℕ → List ℕ → Result
 sectors_result long image u s to_host past_marks lengths addresses =

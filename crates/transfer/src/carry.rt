@@ -4,13 +4,11 @@ ghost use Rattle.geometry.specs.Drive.{B};
 ghost use Rattle.transfer.specs.Runs.{Carried, CarryFits, InImage, On, PiecesFit, Ready, Spans, advanced, behind, fill_store, lent, span_bytes, span_stores};
 ghost use Rattle.transfer.specs.Stores.{after, up_to};
 ghost use Rattle.wire.specs.Copy.{copied};
-ghost use Rattle.unit.specs.Standing.{geometry, unit_of};
-ghost use Rattle.unit.specs.Made.{bare};
+ghost use Rattle.unit.specs.Standing.{geometry};
 
 use crate::reach::run_at;
 use geometry::Sector;
-use unit::{Record, Span};
-use wire::lesser;
+use unit::{Span, Unit};
 
 // Where a transfer stands on the disk: the image's byte, how many bytes follow in a row, and the sectors done with them.
 #[derive(Clone, Copy)]
@@ -34,24 +32,14 @@ fn copy_run(host: &mut [u8], h: usize, image: &mut [u8], d: usize, n: usize, to_
 }
 
 // The cursor of the run that follows, of the span's sectors.
-fn next_run(u: Record, table: &[u32; 64], span: Span, next: u16) -> Cursor
-    requires { (next < span.count) × ((0 < B (geometry (bare u))) × Spans (unit_of u table.now) span) }
-    ensures { Ready (unit_of u table.now) span (next * B (geometry (bare u))) result }
+fn next_run(u: &Unit, span: Span, next: u16) -> Cursor
+    requires { (next < span.count) × ((0 < B (geometry u.now)) × Spans u.now span) }
+    ensures { Ready u.now span (next * B (geometry u.now)) result }
 {
     let volume = span.volume;
-    let run = run_at(
-        u,
-        table,
-        volume,
-        span.first + (next as u64),
-        span.count - next,
-    );
-    let Sector::At { first, mark: _ } = u.geometry().sector(run.place) else {
-        return Cursor {
-            at: 0,
-            left: 0,
-            next: 0,
-        };
+    let run = run_at(u, volume, span.first + (next as u64), span.count - next);
+    let Some(Sector { first, .. }) = u.geometry().sector(run.place) else {
+        unreachable!();
     };
     Cursor {
         at: first,
@@ -61,15 +49,15 @@ fn next_run(u: Record, table: &[u32; 64], span: Span, next: u16) -> Cursor
 }
 
 // The cursor itself while it has bytes left, and then the next run's.
-fn ready(u: Record, table: &[u32; 64], span: Span, c: Cursor) -> Cursor
-    requires { Spans (unit_of u table.now) span × (On (unit_of u table.now) span (behind (bare u) c) c ×
-        (behind (bare u) c < span.count * B (geometry (bare u)))) }
-    ensures { Ready (unit_of u table.now) span (behind (bare u) c) result }
+fn ready(u: &Unit, span: Span, c: Cursor) -> Cursor
+    requires { Spans u.now span × (On u.now span (behind u.now c) c ×
+        (behind u.now c < span.count * B (geometry u.now))) }
+    ensures { Ready u.now span (behind u.now c) result }
 {
     if 0 < c.left {
         return c;
     }
-    next_run(u, table, span, c.next)
+    next_run(u, span, c.next)
 }
 
 impl Cursor {
@@ -90,24 +78,23 @@ impl Cursor {
 fn carry_piece(
     host: &mut [u8],
     image: &mut [u8],
-    u: Record,
-    table: &[u32; 64],
+    u: &Unit,
     span: Span,
     to_host: bool,
     from: Cursor,
     at: usize,
     n: usize,
 ) -> Cursor
-    requires { CarryFits (unit_of u table.now) span from at n host.old image.old }
+    requires { CarryFits u.now span from at n host.old image.old }
     ensures { let before = lent host.old image.old in
         let after = lent host.new image.new in
-        Carried (unit_of u table.now) span to_host (behind (bare u) from) at n before after result }
+        Carried u.now span to_host (behind u.now from) at n before after result }
 {
     let mut c = from;
     let mut done = 0;
     while done < n {
-        let r = ready(u, table, span, c);
-        let bytes = lesser(r.left, (n - done) as u64);
+        let r = ready(u, span, c);
+        let bytes = r.left.min((n - done) as u64);
         copy_run(
             host,
             at + done,
@@ -123,28 +110,27 @@ fn carry_piece(
 }
 
 // The bytes of a span's sectors.
-pub(crate) fn span_bytes(u: Record, span: Span) -> u64
-    ensures { result ≡ span_bytes (bare u) span }
+pub(crate) fn span_bytes(u: &Unit, span: Span) -> u64
+    ensures { result ≡ span_bytes u.now span }
 {
-    (span.count as u64) * (u.geometry().bytes_a_sector() as u64)
+    u64::from(span.count) * u64::from(u.geometry().bytes_a_sector())
 }
 
 // All bytes of a span, piece after piece.
 pub(crate) fn carry(
     host: &mut [u8],
     image: &mut [u8],
-    u: Record,
-    table: &[u32; 64],
+    u: &Unit,
     span: Span,
     to_host: bool,
     lengths: &[u32],
     addresses: &[u32],
 )
-    requires { Spans (unit_of u table.now) span × (InImage (unit_of u table.now) span (length image.old) × PiecesFit (length host.old)
-        (span_bytes (bare u) span) lengths.now addresses.now) }
+    requires { Spans u.now span × (InImage u.now span (length image.old) × PiecesFit (length host.old)
+        (span_bytes u.now span) lengths.now addresses.now) }
     ensures { let before = lent host.old image.old in
-        lent host.new image.new ≡ after (up_to (span_bytes (bare u) span)
-        (span_stores (unit_of u table.now) span to_host lengths.now addresses.now)) before }
+        lent host.new image.new ≡ after (up_to (span_bytes u.now span)
+        (span_stores u.now span to_host lengths.now addresses.now)) before }
 {
     let all = span_bytes(u, span);
     let mut c = Cursor {
@@ -153,13 +139,14 @@ pub(crate) fn carry(
         next: 0,
     };
     let mut done = 0;
-    let mut i = 0;
-    while done < all {
-        let n = lesser(lengths[i] as u64, all - done);
-        let at = addresses[i] as usize;
-        c = carry_piece(host, image, u, table, span, to_host, c, at, n as usize);
+    for (bytes, at) in lengths.iter().zip(addresses) {
+        if done == all {
+            break;
+        }
+        let n = u64::from(*bytes).min(all - done);
+        let at = *at as usize;
+        c = carry_piece(host, image, u, span, to_host, c, at, n as usize);
         done += n;
-        i += 1;
     }
 }
 
@@ -169,11 +156,7 @@ pub(crate) fn fill(host: &[u8], at: usize, image: &mut [u8], first: usize, bytes
     ensures { let before = lent host.now image.old in
         lent host.now image.new ≡ after (up_to (n * bytes) (fill_store first at bytes)) before }
 {
-    let mut to = first;
-    let mut i = 0;
-    while i < n {
-        wire::copy(host, at, image, to, bytes);
-        to += bytes;
-        i += 1;
+    for i in 0..n {
+        wire::copy(host, at, image, first + i * bytes, bytes);
     }
 }

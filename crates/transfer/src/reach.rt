@@ -2,14 +2,12 @@
 ghost use Rattle.std.specs.Prelude.{◌≡◌, ◌+◌, ◌≤◌, ◌<◌, length};
 ghost use Rattle.geometry.specs.Drive.{drive_sectors, need, volume_sectors};
 ghost use Rattle.transfer.specs.Runs.{Advanced, Readable, RunAt, Spans, in_a_row, progress_from, reached, row_of};
-ghost use Rattle.unit.specs.Standing.{geometry, unit_of};
-ghost use Rattle.unit.specs.Made.{bare};
+ghost use Rattle.unit.specs.Standing.{geometry};
 
 use crate::Moved;
-use answers::{BlockAnswer, Refusal};
+use answers::Refusal;
 use geometry::{Geometry, Sector, VolumeNumber};
-use unit::{Landing, Record, Span};
-use wire::lesser;
+use unit::{Span, Unit};
 
 // A run of sectors that follow one another in the image.
 #[derive(Clone, Copy)]
@@ -19,19 +17,16 @@ pub(crate) struct Run {
 }
 
 // The run from a number on, of the sectors asked for at most.
-pub(crate) fn run_at(u: Record, table: &[u32; 64], v: VolumeNumber, number: u64, most: u16) -> Run
-    requires { (number < volume_sectors (geometry (bare u)) v) × (0 < most) }
-    ensures { RunAt (unit_of u table.now) v number most result }
+pub(crate) fn run_at(u: &Unit, v: VolumeNumber, number: u64, most: u16) -> Run
+    requires { (number < volume_sectors (geometry u.now) v) × (0 < most) }
+    ensures { RunAt u.now v number most result }
 {
-    let Landing::At(spot) = u.land(table, v, number) else {
-        return Run {
-            place: 0,
-            sectors: 1,
-        };
+    let Some(spot) = u.land(v, number) else {
+        unreachable!();
     };
     Run {
         place: spot.place,
-        sectors: lesser(spot.rest as u64, most as u64) as u16,
+        sectors: spot.rest.min(most),
     }
 }
 
@@ -43,14 +38,10 @@ fn readable(image: &[u8], at: usize, n: usize, heeds: bool) -> usize
     if !heeds {
         return n;
     }
-    let mut i = 0;
-    while i < n {
-        if image[at + i] != 0 {
-            return i;
-        }
-        i += 1;
-    }
-    n
+    image[at..at + n]
+        .iter()
+        .position(|mark| *mark != 0)
+        .unwrap_or(n)
 }
 
 // What n sectors in a row come to, where so many of their marks let a transfer pass.
@@ -60,12 +51,12 @@ fn came(good: u16, n: u16) -> Moved
     if good < n {
         return Moved {
             sectors: good,
-            answer: BlockAnswer::Failed(Refusal::Unreadable),
+            answer: Err(Refusal::Unreadable),
         };
     }
     Moved {
         sectors: n,
-        answer: BlockAnswer::Ended,
+        answer: Ok(()),
     }
 }
 
@@ -74,37 +65,26 @@ pub(crate) fn reach(image: &[u8], g: Geometry, heeds: bool, place: u64, n: u16) 
     requires { (0 < n) × ((place + n ≤ drive_sectors g) × (need g ≤ length image.now)) }
     ensures { result ≡ reached (in_a_row image.now g heeds place n) }
 {
-    let Sector::At { first: _, mark } = g.sector(place) else {
-        return Moved {
-            sectors: 0,
-            answer: BlockAnswer::Ended,
-        };
+    let Some(Sector { mark, .. }) = g.sector(place) else {
+        unreachable!();
     };
     let good = readable(image, mark as usize, n as usize, heeds) as u16;
     came(good, n)
 }
 
 // How far the run from a number on comes.
-fn advance(
-    image: &[u8],
-    u: Record,
-    table: &[u32; 64],
-    v: VolumeNumber,
-    number: u64,
-    most: u16,
-    heeds: bool,
-) -> Moved
-    requires { (0 < most) × ((number + most ≤ volume_sectors (geometry (bare u)) v) × (need (geometry (bare u)) ≤ length image.now)) }
-    ensures { Advanced image.now (unit_of u table.now) v number most heeds result }
+fn advance(image: &[u8], u: &Unit, v: VolumeNumber, number: u64, most: u16, heeds: bool) -> Moved
+    requires { (0 < most) × ((number + most ≤ volume_sectors (geometry u.now) v) × (need (geometry u.now) ≤ length image.now)) }
+    ensures { Advanced image.now u.now v number most heeds result }
 {
-    let run = run_at(u, table, v, number, most);
+    let run = run_at(u, v, number, most);
     reach(image, u.geometry(), heeds, run.place, run.sectors)
 }
 
 // How far a span comes, run after run until one is stopped.
-pub(crate) fn survey(image: &[u8], u: Record, table: &[u32; 64], span: Span, heeds: bool) -> Moved
-    requires { Spans (unit_of u table.now) span × (need (geometry (bare u)) ≤ length image.now) }
-    ensures { result ≡ reached (progress_from image.now (unit_of u table.now) span.volume heeds span.first
+pub(crate) fn survey(image: &[u8], u: &Unit, span: Span, heeds: bool) -> Moved
+    requires { Spans u.now span × (need (geometry u.now) ≤ length image.now) }
+    ensures { result ≡ reached (progress_from image.now u.now span.volume heeds span.first
         span.count) }
 {
     let volume = span.volume;
@@ -113,23 +93,22 @@ pub(crate) fn survey(image: &[u8], u: Record, table: &[u32; 64], span: Span, hee
         let m = advance(
             image,
             u,
-            table,
             volume,
-            span.first + (done as u64),
+            span.first + u64::from(done),
             span.count - done,
             heeds,
         );
         let answer = m.answer;
         done += m.sectors;
-        if let BlockAnswer::Failed(refusal) = answer {
+        if let Err(refusal) = answer {
             return Moved {
                 sectors: done,
-                answer: BlockAnswer::Failed(refusal),
+                answer: Err(refusal),
             };
         }
     }
     Moved {
         sectors: done,
-        answer: BlockAnswer::Ended,
+        answer: Ok(()),
     }
 }

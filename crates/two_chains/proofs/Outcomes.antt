@@ -1,5 +1,4 @@
--- The promise of this crate leaves one outcome: what both chains came to, the records, and every byte of the six buffers and every track of the two
--- tables.
+-- The promise of this crate leaves one outcome: what both chains came to, the two units, and every byte of the six buffers.
 -- It is an equation with a definition, so two outcomes are equal to the same thing.
 use mathlib.Core.Path.{◌∙◌, sym}
 use Rattle.wire.specs.Promise.{OneOutcome}
@@ -10,5 +9,5 @@ run_both_once :
     OneOutcome run-both.Post
     (λ κ x e.
     ran_both_of x
-    (both_of e.0.now e.1.0.now e.1.1.0.now e.1.1.1.0.now e.1.1.1.1.0.now e.1.1.1.1.1.0.now e.1.1.1.1.1.1.0.now e.1.1.1.1.1.1.1.0.now x.units))
+    (both_of e.0.now e.1.0.now e.1.1.0.now e.1.1.1.0.now e.1.1.1.1.0.now e.1.1.1.1.1.0.now e.1.1.1.1.1.1.0.now))
 run_both_once κ a x y e f p q = p ∙ sym q

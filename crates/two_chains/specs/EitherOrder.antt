@@ -1,7 +1,7 @@
 -- Demand 3 of what runs (00; 02, K10): said of a promise as the source states it (wire, Promise), whatever program meets it. `given` says what its
 -- arguments ask for and lend, `seen` what a caller sees of an outcome.
 use Rattle.std.specs.Prelude.{ℕ, ◌≡◌}
-use Rattle.board.specs.declared.chain.End.{End}
+use Rattle.board.specs.declared.chain.Outcome.{Outcome}
 use Rattle.board.specs.World.{World}
 use Rattle.independence.specs.Chains.{Both, Chain, First, Second, Which, leaving, world_for}
 use Rattle.independence.specs.Demand3.{Independent}
@@ -38,7 +38,7 @@ pub record RunAsked : Type 0 where
 
 -- What a caller sees: what the chain came to, and the world that is left.
 pub record RunSeen : Type 0 where
-  pub came : End
+  pub came : Outcome
   pub left : World
 
 -- A chain, as one of two, asks to be run on what it finds; and all that is there once its call has left its world.

@@ -1,9 +1,7 @@
 -- Two chains run one after the other, in each order, as the code hands them back.
 use Rattle.std.specs.Prelude.{ℕ, List, ◌≡◌}
-use Rattle.board.specs.declared.chain.End.{End}
-use Rattle.unit.specs.Standing.{unit_of}
-use Rattle.board.specs.declared.Units.{Units}
 use Rattle.board.specs.declared.chain.Outcome.{Outcome}
+use Rattle.board.specs.declared.Units.{Units}
 use Rattle.two_chains.specs.declared.Chain.{Chain as Asked}
 use Rattle.two_chains.specs.declared.Order.{Order}
 use Rattle.two_chains.specs.declared.Order.TheVariants.{FirstThenSecond, SecondThenFirst}
@@ -11,13 +9,13 @@ use Rattle.two_chains.specs.declared.Twice.{Twice}
 use Rattle.independence.specs.Chains.{Both, Chain, First, Second, Which, run_of}
 
 -- What a caller lends: the memory of each controller, the two drives that they share, and an event buffer for each chain.
-abbrev pub both_of : (host1 host2 image0 image1 events1 events2 tracks0 tracks1 : List ℕ) → Units → Both
-both_of host1 host2 image0 image1 events1 events2 tracks0 tracks1 units =
+abbrev pub both_of : (host1 host2 image0 image1 events1 events2 : List ℕ) → Units → Both
+both_of host1 host2 image0 image1 events1 events2 units =
     record {
       host1 = host1;
       host2 = host2;
-      drive0 = record { unit = unit_of units.zero tracks0; image = image0 };
-      drive1 = record { unit = unit_of units.one tracks1; image = image1 };
+      drive0 = record { unit = units.zero; image = image0 };
+      drive1 = record { unit = units.one; image = image1 };
       events1 = events1;
       events2 = events2;
     }
@@ -27,8 +25,8 @@ chain_of k = record { controller = k.controller; first = k.first; allowance = k.
 
 -- What the first chain came to, what the second came to, and all that is left.
 pub record RanBoth : Type 0 where
-  pub first : End
-  pub second : End
+  pub first : Outcome
+  pub second : Outcome
   pub left : Both
 
 abbrev pub ran_both_of : Twice → Both → RanBoth
@@ -47,22 +45,18 @@ ran_both SecondThenFirst one two s =
 -- ---- one of the two
 
 -- What is lent to one of two chains, whichever it is, and beside it the event buffer of the other.
-abbrev pub lent_to : (host1 host2 image0 image1 events tracks0 tracks1 : List ℕ) → Units → Which → (other : List ℕ) → Both
-lent_to host1 host2 image0 image1 events tracks0 tracks1 units First other =
-    both_of host1 host2 image0 image1 events other tracks0 tracks1 units
-lent_to host1 host2 image0 image1 events tracks0 tracks1 units Second other =
-    both_of host1 host2 image0 image1 other events tracks0 tracks1 units
-
--- How a run ended, without the records that it left.
-abbrev pub end_in : Outcome → End
-end_in o = record { answer = o.answer; failed = o.failed; blocks = o.blocks; sectors = o.sectors }
+abbrev pub lent_to : (host1 host2 image0 image1 events : List ℕ) → Units → Which → (other : List ℕ) → Both
+lent_to host1 host2 image0 image1 events units First other =
+    both_of host1 host2 image0 image1 events other units
+lent_to host1 host2 image0 image1 events units Second other =
+    both_of host1 host2 image0 image1 other events units
 
 pub record RanOne : Type 0 where
-  pub came : End
+  pub came : Outcome
   pub left : Both
 
 abbrev pub ran_one_of : Outcome → Both → RanOne
-ran_one_of r s = record { came = end_in r; left = s }
+ran_one_of r s = record { came = r; left = s }
 
 abbrev pub ran_one : Which → Chain → Both → RanOne
 ran_one t k s = record { came = (run_of t k).out s; left = (run_of t k).left s }

@@ -5,9 +5,9 @@
 
 ghost use Rattle.std.specs.Prelude.{◌≡◌};
 ghost use Rattle.two_chains.specs.declared.Order.{Order};
-ghost use Rattle.two_chains.specs.Orders.{IsRunOf, both_of, chain_of, end_in, lent_to, ran_both, ran_both_of};
+ghost use Rattle.two_chains.specs.Orders.{IsRunOf, both_of, chain_of, lent_to, ran_both, ran_both_of};
 
-use board::{End, Outcome, Units};
+use board::{Outcome, Units};
 use unit::Controller;
 
 // A chain as it is asked for: which controller runs it, from which block on, and how many blocks it may fetch.
@@ -25,25 +25,11 @@ pub enum Order {
     SecondThenFirst,
 }
 
-// What two chains came to, and the records that they left.
+// What two chains came to.
 #[derive(Clone, Copy)]
 pub struct Twice {
-    pub first: End,
-    pub second: End,
-    pub units: Units,
-}
-
-// How a chain ended, its units aside.
-fn end_of(o: Outcome) -> End
-    ensures { result ≡ end_in o }
-{
-    let answer = o.answer;
-    End {
-        answer,
-        failed: o.failed,
-        blocks: o.blocks,
-        sectors: o.sectors,
-    }
+    pub first: Outcome,
+    pub second: Outcome,
 }
 
 // One of two chains, on the memory of the controller that runs it. The other memory is left as it is.
@@ -53,42 +39,24 @@ fn run_on_its_own(
     image0: &mut [u8],
     image1: &mut [u8],
     events: &mut [u8],
-    map0: &mut [u32; 64],
-    map1: &mut [u32; 64],
-    units: Units,
+    units: &mut Units,
     k: Chain,
 ) -> Outcome
-    ensures { let before = lent_to host1.old host2.old image0.old image1.old events.old
-        map0.old map1.old units in
-        let after = lent_to host1.new host2.new image0.new image1.new events.new
-        map0.new map1.new result.units in
+    ensures { let before = lent_to host1.old host2.old image0.old image1.old events.old units.old in
+        let after = lent_to host1.new host2.new image0.new image1.new events.new units.new in
         IsRunOf (chain_of k) before after result }
 {
-    let c = k.controller;
-    match c {
+    let Chain {
+        controller,
+        first,
+        allowance,
+    } = k;
+    match controller {
         Controller::First => board::run(
-            host1,
-            image0,
-            image1,
-            events,
-            map0,
-            map1,
-            units,
-            Controller::First,
-            k.first,
-            k.allowance,
+            host1, image0, image1, events, units, controller, first, allowance,
         ),
         Controller::Second => board::run(
-            host2,
-            image0,
-            image1,
-            events,
-            map0,
-            map1,
-            units,
-            Controller::Second,
-            k.first,
-            k.allowance,
+            host2, image0, image1, events, units, controller, first, allowance,
         ),
     }
 }
@@ -101,31 +69,19 @@ fn in_turn(
     image1: &mut [u8],
     events1: &mut [u8],
     events2: &mut [u8],
-    map0: &mut [u32; 64],
-    map1: &mut [u32; 64],
-    units: Units,
+    units: &mut Units,
     one: Chain,
     two: Chain,
 ) -> Twice
     ensures { let before = both_of host1.old host2.old image0.old image1.old events1.old
-        events2.old map0.old map1.old units in
+        events2.old units.old in
         let after = both_of host1.new host2.new image0.new image1.new events1.new
-        events2.new map0.new map1.new result.units in
+        events2.new units.new in
         ran_both_of result after ≡ ran_both Order.FirstThenSecond (chain_of one) (chain_of two) before }
 {
-    let first = run_on_its_own(
-        host1, host2, image0, image1, events1, map0, map1, units, one,
-    );
-    let between = first.units;
-    let second = run_on_its_own(
-        host1, host2, image0, image1, events2, map0, map1, between, two,
-    );
-    let after = second.units;
-    Twice {
-        first: end_of(first),
-        second: end_of(second),
-        units: after,
-    }
+    let first = run_on_its_own(host1, host2, image0, image1, events1, units, one);
+    let second = run_on_its_own(host1, host2, image0, image1, events2, units, two);
+    Twice { first, second }
 }
 
 // Runs two chains one after the other, each by its controller on that one's memory and with an event buffer of its own.
@@ -136,34 +92,28 @@ pub fn run_both(
     image1: &mut [u8],
     events1: &mut [u8],
     events2: &mut [u8],
-    map0: &mut [u32; 64],
-    map1: &mut [u32; 64],
-    units: Units,
+    units: &mut Units,
     order: Order,
     one: Chain,
     two: Chain,
 ) -> Twice
     ensures { let before = both_of host1.old host2.old image0.old image1.old events1.old
-        events2.old map0.old map1.old units in
+        events2.old units.old in
         let after = both_of host1.new host2.new image0.new image1.new events1.new
-        events2.new map0.new map1.new result.units in
+        events2.new units.new in
         ran_both_of result after ≡ ran_both order (chain_of one) (chain_of two) before }
 {
     match order {
         Order::FirstThenSecond => in_turn(
-            host1, host2, image0, image1, events1, events2, map0, map1, units, one, two,
+            host1, host2, image0, image1, events1, events2, units, one, two,
         ),
         Order::SecondThenFirst => {
             let exchanged = in_turn(
-                host1, host2, image0, image1, events2, events1, map0, map1, units, two, one,
+                host1, host2, image0, image1, events2, events1, units, two, one,
             );
-            let first = exchanged.second;
-            let second = exchanged.first;
-            let units = exchanged.units;
             Twice {
-                first,
-                second,
-                units,
+                first: exchanged.second,
+                second: exchanged.first,
             }
         }
     }

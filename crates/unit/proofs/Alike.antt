@@ -1,5 +1,7 @@
 -- Two units that differ in their tables past the pairs that count alone are alike: both count as initialized or neither does, and everything lands alike.
 -- What serves a track is the same in both tables, and the rest is the record by value.
+use Rattle.spares.specs.declared.Track.{Track}
+use Rattle.std.proofs.Common.{Option}
 use Prim.Native.Nat.{ℕ}
 use mathlib.Core.List.{List}
 use mathlib.Core.Path.{◌≡◌, sym, ap, ◌∙◌}
@@ -7,7 +9,6 @@ use lib.ListN.{length}
 use Rattle.geometry.specs.declared.Address.{Address}
 use Rattle.geometry.specs.declared.VolumeNumber.{VolumeNumber}
 use Rattle.geometry.specs.Sectors.{address, address_of}
-use Rattle.spares.specs.declared.Served.{Served}
 use Rattle.spares.specs.Lands.{counted}
 use Rattle.spares.proofs.Alike.{good_alike, served_alike}
 use Rattle.unit.specs.declared.Record.{Record}
@@ -19,7 +20,7 @@ module _ (r : Record) (ts us : List ℕ) (same : counted r.pairs ts ≡ counted 
   pub landed_alike : (a : Address) → landed (unit_of r ts) a ≡ landed (unit_of r us) a
   landed_alike a =
       landed_is (unit_of r ts) a
-      ∙ ap (λ (s : Served). onto s a) (served_alike r.pairs ts us same r.geometry a.cylinder a.head)
+      ∙ ap (λ (s : Option Track). onto s a) (served_alike r.pairs ts us same r.geometry a.cylinder a.head)
       ∙ sym (landed_is (unit_of r us) a)
 
   pub spot_alike : (v : VolumeNumber) (n : ℕ) → spot_of (unit_of r ts) v n ≡ spot_of (unit_of r us) v n

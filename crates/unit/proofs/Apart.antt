@@ -1,6 +1,7 @@
 -- On a unit that counts as initialized nothing lands on a bad track, and two different addresses reach one sector only where one is on a spare and the
 -- other on the bad track that it serves, at the same sector (02, K7). Different addresses have different places, and in a good table no track stands
 -- twice.
+use Rattle.std.proofs.Common.{None, Option, Some}
 use Prim.Native.Nat.{ℕ, ◌+◌, ◌*◌, ◌<◌}
 use mathlib.Core.Logic.{◌↔◌, ◌⊎◌, if_pos, inl, inr}
 use mathlib.Core.Path.{◌≡◌, refl, sym, ap, subst, ◌∙◌}
@@ -17,8 +18,6 @@ use Rattle.geometry.specs.Sectors.{OnDrive, address, address_of, mark_byte, plac
 use Rattle.geometry.specs.SectorBytes.SectorByte.{mark_at}
 use Rattle.geometry.proofs.Ends.{heads_of_within}
 use Rattle.geometry.proofs.Laws as geometry
-use Rattle.spares.specs.declared.Served.{Served}
-use Rattle.spares.specs.declared.Served.TheVariants.{Itself, By}
 use Rattle.spares.specs.declared.Track.{Track}
 use Rattle.spares.specs.Table.{bad_of, served_at, spare_of}
 use Rattle.spares.specs.Tracks.{TrackOn, stands_for, track_number}
@@ -80,11 +79,11 @@ module _ (u : UnitRecord) (counts : CountsAsInitialized u) where
   lands_by_number : (a : Address) → OnDrive g a → lands_on g (pairs u) (table u) (named a) ≡ named (landed u a)
   lands_by_number a on =
       by_served (served g (pairs u) (table u) (named a))
-      ∙ ap named (sym (landed_is u a ∙ ap (λ (x : Served). onto x a) (by_its_number a on)))
+      ∙ ap named (sym (landed_is u a ∙ ap (λ (x : Option Track). onto x a) (by_its_number a on)))
     where
-      by_served : (x : Served) → number_serving (named a) x ≡ named (onto x a)
-      by_served Itself = refl
-      by_served (By k) = refl
+      by_served : (x : Option Track) → number_serving (named a) x ≡ named (onto x a)
+      by_served None = refl
+      by_served (Some k) = refl
 
   landed_inside : (a : Address) → OnDrive g a → place_of g (landed u a) < drive_sectors g
   landed_inside a on = geometry.place_inside g (landed u a) (landed_on_drive u a on)
@@ -99,9 +98,9 @@ module _ (u : UnitRecord) (counts : CountsAsInitialized u) where
       let i = is.pair in
       let its = is_named a (2 * i) (omega (arith, is.counts)) is.its_bad in
       landed_is u a
-      ∙ ap (λ (x : Served). onto x a)
+      ∙ ap (λ (x : Option Track). onto x a)
       (by_its_number a on ∙ ap (served g (pairs u) (table u)) (sym its) ∙ served_by_its_spare g (pairs u) (table u) counts.good i is.counts
-      ∙ ap Served.By is.its_spare)
+      ∙ ap Some is.its_spare)
 
   -- One on any other track lands where it says,
   pub others_land_where_they_say : (a : Address) → OnDrive g a → (Bad u (track_named a) → ⊥) → landed u a ≡ a

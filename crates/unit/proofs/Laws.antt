@@ -1,5 +1,7 @@
 -- Where requests land, as the crates above may know it: inside the drive, and a track in one run.
 -- Each is the geometry's law of the same name, of the address on the track that serves the one named.
+use Rattle.spares.specs.declared.Track.{Track}
+use Rattle.std.proofs.Common.{None, Option, Some}
 use Prim.Native.Nat.{ℕ, ◌+◌, ◌-◌, ◌≤◌, ◌<◌, min}
 use mathlib.Core.Path.{◌≡◌, refl, sym, ap, ◌∙◌}
 use native.Mathlib.Nat.{sub-zero}
@@ -10,8 +12,6 @@ use Rattle.geometry.specs.declared.VolumeNumber.{VolumeNumber}
 use Rattle.geometry.specs.Drive.{C, S, drive_sectors, volume_sectors}
 use Rattle.geometry.specs.Sectors.{OnDrive, address, address_of, place_of}
 use Rattle.geometry.proofs.Laws as geometry
-use Rattle.spares.specs.declared.Served.{Served}
-use Rattle.spares.specs.declared.Served.TheVariants.{Itself, By}
 use Rattle.spares.specs.Table.{bad_of, served_at}
 use Rattle.spares.specs.Tracks.{track_number}
 use Rattle.spares.proofs.Laws.{itself_at, server_at_on_drive, serves_itself}
@@ -42,7 +42,7 @@ module _ (u : UnitRecord) where
   abbrev shape : Geometry
   shape = standing.geometry u
 
-  abbrev serving : ℕ → ℕ → Served
+  abbrev serving : ℕ → ℕ → Option Track
   serving c h = served_at shape (pairs u) (table u) c h
 
   -- An address whose track no pair has as bad lands where it says,
@@ -51,7 +51,7 @@ module _ (u : UnitRecord) where
   lands_where_it_says a none =
       let t = track_number a.cylinder a.head in
       landed_is u a
-      ∙ ap (λ (x : Served). onto x a)
+      ∙ ap (λ (x : Option Track). onto x a)
       (itself_at shape (pairs u) (table u) a.cylinder a.head (serves_itself shape (pairs u) (table u) t none))
 
   -- and so does every one where no pair counts.
@@ -61,9 +61,9 @@ module _ (u : UnitRecord) where
   pub landed_on_drive : (a : Address) → OnDrive shape a → OnDrive shape (landed u a)
   landed_on_drive a on = rw landed_is (by_served (serving a.cylinder a.head) refl)
     where
-      by_served : (s : Served) → serving a.cylinder a.head ≡ s → OnDrive shape (onto s a)
-      by_served Itself is = on
-      by_served (By k) is =
+      by_served : (s : Option Track) → serving a.cylinder a.head ≡ s → OnDrive shape (onto s a)
+      by_served None is = on
+      by_served (Some k) is =
           let its = server_at_on_drive shape (pairs u) (table u) a.cylinder a.head k is in
           record { cylinder = its.0; head = its.1; sector = on.sector }
 
@@ -74,18 +74,18 @@ module _ (u : UnitRecord) where
   pub landed_sector : (a : Address) → (landed u a).sector ≡ a.sector
   landed_sector a = rw landed_is (by_served (serving a.cylinder a.head))
     where
-      by_served : (s : Served) → (onto s a).sector ≡ a.sector
-      by_served Itself = refl
-      by_served (By k) = refl
+      by_served : (s : Option Track) → (onto s a).sector ≡ a.sector
+      by_served None = refl
+      by_served (Some k) = refl
 
   -- A track lands as a whole: each of its sectors on the same sector of one track,
   pub lands_as_a_whole :
       (c h s : ℕ) → landed u (address c h s) ≡ address (landed u (address c h 0)).cylinder (landed u (address c h 0)).head s
   lands_as_a_whole c h s = rw (landed_is u (address c h s), landed_is u (address c h 0)) (by_served (serving c h))
     where
-      by_served : (x : Served) → onto x (address c h s) ≡ address (onto x (address c h 0)).cylinder (onto x (address c h 0)).head s
-      by_served Itself = refl
-      by_served (By t) = refl
+      by_served : (x : Option Track) → onto x (address c h s) ≡ address (onto x (address c h 0)).cylinder (onto x (address c h 0)).head s
+      by_served None = refl
+      by_served (Some t) = refl
 
   -- so that sectors in a row land in a row.
   pub landed_in_a_row :

@@ -1,13 +1,12 @@
 -- Where one sector, or one track, lands on a unit: its cylinder, its place, and how far its track goes on from there. None of it asks
 -- whether the unit counts as initialized. Everything above goes by these and by the laws of proofs/; what is behind is shut.
-use Rattle.std.specs.Prelude.{ℕ, ◌-◌}
+use Rattle.spares.specs.declared.Track.{Track}
+use Rattle.std.specs.Prelude.{ℕ, ◌-◌, None, Option, Some}
 use Rattle.geometry.specs.declared.Address.{Address}
 use Rattle.geometry.specs.declared.Geometry.{Geometry}
 use Rattle.geometry.specs.declared.VolumeNumber.{VolumeNumber}
 use Rattle.geometry.specs.Drive.{S}
 use Rattle.geometry.specs.Sectors.{address, address_of, place_of}
-use Rattle.spares.specs.declared.Served.{Served}
-use Rattle.spares.specs.declared.Served.TheVariants.{Itself, By}
 use Rattle.spares.specs.Table.{served_at}
 use Rattle.unit.specs.declared.Spot.{Spot}
 use Rattle.unit.specs.Standing.{UnitRecord, geometry, pairs, table}
@@ -18,9 +17,9 @@ pub spot_at : Geometry → Address → Spot
 spot_at g a = record { cylinder = a.cylinder; place = place_of g a; rest = S g - a.sector }
 
 -- Where an address lands: "Every later command that lands on a bad track works on its spare" (02, K5). The sector stays.
-abbrev pub onto : Served → Address → Address
-onto Itself a = a
-onto (By k) a = address k.cylinder k.head a.sector
+abbrev pub onto : Option Track → Address → Address
+onto None a = a
+onto (Some k) a = address k.cylinder k.head a.sector
 
 pub landed : UnitRecord → Address → Address
 landed u a = onto (served_at (geometry u) (pairs u) (table u) a.cylinder a.head) a

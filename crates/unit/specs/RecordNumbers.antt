@@ -1,4 +1,4 @@
--- A unit's record as numbers, as it is lent along a chain; its table is lent beside it.
+-- A unit's record as numbers, for whoever hands one on without its type; its table stands beside it.
 use Rattle.std.specs.Prelude.{ℕ, ◌%◌, cond, List, [], ◌∷◌, eqb, get_or}
 use Rattle.geometry.specs.declared.VolumeNumber.TheVariants.{Zero, One}
 use Rattle.geometry.specs.Drive.{B, C, N, S, goes_by_head, geometry_of, start, volume, volume_of, with_increment}

@@ -1,19 +1,18 @@
 -- The unit record and when it counts as initialized (01, Geometry; 02, K5 and K10).
-use Rattle.std.specs.Prelude.{ℕ, ◌<◌, Bool, true, List, ◌≡◌, replicate}
+use Rattle.std.specs.Prelude.{ℕ, ◌<◌, Bool, true, List, ◌≡◌, replicate, None}
 use Rattle.geometry.specs.declared.Geometry.{Geometry}
 use Rattle.geometry.specs.Drive.{C}
 use Rattle.geometry.specs.Limits.{Within}
 use Rattle.spares.specs.Table.{Good, one_pair_more, with_pair}
-use Rattle.unit.specs.declared.Holder.{Holder}
-use Rattle.unit.specs.declared.Holder.TheVariants.{Nobody}
+use Rattle.unit.specs.Holding.{Holder}
 use Rattle.unit.specs.declared.Record.{Record}
+use Rattle.unit.specs.declared.Unit.{Unit}
 
 -- A unit's record: "whether the unit is initialized, its geometry and its cylinder", "a table of 32 pairs" (02, K5), of which so many count, and who
 -- holds the drive (02, K10).
 -- Whoever stands above takes one apart and makes one by the names that follow and by no other, so that a record can come to hold more.
-pub record UnitRecord : Type 0 where
-  pub value : Record
-  pub tracks : List ℕ
+abbrev pub UnitRecord : Type 0
+UnitRecord = Unit
 
 abbrev pub initialized : UnitRecord → Bool
 initialized u = u.value.initialized
@@ -54,7 +53,7 @@ no_tracks = replicate 64 0
 -- A unit that has just been initialized: "cylinder 0" (01, One run, 87), and "A successful 87 clears the table" (02, K5). Nobody
 -- holds it here: the block that initialized it says who does.
 abbrev pub fresh : Geometry → UnitRecord
-fresh g = unit_of (value_of true g 0 0 Nobody) no_tracks
+fresh g = unit_of (value_of true g 0 0 None) no_tracks
 
 -- The same unit with another holder (02, K10).
 abbrev pub held_by : UnitRecord → Holder → UnitRecord

@@ -1,130 +1,108 @@
 // The unit record: when it counts as initialized, who holds its drive, and where a request lands on it.
 // It is the one door to where a sector stands: a spare serves for a bad track behind it, and the order of tracks is the geometry's.
-// It moves no data and sees no image; a record goes in and comes back by value, and its table is lent and left as it is.
+// It moves no data and sees no image; a record goes in and comes back by value, and a unit, its record and its table, is lent and left as it is.
 #![tactic(auto)]
 
 ghost use Rattle.std.specs.Prelude.{◌≡◌, ◌<◌};
 ghost use Rattle.geometry.specs.Drive.{C};
 ghost use Rattle.geometry.specs.Sectors.{OnDrive, numbered};
 ghost use Rattle.spares.specs.Table.{Good};
-ghost use Rattle.unit.specs.declared.Holder.{Holder};
 ghost use Rattle.unit.specs.Holding.{as_holder, held_by_other, reserved_by};
 ghost use Rattle.unit.specs.Landing.{spot_at};
-ghost use Rattle.unit.specs.Standing.{CountsAsInitialized, cylinder, geometry, value_of, holder, initialized, pairs, unit_of};
+ghost use Rattle.unit.specs.Standing.{CountsAsInitialized, cylinder, geometry, value_of, holder, initialized, pairs, table};
 ghost use Rattle.wire.specs.Promise.{Says};
 ghost use Rattle.unit.specs.Answers.{landing, landing_at, spotted, track_landing};
-ghost use Rattle.unit.specs.Made.{bare, nothing_said, freshly, heads_on, more_held, with_holder};
+ghost use Rattle.unit.specs.Made.{bare, blank, nothing_said, freshly, heads_on, more_held, with_holder};
 ghost use Rattle.unit.specs.HolderNumbers.{holder_number, holder_of};
 
-use geometry::{Address, Found, Geometry, Number, Place, Volume, VolumeNumber};
-use spares::Served;
+use geometry::{Address, Geometry, Volume, VolumeNumber};
 
 mod numbers;
 
 // One of the board's two units.
-#[derive(Clone, Copy)]
+#[derive(Clone, Copy, PartialEq, Eq)]
 pub enum UnitNumber {
     Zero,
     One,
 }
 
 // One of the two controllers that can share a drive.
-#[derive(Clone, Copy)]
+#[derive(Clone, Copy, PartialEq, Eq)]
 pub enum Controller {
     First,
     Second,
 }
 
-// Who holds a drive.
-#[derive(Clone, Copy)]
-pub enum Holder {
-    Nobody,
-    TheFirst,
-    TheSecond,
-}
-
 impl Controller {
     // The controller as the holder of a drive.
-    pub fn as_holder(self) -> Holder
+    pub fn as_holder(self) -> Option<Controller>
         ensures { result ≡ as_holder self }
     {
-        match self {
-            Controller::First => Holder::TheFirst,
-            Controller::Second => Holder::TheSecond,
-        }
+        Some(self)
     }
 
     // Who holds a drive once a block of this controller has succeeded, with the reserve option or without.
-    pub fn reserves(self, reserve: bool) -> Holder
+    pub fn reserves(self, reserve: bool) -> Option<Controller>
         ensures { result ≡ reserved_by self reserve }
     {
-        if reserve {
-            self.as_holder()
-        } else {
-            Holder::Nobody
+        if reserve { self.as_holder() } else { None }
+    }
+
+    // Whether the other controller holds a drive with this holder.
+    pub fn is_kept_out(self, holder: Option<Controller>) -> bool
+        ensures { result ≡ held_by_other self holder }
+    {
+        match holder {
+            None => false,
+            Some(c) => c != self,
         }
     }
 }
 
-impl Holder {
-    // 0 for nobody, 1 for the first controller, 2 for the second.
-    pub fn number(self) -> u8
-        ensures { result ≡ holder_number self }
-    {
-        match self {
-            Holder::Nobody => 0,
-            Holder::TheFirst => 1,
-            Holder::TheSecond => 2,
-        }
-    }
-
-    // The holder with that number, and nobody for any other.
-    pub fn of(number: u16) -> Holder
-        ensures { result ≡ holder_of number }
-    {
-        if number == 1 {
-            return Holder::TheFirst;
-        }
-        if number == 2 {
-            Holder::TheSecond
-        } else {
-            Holder::Nobody
-        }
-    }
-
-    // Whether a drive with this holder is held by the other controller than this one.
-    pub fn is_other_than(self, c: Controller) -> bool
-        ensures { result ≡ held_by_other c self }
-    {
-        match c {
-            Controller::First => match self {
-                Holder::Nobody => false,
-                Holder::TheFirst => false,
-                Holder::TheSecond => true,
-            },
-            Controller::Second => match self {
-                Holder::Nobody => false,
-                Holder::TheFirst => true,
-                Holder::TheSecond => false,
-            },
-        }
+// The number of who holds a drive: 0 for nobody, 1 for the first controller, 2 for the second.
+pub fn holder_number(holder: Option<Controller>) -> u8
+    ensures { result ≡ holder_number holder }
+{
+    match holder {
+        None => 0,
+        Some(Controller::First) => 1,
+        Some(Controller::Second) => 2,
     }
 }
 
-// A unit's record, of any contents: what it says of itself is judged by `counts_as_initialized`. Its table of bad tracks is lent beside it; here
-// is how many pairs of that count.
-#[derive(Clone, Copy)]
+// The holder with a number, and nobody for a number that is no controller's.
+pub fn holder_of(number: u16) -> Option<Controller>
+    ensures { result ≡ holder_of number }
+{
+    if number == 1 {
+        Some(Controller::First)
+    } else if number == 2 {
+        Some(Controller::Second)
+    } else {
+        None
+    }
+}
+
+// A unit's record but for its table, of any contents: what it says of itself is judged by `counts_as_initialized`.
+#[derive(Clone, Copy, PartialEq, Eq)]
 pub struct Record {
     initialized: bool,
     geometry: Geometry,
     cylinder: u16,
     pairs: u16,
-    holder: Holder,
+    holder: Option<Controller>,
+}
+
+// A unit: its record, and its table of bad tracks, of which so many pairs count as the record says. It is lent and not copied: a table is long.
+#[derive(Drop)]
+pub struct Unit {
+    pub value: Record,
+    pub tracks: [u32; 64],
 }
 
 // Where a sector stands: its cylinder, its place in the image, and how many sectors there are from it to the end of its
 // track, itself counted, which follow one another in the image.
-#[derive(Clone, Copy)]
+#[derive(Clone, Copy, PartialEq, Eq)]
 pub struct Spot {
     pub cylinder: u16,
     pub place: u64,
@@ -132,30 +110,23 @@ pub struct Spot {
 }
 
 // Consecutive sectors of a volume, from a number on.
-#[derive(Clone, Copy)]
+#[derive(Clone, Copy, PartialEq, Eq)]
 pub struct Span {
     pub volume: VolumeNumber,
     pub first: u64,
     pub count: u16,
 }
 
-// Where a request lands, if the drive has what it names.
-#[derive(Clone, Copy)]
-pub enum Landing {
-    At(Spot),
-    Outside,
-}
-
 impl Record {
     pub fn new(initialized: bool, geometry: Geometry, cylinder: u16, pairs: u16) -> Record
-        ensures { result ≡ value_of initialized geometry cylinder pairs Holder.Nobody }
+        ensures { result ≡ value_of initialized geometry cylinder pairs None }
     {
         Record {
             initialized,
             geometry,
             cylinder,
             pairs,
-            holder: Holder::Nobody,
+            holder: None,
         }
     }
 
@@ -168,7 +139,7 @@ impl Record {
             geometry: g,
             cylinder: 0,
             pairs: 0,
-            holder: Holder::Nobody,
+            holder: None,
         }
     }
 
@@ -182,7 +153,7 @@ impl Record {
             geometry: Geometry::new(0, 0, 0, none, none),
             cylinder: 0,
             pairs: 0,
-            holder: Holder::Nobody,
+            holder: None,
         }
     }
 
@@ -214,38 +185,26 @@ impl Record {
     }
 
     // Who holds the drive.
-    pub fn holder(self) -> Holder
+    pub fn holder(self) -> Option<Controller>
         ensures { result ≡ holder (bare self) }
     {
         self.holder
     }
 
     // The record once the drive has that holder.
-    pub fn held_by(self, to: Holder) -> Record
+    pub fn held_by(self, to: Option<Controller>) -> Record
         ensures { result ≡ with_holder self to }
     {
-        let geometry = self.geometry;
-        Record {
-            initialized: self.initialized,
-            geometry,
-            cylinder: self.cylinder,
-            pairs: self.pairs,
-            holder: to,
-        }
+        Record { holder: to, ..self }
     }
 
     // The record once its heads stand on another cylinder.
     pub fn moved_to(self, to: u16) -> Record
         ensures { result ≡ heads_on self to }
     {
-        let geometry = self.geometry;
-        let holder = self.holder;
         Record {
-            initialized: self.initialized,
-            geometry,
             cylinder: to,
-            pairs: self.pairs,
-            holder,
+            ..self
         }
     }
 
@@ -253,14 +212,9 @@ impl Record {
     pub fn one_pair_more(self) -> Record
         ensures { result ≡ more_held self }
     {
-        let geometry = self.geometry;
-        let holder = self.holder;
         Record {
-            initialized: self.initialized,
-            geometry,
-            cylinder: self.cylinder,
             pairs: spares::one_more(self.pairs),
-            holder,
+            ..self
         }
     }
 
@@ -268,44 +222,7 @@ impl Record {
     pub fn same(self, other: Record) -> bool
         ensures { Says result (self ≡ other) }
     {
-        if self.cylinder != other.cylinder {
-            return false;
-        }
-        if self.pairs != other.pairs {
-            return false;
-        }
-        let mine = self.holder;
-        let its = other.holder;
-        if mine.number() != its.number() {
-            return false;
-        }
-        if !self.geometry.same(other.geometry) {
-            return false;
-        }
-        self.initialized == other.initialized
-    }
-
-    // Whether it counts as initialized.
-    pub fn counts_as_initialized(self, table: &[u32; 64]) -> bool
-        ensures { Says result (CountsAsInitialized (unit_of self table.now)) }
-    {
-        if !self.initialized {
-            return false;
-        }
-        if !self.geometry.is_within() {
-            return false;
-        }
-        if !self.heads_are_on_the_drive() {
-            return false;
-        }
-        self.table_is_good(table)
-    }
-
-    // Whether its table is good, which is the long part of the question.
-    fn table_is_good(self, table: &[u32; 64]) -> bool
-        ensures { Says result (Good (geometry (bare self)) (pairs (bare self)) table.now) }
-    {
-        spares::is_good(table, self.pairs, self.geometry)
+        self == other
     }
 
     // Whether the heads stand on a cylinder that the drive has.
@@ -316,72 +233,123 @@ impl Record {
     }
 
     // The number in a volume of a physical address, whose head is counted from the volume's start head.
-    pub fn number(self, v: VolumeNumber, cylinder: u16, head: u16, sector: u16) -> Number
+    pub fn number(self, v: VolumeNumber, cylinder: u16, head: u16, sector: u16) -> Option<u64>
         ensures { result ≡ numbered (geometry (bare self)) v cylinder head sector }
     {
         self.geometry.number(v, cylinder, head, sector)
     }
 
-    // Where the sector with a number in a volume lands.
-    pub fn land(self, table: &[u32; 64], v: VolumeNumber, number: u64) -> Landing
-        ensures { result ≡ landing (unit_of self table.now) v number }
+    // The spot of an address itself.
+    fn spot(self, a: Address) -> Option<Spot>
+        ensures { result ≡ spotted (geometry (bare self)) a }
     {
-        match self.geometry.address(v, number) {
-            Found::At(a) => self.land_at(table, a),
-            Found::Outside => Landing::Outside,
+        let place = self.geometry.place(a)?;
+        Some(Spot {
+            cylinder: a.cylinder,
+            place,
+            rest: self.geometry.sectors_a_track() - a.sector,
+        })
+    }
+}
+
+impl Unit {
+    // A unit of which nothing is said.
+    pub fn blank() -> Unit
+        ensures { result ≡ blank }
+    {
+        Unit {
+            value: Record::blank(),
+            tracks: [0; 64],
         }
+    }
+
+    // What the record says: the geometry, the cylinder that the heads stand on, how many pairs of the table count, and who holds the drive.
+    pub fn geometry(&self) -> Geometry
+        ensures { result ≡ geometry self.now }
+    {
+        self.value.geometry()
+    }
+
+    pub fn cylinder(&self) -> u16
+        ensures { result ≡ cylinder self.now }
+    {
+        self.value.cylinder()
+    }
+
+    pub fn pairs(&self) -> u16
+        ensures { result ≡ pairs self.now }
+    {
+        self.value.pairs()
+    }
+
+    pub fn holder(&self) -> Option<Controller>
+        ensures { result ≡ holder self.now }
+    {
+        self.value.holder()
+    }
+
+    // Whether it counts as initialized.
+    pub fn counts_as_initialized(&self) -> bool
+        ensures { Says result (CountsAsInitialized self.now) }
+    {
+        self.value.initialized
+            && self.value.geometry.is_within()
+            && self.value.heads_are_on_the_drive()
+            && self.table_is_good()
+    }
+
+    // Whether its table is good, which is the long part of the question.
+    fn table_is_good(&self) -> bool
+        ensures { Says result (Good (geometry self.now) (pairs self.now) (table self.now)) }
+    {
+        spares::is_good(&self.tracks, self.value.pairs, self.value.geometry)
+    }
+
+    // Where the sector with a number in a volume lands.
+    pub fn land(&self, v: VolumeNumber, number: u64) -> Option<Spot>
+        ensures { result ≡ landing self.now v number }
+    {
+        let a = self.value.geometry.address(v, number)?;
+        self.land_at(a)
     }
 
     // Where the first sector of a track lands, its head counted over the whole drive.
-    pub fn land_track(self, table: &[u32; 64], cylinder: u16, head: u16) -> Landing
-        ensures { result ≡ track_landing (unit_of self table.now) cylinder head }
+    pub fn land_track(&self, cylinder: u16, head: u16) -> Option<Spot>
+        ensures { result ≡ track_landing self.now cylinder head }
     {
-        self.land_at(
-            table,
-            Address {
-                cylinder,
-                head,
-                sector: 0,
-            },
-        )
+        self.land_at(Address {
+            cylinder,
+            head,
+            sector: 0,
+        })
     }
 
     // Where an address lands, if the drive has the address named.
-    pub fn land_at(self, table: &[u32; 64], a: Address) -> Landing
-        ensures { result ≡ landing_at (unit_of self table.now) a }
+    pub fn land_at(&self, a: Address) -> Option<Spot>
+        ensures { result ≡ landing_at self.now a }
     {
-        match self.spot(a) {
-            Landing::At(spot) => self.serve(table, a, spot),
-            Landing::Outside => Landing::Outside,
-        }
+        let own = self.value.spot(a)?;
+        self.serve(a, own)
     }
 
     // Where an address of the drive lands, whose own spot is known: there, or on the spare of its track.
-    fn serve(self, table: &[u32; 64], a: Address, own: Spot) -> Landing
-        requires { OnDrive (geometry (bare self)) a × (own ≡ spot_at (geometry (bare self)) a) }
-        ensures { result ≡ landing_at (unit_of self table.now) a }
+    fn serve(&self, a: Address, own: Spot) -> Option<Spot>
+        requires { OnDrive (geometry self.now) a × (own ≡ spot_at (geometry self.now) a) }
+        ensures { result ≡ landing_at self.now a }
     {
-        match spares::serving(table, self.pairs, self.geometry, a.cylinder, a.head) {
-            Served::Itself => Landing::At(own),
-            Served::By(k) => self.spot(Address {
+        match spares::serving(
+            &self.tracks,
+            self.value.pairs,
+            self.value.geometry,
+            a.cylinder,
+            a.head,
+        ) {
+            None => Some(own),
+            Some(k) => self.value.spot(Address {
                 cylinder: k.cylinder,
                 head: k.head,
                 sector: a.sector,
             }),
-        }
-    }
-
-    // The spot of an address itself.
-    fn spot(self, a: Address) -> Landing
-        ensures { result ≡ spotted (geometry (bare self)) a }
-    {
-        match self.geometry.place(a) {
-            Place::At(place) => Landing::At(Spot {
-                cylinder: a.cylinder,
-                place,
-                rest: self.geometry.sectors_a_track() - a.sector,
-            }),
-            Place::Outside => Landing::Outside,
         }
     }
 }

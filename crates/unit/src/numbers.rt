@@ -1,24 +1,9 @@
-// A record as numbers, and back. Along a chain the two records are lent as numbers: by value, each block would keep copies of both on the
-// stack while the rest of the chain runs.
-ghost use Rattle.std.specs.Prelude.{cond, ◌≡◌, ◌%◌};
+// A record as numbers, and back, for whoever has to hand one on without its type. Along a chain the units themselves are lent.
+ghost use Rattle.std.specs.Prelude.{◌≡◌, ◌%◌};
 ghost use Rattle.unit.specs.RecordNumbers.{as_numbers, in_numbers};
 
-use crate::{Holder, Record};
+use crate::{Record, holder_number, holder_of};
 use geometry::{Geometry, Volume, VolumeNumber};
-
-// A yes or no as a number.
-fn flag(yes: bool) -> u16
-    ensures { result ≡ cond yes 1 0 }
-{
-    if yes { 1 } else { 0 }
-}
-
-// A byte as a wider number.
-fn wide(byte: u8) -> u16
-    ensures { result ≡ byte }
-{
-    byte as u16
-}
 
 fn low_byte(n: u16) -> u8
     ensures { result ≡ n % 256 }
@@ -37,31 +22,31 @@ impl Record {
         let g = self.geometry;
         let zero = g.volume(VolumeNumber::Zero);
         let one = g.volume(VolumeNumber::One);
-        let holder = self.holder;
         [
-            flag(self.initialized),
+            u16::from(self.initialized),
             g.cylinders(),
             g.sectors_a_track(),
             g.bytes_a_sector(),
-            wide(zero.start_head()),
-            wide(zero.heads()),
-            wide(one.start_head()),
-            wide(one.heads()),
+            u16::from(zero.start_head()),
+            u16::from(zero.heads()),
+            u16::from(one.start_head()),
+            u16::from(one.heads()),
             self.cylinder,
             self.pairs,
-            wide(holder.number()),
-            flag(g.by_head()),
+            u16::from(holder_number(self.holder)),
+            u16::from(g.by_head()),
         ]
     }
 
     // The record of some numbers.
+    #[tactic(auto, unfolding(crate::specs::RecordNumbers::in_numbers))]
     pub fn of_numbers(n: &[u16; Record::NUMBERS]) -> Record
         ensures { result ≡ in_numbers n.now }
     {
         let zero = Volume::new(low_byte(n[4]), low_byte(n[5]));
         let one = Volume::new(low_byte(n[6]), low_byte(n[7]));
         let geometry = Geometry::new(n[1], n[2], n[3], zero, one).with_increment(n[11] == 1);
-        let holder = Holder::of(n[10]);
+        let holder = holder_of(n[10]);
         Record {
             initialized: n[0] == 1,
             geometry,

@@ -1,12 +1,12 @@
 -- How a yes or no that was computed comes to speak of a statement.
 -- Each law takes the answer's two values apart.
-use Prim.Native.Nat.{ℕ, suc, ◌<◌, ◌≤◌}
+use Prim.Native.Nat.{ℕ, suc, ◌<◌}
 use mathlib.Core.Bool.{Bool, beq, true, false, not, ◌&&◌, false≢true, true≢false}
 use mathlib.Core.Logic.{ite}
 use mathlib.Core.Path.{◌≡◌, refl}
 use native.Mathlib.Omega.{arith}
-use borrow.Author.Tests.{eqb-false, eqb-true, leb-false, leb-true}
-use lib.Dec.{eqb, leb}
+use borrow.Author.Tests.{eqb-false, eqb-true}
+use lib.Dec.{eqb}
 use Rattle.wire.proofs.Decided.{all_more}
 use Rattle.wire.specs.Promise.{Says}
 
@@ -15,13 +15,6 @@ pub never : ◌≡◌ {A = ℕ} 0 1 → ⊥
 never e = omega arith
 
 -- A comparison says what follows from each of its outcomes.
-pub says_leb : (a b : ℕ) (P : Type 0) → (a ≤ b → P) → (b < a → P → ⊥) → Says (leb a b) P
-says_leb a b P yes-is no-is = by_value (leb a b) refl
-  where
-    by_value : (t : Bool) → leb a b ≡ t → Says t P
-    by_value true e = yes-is (leb-true a b e)
-    by_value false e = no-is (leb-false a b e)
-
 pub says_eqb : (a b : ℕ) (P : Type 0) → (a ≡ b → P) → ((a ≡ b → ⊥) → P → ⊥) → Says (eqb a b) P
 says_eqb a b P yes-is no-is = by_value (eqb a b) refl
   where

@@ -1,11 +1,11 @@
 -- The small drive's own numbers, and where a number in a volume stands on it.
 -- The geometry's shut definitions are opened by their equations, and what is left is arithmetic on numerals.
+use Rattle.std.proofs.Common.{Some}
 use Prim.Native.Nat.{ℕ, ◌+◌, ◌*◌, ◌/◌, ◌%◌, ◌≤◌, ◌<◌}
 use mathlib.Core.Bool.{Bool, true}
 use mathlib.Core.Path.{◌≡◌, refl, ap, ◌∙◌}
 use native.Mathlib.Omega.{arith}
 use Rattle.geometry.specs.declared.Geometry.{Geometry}
-use Rattle.geometry.specs.declared.Number.{Number}
 use Rattle.geometry.specs.declared.VolumeNumber.{VolumeNumber}
 use Rattle.geometry.specs.declared.VolumeNumber.TheVariants.{Zero, One}
 use Rattle.geometry.specs.Drive.{N, drive_heads, drive_sectors, marks_at, need, start, volume, volume_sectors, with_increment}
@@ -113,5 +113,5 @@ number by c h s =
     let steps = ordered by (c, h) in
     (steps.0 * each by Zero + steps.1) * 4 + s
 
-pub begins_at_lem : (by : Bool) (c h s : ℕ) → (c < 10) × (h < 2) × (s < 4) → numbered (drive_by by) Zero c h s ≡ Number.Is (number by c h s)
-begins_at_lem by c h s is = numbered_inside (drive_by by) Zero c h s (omega arith) ∙ ap Number.Is (number_of_is (drive_by by) Zero c h s)
+pub begins_at_lem : (by : Bool) (c h s : ℕ) → (c < 10) × (h < 2) × (s < 4) → numbered (drive_by by) Zero c h s ≡ Some (number by c h s)
+begins_at_lem by c h s is = numbered_inside (drive_by by) Zero c h s (omega arith) ∙ ap Some (number_of_is (drive_by by) Zero c h s)

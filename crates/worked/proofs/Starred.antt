@@ -1,5 +1,6 @@
 -- The starred lines of the small drive hold, and the lines by cylinder: a law for each kind of line, in either order, and then the tables, line by line.
 -- What the judge's laws ask of a request is told by the drive's own numbers and by its host memory.
+use Rattle.std.proofs.Common.{Err, Some}
 use Prim.Native.Nat.{ℕ, ◌+◌, ◌*◌, ◌≤◌, ◌<◌}
 use mathlib.Core.Bool.{Bool, true, false}
 use mathlib.Core.Path.{◌≡◌, refl, sym, subst, ◌∙◌}
@@ -9,12 +10,10 @@ use Rattle.geometry.specs.Sectors.{Covers}
 use Rattle.answers.specs.declared.Refusal.{Refusal}
 use Rattle.answers.specs.declared.Refusal.TheVariants.{ImageShort, ListBad, SectorOutside}
 use Rattle.answers.specs.Numbers.{refusal_number}
-use Rattle.geometry.specs.declared.Number.{Number}
 use Rattle.geometry.specs.declared.VolumeNumber.{VolumeNumber}
 use Rattle.geometry.specs.declared.VolumeNumber.TheVariants.{Zero, One}
 use Rattle.geometry.specs.Drive.{volume_sectors}
 use Rattle.geometry.specs.Sectors.Inside.{first_byte_is}
-use Rattle.judge.specs.declared.Verdict.TheVariants.{Refused}
 use Rattle.judge.specs.Given.{Asked, start_number}
 use Rattle.judge.specs.Verdict.{verdict}
 use Rattle.judge.proofs.Tasks.{list_18, list_done, move_on, own, piece_done, span_17, span_last, span_on, start_nowhere}
@@ -51,7 +50,7 @@ two_from by c h s is =
     }
 
 -- A verdict that refuses so has that number.
-refused_so : (a : Asked) (r : Refusal) → verdict a ≡ Refused r → RefusesWith (refusal_number r) (verdict a)
+refused_so : (a : Asked) (r : Refusal) → verdict a ≡ Err r → RefusesWith (refusal_number r) (verdict a)
 refused_so a r is = subst (RefusesWith (refusal_number r)) (sym is) refl
 
 -- ---- any read of volume 0, in either order and whatever its buffer
@@ -65,7 +64,7 @@ module _ (by : Bool) (from : Start) (count image : ℕ) (b : Buffer) where
   by_its_sectors some =
       own First (unit_by by) image host _ tt refl ∙ move_on First (unit_by by) image host m (counts_by by) (present_by by) (λ none. omega arith)
 
-  module _ (n : ℕ) (begins : start_number (drive_by by) Zero from ≡ Number.Is n) where
+  module _ (n : ℕ) (begins : start_number (drive_by by) Zero from ≡ Some n) where
     outside_is_16 : (0 < count) × (80 < n + count) → Judged by m image (answer 16)
     outside_is_16 is =
         refused_so _ SectorOutside
@@ -86,7 +85,7 @@ module _ (by : Bool) (from : Start) (count image : ℕ) (b : Buffer) where
 -- ---- by its buffer
 
 read_passes :
-    (by : Bool) (from : Start) (n count image : ℕ) → start_number (drive_by by) Zero from ≡ Number.Is n →
+    (by : Bool) (from : Start) (n count image : ℕ) → start_number (drive_by by) Zero from ≡ Some n →
     (0 < count) × (n + count ≤ 80) × (7800 ≤ image) → Judged by (move from count (Buffer.Piece 512)) image passes
 read_passes by from n count image begins is =
     let b = Buffer.Piece 512 in

@@ -1,16 +1,15 @@
 -- The small drive of 01 ("Small drive, by hand"): its starred lines in one table, lines with bad tracks and spares (02, K7) in another, and lines of the same
 -- drive counted by cylinder (02, K4) in a third.
-use Rattle.std.specs.Prelude.{ℕ, zero, suc, ◌+◌, ◌<◌, Bool, true, false, List, [], ◌∷◌, ◌++◌, ◌≡◌, replicate}
+use Rattle.answers.specs.declared.Refusal.{Refusal}
+use Rattle.judge.specs.declared.Plan.{Plan}
+use Rattle.std.specs.Prelude.{ℕ, zero, suc, ◌+◌, ◌<◌, Bool, true, false, List, [], ◌∷◌, ◌++◌, ◌≡◌, replicate, Err, Ok, Result, Some}
 use Rattle.answers.specs.Numbers.{refusal_number}
 use Rattle.geometry.specs.declared.Address.{Address}
 use Rattle.geometry.specs.declared.Geometry.{Geometry}
-use Rattle.geometry.specs.declared.Number.{Number}
 use Rattle.geometry.specs.declared.VolumeNumber.{VolumeNumber}
 use Rattle.geometry.specs.Drive.{geometry_of, volume_of, volume_sectors, with_increment}
 use Rattle.geometry.specs.Sectors.{OnDrive, address, first_byte, numbered}
 use Rattle.demands.specs.Tables.{ReachedByCommands}
-use Rattle.judge.specs.declared.Verdict.{Verdict}
-use Rattle.judge.specs.declared.Verdict.TheVariants.{Refused, Do}
 use Rattle.judge.specs.Given.{Asked, on, start_number}
 use Rattle.judge.specs.Plans.{carrying, job_of, number_there}
 use Rattle.judge.specs.Verdict.{verdict}
@@ -68,20 +67,20 @@ pub data Expected : Type 0 where
   answer : ℕ → Expected
 
 -- A verdict refuses with a number.
-abbrev pub RefusesWith : ℕ → Verdict → Type 0
-RefusesWith n (Refused r) = refusal_number r ≡ n
-RefusesWith n (Do plan) = ⊥
+abbrev pub RefusesWith : ℕ → Result Plan Refusal → Type 0
+RefusesWith n (Err r) = refusal_number r ≡ n
+RefusesWith n (Ok plan) = ⊥
 
 -- What a table says of a request: the verdict refuses it with that answer, or has it done from the sector that it names.
 abbrev pub Judged : (goes_by_head : Bool) → Move → ℕ → Expected → Type 0
 Judged by m image (answer k) = RefusesWith k (verdict (asking by m image))
 Judged by m image passes =
-    verdict (asking by m image) ≡ Do (carrying (job_of m (number_there (start_number (with_increment by drive) VolumeNumber.Zero m.target.start))))
+    verdict (asking by m image) ≡ Ok (carrying (job_of m (number_there (start_number (with_increment by drive) VolumeNumber.Zero m.target.start))))
 
 -- A physical address of volume 0 has a number; the sector there and the next one stand at two places, and the heads end on the cylinder of the next.
 pub record TwoFrom (by : Bool) (c h s first second cylinder : ℕ) : Type 0 where
   pub number : ℕ
-  pub begins : numbered (with_increment by drive) VolumeNumber.Zero c h s ≡ Number.Is number
+  pub begins : numbered (with_increment by drive) VolumeNumber.Zero c h s ≡ Some number
   pub in_volume : number + 1 < volume_sectors (with_increment by drive) VolumeNumber.Zero
   pub here : (spot_of (unit_by by) VolumeNumber.Zero number).place ≡ first
   pub then : (spot_of (unit_by by) VolumeNumber.Zero (number + 1)).place ≡ second

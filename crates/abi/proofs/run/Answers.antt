@@ -1,16 +1,11 @@
 -- The records that stand in the bytes go in, and board's run comes out as bytes again.
 -- What each function stored is the part of the definition that bears its name.
-use mathlib.Core.Path.{refl}
 use Rattle.abi.proofs.Called.{made_is}
 use Rattle.abi.specs.Calls.{lent_of}
-use borrow.Author.Rules.{rules}
 use Rattle.abi.proofs.run.Goals as goal
 
-pub unit_in-zero-requires : goal.unit_in-zero-requires
-unit_in-zero-requires c = (search rules, refl)
-
 pub unit_in-one-requires : goal.unit_in-one-requires
-unit_in-one-requires c = (c.requires.1.0, refl)
+unit_in-one-requires c = c.requires.1.0
 
 pub leave_record-requires : goal.leave_record-requires
 leave_record-requires c = c.requires.0
@@ -24,7 +19,8 @@ put_outcome-requires c = c.requires.1.1
 pub returns : goal.returns
 returns c =
     let a = c.args in
+    rw c.from.ensures (
     made_is a.c a.first a.allowance
     (lent_of a.host.now a.image0.now a.image1.now a.events.now a.record0.now a.record1.now a.outcome.now)
-    _ c.unit_in-zero.ensures c.unit_in-one.ensures c.run-done.ensures c.leave_record.ensures c.leave_record-2.ensures
-    c.number-number.ensures c.put_outcome.ensures
+    (record { zero = c.unit_in-zero.result; one = c.unit_in-one.result }) c.unit_in-zero.ensures c.unit_in-one.ensures c.run-done.ensures c.leave_record.ensures c.leave_record-2.ensures
+    c.number-number.ensures c.put_outcome.ensures)

@@ -3,25 +3,18 @@
 use Rattle.abi.proofs.Called.{inspection_made, inspection_refused_0, inspection_refused_1}
 use Rattle.abi.proofs.AsRead.{part_as_read}
 use native.Mathlib.Omega.{arith}
-use mathlib.Core.Path.{refl, sym}
-use borrow.Author.Rules.{rules}
+use mathlib.Core.Path.{sym}
 use Rattle.abi.proofs.vsmd_inspect.Goals as goal
 
 pub returns-then-record0-lt-RECORD_LEN : goal.returns-then-record0-lt-RECORD_LEN
 returns-then-record0-lt-RECORD_LEN c =
     let a = c.args in
-    sym (inspection_refused_0 a.record0.now a.record1.now a.long0 a.long1 a.unit a.place _ _ _ (omega arith))
+    rw c.code.ensures (sym (inspection_refused_0 a.record0.now a.record1.now a.long0 a.long1 a.unit a.place _ _ _ (omega arith)))
 
 pub returns-then-record1-lt-RECORD_LEN : goal.returns-then-record1-lt-RECORD_LEN
 returns-then-record1-lt-RECORD_LEN c =
     let a = c.args in
-    sym (inspection_refused_1 a.record0.now a.record1.now a.long0 a.long1 a.unit a.place _ _ _ (omega arith) (omega arith))
-
-pub unit_in-zero-requires : goal.unit_in-zero-requires
-unit_in-zero-requires c = (search rules, refl)
-
-pub unit_in-one-requires : goal.unit_in-one-requires
-unit_in-one-requires c = (search rules, refl)
+    rw c.code-then-record1-lt-RECORD_LEN.ensures (sym (inspection_refused_1 a.record0.now a.record1.now a.long0 a.long1 a.unit a.place _ _ _ (omega arith) (omega arith)))
 
 pub returns : goal.returns
 returns c =

@@ -1,6 +1,5 @@
 -- What is moved has its own way; nothing, and a track, need no pieces.
 use lib.ListN.{length}
-use Rattle.unit.specs.Standing.{unit_of}
 use Rattle.block.proofs.Gathered.{track_fits}
 use Rattle.block.proofs.carry.Goals as goal
 
@@ -13,7 +12,7 @@ carry_job-requires c = (c.requires.0, rw c.in-Sectors.is at c.requires.1)
 pub without_pieces-requires-in-Track : goal.without_pieces-requires-in-Track
 without_pieces-requires-in-Track c =
     let a = c.args in
-    (c.requires.0, rw c.in-Track.is (track_fits a.host.now (length a.image.now) (unit_of a.u a.table.now) _ _ (rw c.in-Track.is at c.requires.1)))
+    (c.requires.0, rw c.in-Track.is (track_fits a.host.now (length a.image.now) a.u.now _ _ (rw c.in-Track.is at c.requires.1)))
 
 pub returns-in-Nothing : goal.returns-in-Nothing
 returns-in-Nothing c = rw c.in-Nothing.is (rw c.in-Nothing.is at c.without_pieces.ensures)

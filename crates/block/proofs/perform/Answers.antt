@@ -1,7 +1,7 @@
 -- What is stored is the plan's, and the record and the travel are as they are defined.
 use Prim.Native.Nat.{ℕ}
 use mathlib.Core.Path.{◌∙◌, ap, refl}
-use Rattle.unit.specs.Standing.{by_value, unit_of}
+use Rattle.unit.specs.Standing.{by_value}
 use Rattle.block.specs.Block.{left_by}
 use Rattle.transfer.specs.declared.Moved.{Moved}
 use mir.Syntax.{w32}
@@ -12,7 +12,7 @@ pub returns : goal.returns
 returns c =
     let carried = c.carry_and_report-m.ensures in
     let sectors = ap (λ (m : Moved). m.sectors) carried.result in
-    let u = unit_of c.args.u c.args.table.now in
+    let u = c.args.u.now in
     let left = c.left-unit.ensures ∙ ap (λ (n : ℕ). by_value (left_by u n c.args.plan.leaving)) sectors in
     record {
       result =

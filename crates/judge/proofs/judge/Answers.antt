@@ -27,7 +27,7 @@ pub returns-in-Initialize : goal.returns-in-Initialize
 returns-in-Initialize c = rw c.in-Initialize.is (c.judge_shape.ensures _ _ _ _ ∙ sym (own_if_asked _ _ _ _ _ tt (as_task _ _ c.is_refused_as_held.ensures c.if-is_refused_as_held.false c.in-Initialize.is)))
 
 pub returns-in-Restore : goal.returns-in-Restore
-returns-in-Restore c = rw c.in-Restore.is (c.judge_restore.ensures _ _ c.requires ∙ sym (own_if_asked _ _ _ _ _ tt (as_task _ _ c.is_refused_as_held.ensures c.if-is_refused_as_held.false c.in-Restore.is)))
+returns-in-Restore c = rw c.in-Restore.is (c.judge_restore.ensures _ c.requires ∙ sym (own_if_asked _ _ _ _ _ tt (as_task _ _ c.is_refused_as_held.ensures c.if-is_refused_as_held.false c.in-Restore.is)))
 
 pub returns-in-Seek : goal.returns-in-Seek
 returns-in-Seek c = rw c.in-Seek.is (c.judge_seek.ensures _ ∙ sym (own_if_asked _ _ _ _ _ tt (as_task _ _ c.is_refused_as_held.ensures c.if-is_refused_as_held.false c.in-Seek.is)))

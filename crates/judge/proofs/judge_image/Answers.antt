@@ -11,8 +11,8 @@ returns-then-is_short c =
     let short = c.is_short in
     sym (image_17 _ _ _ _ _ (says_yes short.result _ c.if-is_short.true short.ensures))
 
-pub returns : goal.returns
-returns c =
+pub returns-else-is_short : goal.returns-else-is_short
+returns-else-is_short c =
     let short = c.is_short in
     let long = says_no short.result _ c.if-is_short.false short.ensures in
     c.judge_buffer.ensures ∙ sym (image_on _ _ _ _ _ (omega arith))

@@ -6,7 +6,7 @@ use Rattle.judge.proofs.Tasks.{restore_done, restore_refused}
 use Rattle.judge.proofs.judge_restore.Goals as goal
 
 pub returns-then-standing : goal.returns-then-standing
-returns-then-standing c ts host told = c.restored.ensures ∙ sym (restore_done _ _ _ host (says_yes _ _ c.if-standing.true told))
+returns-then-standing c host told = c.restored.ensures ∙ sym (restore_done _ _ _ host (says_yes _ _ c.if-standing.true told))
 
 pub returns-else-standing : goal.returns-else-standing
-returns-else-standing c ts host told = sym (restore_refused _ _ _ host (says_no _ _ c.if-standing.false told))
+returns-else-standing c host told = sym (restore_refused _ _ _ host (says_no _ _ c.if-standing.false told))

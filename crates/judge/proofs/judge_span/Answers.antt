@@ -2,7 +2,6 @@
 -- Both hold exactly where the first sector and the last are inside; then the image is judged.
 use mathlib.Core.Path.{sym, ◌∙◌}
 use native.Mathlib.Omega.{arith}
-use Rattle.unit.specs.Standing.{unit_of}
 use Rattle.judge.proofs.Tasks.{span_covers, span_first, span_inside, span_last}
 use Rattle.judge.proofs.judge_span.Goals as goal
 
@@ -20,5 +19,5 @@ pub returns : goal.returns
 returns c =
     let a = c.args in
     let begins = c.requires in
-    let covers = span_covers a.standing.controller (unit_of a.standing.record a.table.now) a.standing.image a.host.now a.m a.n begins.starts begins.some (omega arith) in
+    let covers = span_covers a.standing.controller a.standing.unit.now a.standing.image a.host.now a.m a.n begins.starts begins.some (omega arith) in
     c.judge_image.ensures ∙ sym (span_inside _ _ _ _ _ covers)

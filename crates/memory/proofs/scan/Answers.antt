@@ -7,31 +7,22 @@ use Rattle.memory.proofs.Lists.{nothing_scanned, one_more_scanned}
 use Rattle.memory.proofs.scan.Goals as goal
 
 pub loop-i-init : goal.loop-i-init
-loop-i-init c = (omega arith, (nothing_scanned c.args.host.now c.args.at, omega arith))
+loop-i-init c = (nothing_scanned c.args.host.now c.args.at, omega arith)
 
 pub loop-i-preserved : goal.loop-i-preserved
 loop-i-preserved c =
     let a = c.args in
     let loop = c.loop-i in
     let so : Seen = record { counts = loop.counts; ranges = loop.ranges; sum = loop.sum } in
-    let good = c.is_good in
-    let e = c.read-e in
-    let fits = c.holds in (
+    let e = c.read-e in (
+      one_more_scanned a.host.now a.at loop.i so e.result c.from-bytes.result _ _ e.ensures c.from-bytes.ensures
+          loop.invariant.0
+          c.is_good-counts.ensures
+          c.holds-ranges.ensures,
       omega arith,
-      (
-        one_more_scanned a.host.now a.at loop.i so e.result good.result fits.result c.both-counts.result
-            c.both-ranges.result
-            e.ensures
-            c.both-counts.ensures
-            c.both-ranges.ensures
-            loop.invariant.1.0
-            good.ensures
-            fits.ensures,
-        omega arith,
-      ),
     )
 
 pub returns : goal.returns
 returns c =
     let done : c.loop-i.i ≡ c.args.elements = omega arith in
-    rw done at c.loop-i.invariant.1.0
+    rw done at c.loop-i.invariant.0

@@ -1,26 +1,28 @@
 -- Turn by turn what will have been written stays the same; it has been written where no turn comes.
-use Rattle.std.proofs.Common.{arith, inl, inr}
-use Rattle.session.proofs.Sessions.{played_from_zeros}
+use Rattle.std.proofs.Common.{arith, refl, sym, subst, ◌+◌, ◌-◌, inl, inr}
+use Rattle.session.proofs.Sessions.{all_turns, played_from_zeros}
 use Rattle.session.proofs.Turns.{turn_by_turn}
+use Rattle.session.specs.Told.{IsLast}
+use Rattle.transcript.specs.declared.Next.TheVariants.{On}
 use Rattle.session.proofs.play.Goals as goal
 
-pub loop-turns-preserved : goal.loop-turns-preserved
-loop-turns-preserved g c =
-    record {
-      long = omega (arith, c.turn-turned.auto.field, c.loop-turns.invariant.long);
-      stays =
-          turn_by_turn _ c.loop-turns.turns c.loop-turns.next c.turn-turned.result.next _ _ _ _ _ _ c.loop-turns-test.true c.loop-turns.invariant.stays
-          (c.turn-turned.ensures c.if-turned.false c.loop-turns.invariant.long);
-    }
+pub loop-turn-preserved : goal.loop-turn-preserved
+loop-turn-preserved g c =
+    turn_by_turn _ all_turns c.loop-turn.turn (On c.loop-turn.s) _ (On c.in-On.later) _ _ _ _ _ _ c.loop-turn-test.true c.loop-turn.invariant
+    c.in_ok-next.ensures c.in-On.is
 
-pub returns-else-goes_on : goal.returns-else-goes_on
-returns-else-goes_on g c =
-    λ well.
-    played_from_zeros c.start.result _ _ _ _ c.loop-turns.turns c.loop-turns.next _ c.start.ensures c.loop-turns.invariant.stays
-    (inr (c.goes_on.ensures.last c.if-goes_on.false))
+pub returns-in-Over : goal.returns-in-Over
+returns-in-Over g c =
+    let turn = c.loop-turn.turn in
+    let came = c.in_ok-next.next in
+    played_from_zeros c.start-s.result c.units-units.result _ _ _ _ (all_turns - (turn + 1)) came _ c.start-s.ensures c.units-units.ensures
+    (turn_by_turn _ all_turns turn (On c.loop-turn.s) came came _ _ _ _ _ _ c.loop-turn-test.true c.loop-turn.invariant c.in_ok-next.ensures refl)
+    (inr (elim c.in-Over.is [
+      | inl over ↦ subst IsLast (sym over) tt
+      | inr no_room ↦ subst IsLast (sym no_room) tt
+    ]))
 
-pub returns-after-loop-turns : goal.returns-after-loop-turns
-returns-after-loop-turns g c =
-    λ well.
-    played_from_zeros c.start.result _ _ _ _ c.loop-turns.turns c.loop-turns.next _ c.start.ensures c.loop-turns.invariant.stays
-    (inl (omega (arith, c.loop-turns-test.false)))
+pub returns : goal.returns
+returns g c =
+    played_from_zeros c.start-s.result c.units-units.result _ _ _ _ (all_turns - c.loop-turn.turn) (On c.loop-turn.s) _ c.start-s.ensures c.units-units.ensures c.loop-turn.invariant
+    (inl (omega (arith, c.loop-turn-test.false)))

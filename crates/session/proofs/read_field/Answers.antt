@@ -1,27 +1,15 @@
 -- The opening and what it wants after it are read one after the other; less is read only where less is there.
 -- The buffer has room for both, and no opening wants less than itself.
-use Rattle.std.proofs.Common.{arith, ◌≡◌, ◌-◌, ◌++◌, length, length-take, length-append, length-drop, take, drop}
-use Rattle.session.proofs.Fields.{both_read, cut_read, wanted_least, wanted_most, whole_read}
+use Rattle.std.proofs.Common.{arith, ◌≡◌, ◌-◌, ◌++◌, length, length-take, length-append, length-drop, drop}
+use Rattle.std.proofs.lemmas.Result.{on_ok_weaker}
+use Rattle.session.proofs.Fields.{both_read, cut_read, whole_read}
 use Rattle.session.proofs.read_field.Goals as goal
-use Rattle.session.proofs.read_field.Goals.{then-opening-via-then-opening, then-opening-via-else-opening+then-opening-lt3}
 
-pub returns-then-opening-clause-field : goal.returns-then-opening-clause-field
-returns-then-opening-clause-field g c =
-    λ well long.
+pub returns-then-opening-lt3-clause-field : goal.returns-then-opening-lt3-clause-field
+returns-then-opening-lt3-clause-field g c =
     let three : length c.read_full-opening.new.buffer ≡ 3 = omega (arith, c.read_full-opening.auto.buffer, length-take 3 c.args.field.now) in
-    elim c.then-opening.branch [
-      | then-opening-via-then-opening w ↦ cc (well, w.if-opening.true)
-      | then-opening-via-else-opening+then-opening-lt3 w ↦
-          cut_read _ _ c.read_full-opening.result.bytes c.read_full-opening.new.buffer _ w.if-opening-lt3.true three (c.read_full-opening.ensures.full well)
-    ]
-
-pub returns-then-field-wanted-clause-field : goal.returns-then-field-wanted-clause-field
-returns-then-field-wanted-clause-field g c =
-    λ well long.
-    absurd (omega (arith, wanted_most (take 3 (c.read_full-opening.new.buffer ++ drop 3 c.args.field.now)), c.wanted-wanted.ensures, c.if-field-wanted.true, c.read_full-opening.auto.buffer, length-take 3 c.args.field.now, length-append c.read_full-opening.new.buffer (drop 3 c.args.field.now), length-drop 3 c.args.field.now))
-
-pub returns-then-wanted-lt3-clause-field : goal.returns-then-wanted-lt3-clause-field
-returns-then-wanted-lt3-clause-field g c = λ well long. absurd (omega (arith, wanted_least (take 3 (c.read_full-opening.new.buffer ++ drop 3 c.args.field.now)), c.wanted-wanted.ensures))
+    on_ok_weaker _ (cut_read _ _ c.read_full-opening.result.bytes c.read_full-opening.new.buffer _ c.if-opening-lt3.true three)
+    c.read_full-opening.ensures.full
 
 pub returns-clause-bytes : goal.returns-clause-bytes
 returns-clause-bytes g c =
@@ -32,10 +20,12 @@ returns-clause-bytes g c =
 
 pub returns-clause-field : goal.returns-clause-field
 returns-clause-field g c =
-    λ well long.
     let three : length c.read_full-opening.new.buffer ≡ 3 = omega (arith, c.read_full-opening.auto.buffer, length-take 3 c.args.field.now) in
     let opened = c.read_full-opening.new.buffer ++ drop 3 c.args.field.now in
-    whole_read _ _ _ c.read_full-opening.result.bytes c.read_full-rest.result.bytes c.wanted-wanted.result c.read_full-opening.new.buffer _
+    on_ok_weaker _
+    (whole_read _ _ _ c.read_full-opening.result.bytes c.read_full-rest.result.bytes c.wanted-wanted.result c.read_full-opening.new.buffer _
     c.read_full-rest.new.buffer c.if-opening-lt3.false three c.read_full-rest.ensures.within
-    (omega (arith, length-append c.read_full-opening.new.buffer (drop 3 c.args.field.now))) c.wanted-wanted.ensures (omega (arith, c.read_full-rest.auto.buffer, length-take (c.wanted-wanted.result - 3) (drop 3 opened), length-drop 3 opened))
-    (c.read_full-opening.ensures.full c.if-opening.false) (c.read_full-rest.ensures.full well)
+    (omega (arith, length-append c.read_full-opening.new.buffer (drop 3 c.args.field.now))) c.wanted-wanted.ensures
+    (omega (arith, c.read_full-rest.auto.buffer, length-take (c.wanted-wanted.result - 3) (drop 3 opened), length-drop 3 opened))
+    c.read_full-opening.ensures.bytes)
+    c.read_full-rest.ensures.full

@@ -1,49 +1,44 @@
--- Every piece before the i-th lies in memory, and what they do not have of the bytes is left.
+-- Every piece so far lies in memory, and what they do not have of the bytes is left.
 -- A piece outside refuses all; at the end nothing may be left.
-use Prim.Native.Nat.{◌-◌}
 use mathlib.Core.Path.{◌≡◌}
 use native.Mathlib.Numerals.{add-one}
 use native.Mathlib.Omega.{arith}
-use lib.ListN.{get_or, length}
+use lib.ListN.{length}
 use Rattle.transfer.specs.Runs.{sum}
 use Rattle.wire.proofs.Decided.{all_more}
-use Rattle.wire.proofs.Promises.{says_eqb, says_no, says_yes}
+use Rattle.wire.proofs.Promises.{says_eqb}
+use Rattle.std.proofs.Common.{length-append, rules}
+use Rattle.std.proofs.lemmas.Slice.Zip.{zip_turn, zip_end}
 use Rattle.transfer.proofs.pieces_fit.Goals as goal
 
-pub loop-i-init : goal.loop-i-init
+pub loop-n-init : goal.loop-n-init
 unfolding sum
-loop-i-init c = (omega arith, (λ k h. absurd (omega arith), omega arith))
+loop-n-init c = (λ k h. absurd (omega arith), omega arith)
 
-pub piece_fits-requires : goal.piece_fits-requires
-piece_fits-requires c = tt
+pub returns-then-long-from : goal.returns-then-long-from
+returns-then-long-from c =
+    let turn =
+    zip_turn c.args.lengths.now c.args.addresses.now c.loop-n.yielded c.into_iter-n-iterator.result c.loop-n.n-iterator c.next.new.self _ (search rules) (search rules)
+    c.loop-n.yielded_by (c.in-Some.n, c.in-Some.at) c.in-Some.is c.next.ensures.steps in
+    λ f. omega (arith, f.inside (length c.loop-n.yielded) turn.0, turn.2 0, turn.3 0)
 
-pub returns-then-not-piece_fits : goal.returns-then-not-piece_fits
-returns-then-not-piece_fits c =
-    let now = c.loop-i in
-    λ f. says_no c.piece_fits.result _ c.if-not-piece_fits.true c.piece_fits.ensures (f.inside now.i (omega arith))
-
-pub overflow_cast-n : goal.overflow_cast-n
-overflow_cast-n c = omega (arith, c.shared_slice_known-in-loop-i-1.given c.loop-i.i)
-
-pub less-left-requires : goal.less-left-requires
-less-left-requires c = tt
-
-pub loop-i-preserved : goal.loop-i-preserved
+pub loop-n-preserved : goal.loop-n-preserved
 unfolding sum
-loop-i-preserved c =
-    let piece = c.piece_fits in
-    let now = c.loop-i in
-    let fits = says_yes piece.result _ c.if-not-piece_fits.false piece.ensures in (
-      omega arith,
-      (rw add-one (all_more _ now.i now.invariant.1.0 fits), rw add-one (omega arith)),
-    )
+loop-n-preserved c =
+    let turn =
+    zip_turn c.args.lengths.now c.args.addresses.now c.loop-n.yielded c.into_iter-n-iterator.result c.loop-n.n-iterator c.next.new.self _ (search rules) (search rules)
+    c.loop-n.yielded_by (c.in-Some.n, c.in-Some.at) c.in-Some.is c.next.ensures.steps in
+    rw (length-append, add-one) (all_more _ _ c.loop-n.invariant.0 (omega (arith, turn.2 0, turn.3 0)), omega (arith, turn.2 0))
 
 pub returns : goal.returns
 returns c =
     let a = c.args in
-    let now = c.loop-i in
-    let done : now.i ≡ length a.lengths.now = omega arith in
-    let left : now.left ≡ a.bytes - sum (λ k. get_or a.lengths.now k 0) (length a.lengths.now) = rw done at now.invariant.1.1 in
-    says_eqb now.left 0 _
-    (λ none. record { pairs = c.requires; inside = rw done at now.invariant.1.0; enough = omega arith })
-    (λ some f. some (omega (arith, f.enough)))
+    let pairs : length a.addresses.now ≡ length a.lengths.now = c.requires in
+    let end =
+    zip_end a.lengths.now a.addresses.now c.loop-n.yielded c.into_iter-n-iterator.result c.loop-n.n-iterator c.next.new.self _ (search rules) (search rules)
+    c.loop-n.yielded_by c.in-None.is c.next.ensures.steps in
+    let all : length c.loop-n.yielded ≡ length a.lengths.now = omega (arith, end) in
+    let so_far = rw all at c.loop-n.invariant in
+    says_eqb c.loop-n.left 0 _
+    (λ none. record { pairs = pairs; inside = so_far.0; enough = omega (arith, so_far.1) })
+    (λ some f. some (omega (arith, f.enough, so_far.1)))

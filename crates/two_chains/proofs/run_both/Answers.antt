@@ -14,8 +14,8 @@ returns-in-SecondThenFirst c =
     let a = c.args in
     let y = c.in_turn-exchanged in
     let l = y.new in
-    let lent = both_of a.host1.now a.host2.now a.image0.now a.image1.now a.events1.now a.events2.now a.map0.now a.map1.now a.units in
+    let lent = both_of a.host1.now a.host2.now a.image0.now a.image1.now a.events1.now a.events2.now a.units.now in
     exchanged (chain_of a.one) (chain_of a.two) lent y.result
-    (both_of l.host1 l.host2 l.image0 l.image1 l.events2 l.events1 l.map0 l.map1 y.result.units)
+    (both_of l.host1 l.host2 l.image0 l.image1 l.events2 l.events1 l.units)
     y.ensures
     ∙ ap (λ (o : Order). ran_both o (chain_of a.one) (chain_of a.two) lent) (sym c.in-SecondThenFirst.is)

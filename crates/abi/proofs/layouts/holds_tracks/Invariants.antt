@@ -1,13 +1,9 @@
 -- Every track before the k-th stands in the bytes; the loop is left at the first that does not, or at the end.
--- The words are the first tracks of the table where each of them is.
-use Prim.Native.Nat.{ℕ, ◌+◌, ◌*◌, ◌-◌, ◌≤◌, ◌<◌}
+use Prim.Native.Nat.{ℕ, ◌+◌, ◌*◌, ◌<◌}
 use mathlib.Core.Path.{◌≡◌}
 use lib.ListN.{get_or}
 use Rattle.wire.specs.Words.{be32}
 use Rattle.abi.proofs.layouts.holds_tracks.Given as goal
 
 abbrev pub invariant-loop-k : goal.invariant-loop-k
-invariant-loop-k l = (l.k ≤ l.m) × ((i : ℕ) → i < l.k → be32 l.bytes (20 + 4 * i) ≡ get_or l.table i 0)
-
-abbrev pub decreases-loop-k : goal.decreases-loop-k
-decreases-loop-k l = l.m - l.k
+invariant-loop-k l = (i : ℕ) → i < l.k → be32 l.bytes (20 + 4 * i) ≡ get_or l.track-items i 0

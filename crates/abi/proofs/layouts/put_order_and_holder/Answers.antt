@@ -6,7 +6,7 @@ pub returns : goal.returns
 returns c =
     rw (
       c.put_two.ensures,
-      c.number.ensures,
+      c.holder_number.ensures,
       c.holder.ensures,
       c.order_byte-order.ensures,
       c.by_head.ensures,

@@ -4,25 +4,25 @@ use Prim.Native.Nat.{◌*◌, min}
 use mathlib.Core.Path.{◌≡◌, refl}
 use native.Mathlib.Numerals.{add-one}
 use native.Mathlib.Omega.{arith}
+use lib.ListN.{take}
 use Rattle.abi.specs.Layouts.{words_from}
-use Rattle.abi.proofs.Tracks.{one_more_read}
+use Rattle.abi.proofs.Tracks.{head_read, one_more_read}
 use Rattle.wire.specs.Storing.{written}
 use Rattle.abi.proofs.layouts.read_tracks.Goals as goal
 
 pub loop-i-init : goal.loop-i-init
 unfolding written words_from
-loop-i-init c = (omega arith, refl)
+loop-i-init c = refl
 
 pub loop-i-preserved : goal.loop-i-preserved
 loop-i-preserved c =
     let a = c.args in
-    let at-loop = c.loop-i in (
-      omega arith,
-      rw (at-loop.invariant.1, c.be32.ensures, add-one at-loop.i) (one_more_read a.table.now a.bytes.now at-loop.i),
-    )
+    let now = c.loop-i in
+    rw (now.invariant, c.be32.ensures, add-one now.i) (one_more_read (take (2 * c.in_room-count.result) a.table.now) a.bytes.now now.i)
 
 pub returns : goal.returns
 returns c =
     let a = c.args in
     let done : c.loop-i.i ≡ 2 * min a.pairs 32 = omega arith in
-    rw done at c.loop-i.invariant.1
+    let many : 2 * c.in_room-count.result ≡ 2 * min a.pairs 32 = omega arith in
+    rw (c.loop-i.invariant, done, many) (head_read a.table.now a.bytes.now (2 * min a.pairs 32) (omega arith))

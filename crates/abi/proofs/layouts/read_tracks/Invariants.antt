@@ -1,13 +1,8 @@
 -- After i turns the first i tracks are read and the rest of the table is as it was.
--- A turn reads one track more; after the last the tracks of all pairs that count are read.
-use Prim.Native.Nat.{◌-◌, ◌≤◌}
 use mathlib.Core.Path.{◌≡◌}
 use Rattle.abi.specs.Layouts.{words_from}
 use Rattle.wire.specs.Storing.{written}
 use Rattle.abi.proofs.layouts.read_tracks.Given as goal
 
 abbrev pub invariant-loop-i : goal.invariant-loop-i
-invariant-loop-i l = (l.i ≤ l.count) × (l.table ≡ written l.initial.table 0 (words_from l.bytes 20 l.i))
-
-abbrev pub decreases-loop-i : goal.decreases-loop-i
-decreases-loop-i l = l.count - l.i
+invariant-loop-i l = l.track-items ≡ written l.initial.track-items 0 (words_from l.bytes 20 l.i)

@@ -5,15 +5,15 @@ use native.Mathlib.Omega.{arith}
 use Rattle.geometry.proofs.Answers.{at_sector, no_sector}
 use Rattle.abi.proofs.places.stand.Goals as goal
 
-pub returns-in_default : goal.returns-in_default
-returns-in_default c = rw c.in_default.is
-
-pub returns-in_default-sector : goal.returns-in_default-sector
-returns-in_default-sector c =
+pub unreachable-requires : goal.unreachable-requires
+unreachable-requires c =
     let out = no_sector _ _ (sym c.sector.ensures ∙ c.in_default-sector.is) in
-    absurd (omega (arith, c.requires _ c.in-At.is))
+    omega (arith, out, c.requires _ c.in-Some.is)
+
+pub returns-in_default : goal.returns-in_default
+returns-in_default c = rw (c.in_default.is, c.code.ensures)
 
 pub returns : goal.returns
 returns c =
-    let at = at_sector _ _ _ _ (sym c.sector.ensures ∙ c.in-At-sector.is) in
-    rw (c.in-At.is, at.1.0, at.1.1)
+    let at = at_sector _ _ _ (sym c.sector.ensures ∙ c.in-Some-sector.is) in
+    rw (c.in-Some.is, at.1.0, at.1.1)

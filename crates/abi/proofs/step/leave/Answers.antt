@@ -7,4 +7,4 @@ put_outcome-requires c = c.requires.1.1
 
 pub returns : goal.returns
 returns c =
-    record { zero = c.leave_record.ensures; one = c.leave_record-2.ensures; told = rw (c.put_outcome.ensures, c.number.ensures, c.flag-follow.ensures, c.goes_on.ensures) }
+    record { zero = c.leave_record.ensures; one = c.leave_record-2.ensures; told = rw (c.put_outcome.ensures, c.from.ensures, c.block_number.ensures, c.flag-follow.ensures, c.goes_on.ensures) }

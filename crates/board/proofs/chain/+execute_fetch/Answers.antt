@@ -6,7 +6,6 @@ use Prim.Native.Nat.{ℕ, ◌+◌, ◌-◌}
 use Rattle.answers.specs.declared.RunAnswer.{RunAnswer}
 use Rattle.wire.proofs.Promises.{says_no, says_yes}
 use Rattle.board.specs.Chain.{fetched}
-use Rattle.board.specs.Records.{units_in}
 use Rattle.board.specs.Run.{world_of}
 use Rattle.board.specs.Steps.{next_at}
 use Rattle.board.proofs.Chains.{executed_on, fetched_bad, fetched_on, fetched_spent}
@@ -18,17 +17,17 @@ execute-returns-then-s t c =
     let a = c.args in
     let s = c.step-step in
     let n = s.new in
-    let w = (world_of a.c a.host.now a.image0.now a.image1.now a.events.now a.map0.now a.map1.now (units_in a.record0.now a.record1.now)) in
-    let w' = (world_of a.c n.host n.image0 n.image1 n.events n.map0 n.map1 (units_in n.record0 n.record1)) in
+    let w = (world_of a.c a.host.now a.image0.now a.image1.now a.events.now a.units.now) in
+    let w' = (world_of a.c n.host n.image0 n.image1 n.events n.units) in
     went_the_same _ _ _ _ _ c.fetch.result
-    (executed_on (fetched a.left) a.count a.at w w' _ s.ensures.to c.in-Ended.is c.if-s.true)
+    (executed_on (fetched a.left) a.count a.at w w' _ s.ensures.to c.in-Ok.is c.if-s.true)
     (next_stepped a.left a.count a.at w w' _ s.ensures.to)
     (rw c.counted-count.ensures at c.fetch.ensures)
 
 pub fetch-returns-then-left-eq0 : goal.fetch-returns-then-left-eq0
 fetch-returns-then-left-eq0 t c =
     let a = c.args in
-    let w = (world_of a.c a.host.now a.image0.now a.image1.now a.events.now a.map0.now a.map1.now (units_in a.record0.now a.record1.now)) in
+    let w = (world_of a.c a.host.now a.image0.now a.image1.now a.events.now a.units.now) in
     rw c.stopped.ensures
     (went_in RunAnswer.AllowanceSpent 0 a.count a.at a.learnt w _ _
     (fetched_spent a.left a.count a.at w c.if-left-eq0.true)
@@ -37,7 +36,7 @@ fetch-returns-then-left-eq0 t c =
 pub fetch-returns-then-not-holds_block : goal.fetch-returns-then-not-holds_block
 fetch-returns-then-not-holds_block t c =
     let a = c.args in
-    let w = (world_of a.c a.host.now a.image0.now a.image1.now a.events.now a.map0.now a.map1.now (units_in a.record0.now a.record1.now)) in
+    let w = (world_of a.c a.host.now a.image0.now a.image1.now a.events.now a.units.now) in
     let held = c.holds_block in
     rw c.stopped-then-not-holds_block.ensures
     (went_in RunAnswer.LinkBad 0 a.count a.at a.learnt w _ _
@@ -47,7 +46,7 @@ fetch-returns-then-not-holds_block t c =
 pub fetch-returns : goal.fetch-returns
 fetch-returns t c =
     let a = c.args in
-    let w = (world_of a.c a.host.now a.image0.now a.image1.now a.events.now a.map0.now a.map1.now (units_in a.record0.now a.record1.now)) in
+    let w = (world_of a.c a.host.now a.image0.now a.image1.now a.events.now a.units.now) in
     let held = c.holds_block in
     let one : a.left ≡ a.left - 1 + 1 = omega arith in
     went_the_same _ _ _ _ _ c.execute.result

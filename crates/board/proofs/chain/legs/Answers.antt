@@ -3,7 +3,6 @@
 use mathlib.Core.Path.{◌∙◌, refl}
 use native.Mathlib.Omega.{arith}
 use Rattle.wire.proofs.Promises.{says_no, says_yes}
-use Rattle.board.specs.Records.{units_in}
 use Rattle.board.specs.Run.{world_of}
 use Rattle.board.proofs.Legs.{between_last, between_on, spare_fewer}
 use Rattle.board.proofs.Chains.{ended_the_same}
@@ -24,8 +23,8 @@ returns-then-not-is_spent c =
     let n = c.loop-rest in
     let a = c.args in
     let f = c.fetch-leg in
-    let w = world_of a.c n.host n.image0 n.image1 n.events n.map0 n.map1 (units_in n.record0 n.record1) in
-    let w' = world_of a.c f.new.host f.new.image0 f.new.image1 f.new.events f.new.map0 f.new.map1 (units_in f.new.record0 f.new.record1) in
+    let w = world_of a.c n.host n.image0 n.image1 n.events n.units in
+    let w' = world_of a.c f.new.host f.new.image0 f.new.image1 f.new.events f.new.units in
     between_last 8 _ w n.known n.from n.rest n.tally (omega (arith, c.loop-rest-test.true)) n.invariant.0 w' f.result f.ensures
     (says_no c.is_spent.result _ c.if-not-is_spent.true c.is_spent.ensures)
 
@@ -40,8 +39,8 @@ loop-rest-preserved c =
     let n = c.loop-rest in
     let a = c.args in
     let f = c.fetch-leg in
-    let w = world_of a.c n.host n.image0 n.image1 n.events n.map0 n.map1 (units_in n.record0 n.record1) in
-    let w' = world_of a.c f.new.host f.new.image0 f.new.image1 f.new.events f.new.map0 f.new.map1 (units_in f.new.record0 f.new.record1) in (
+    let w = world_of a.c n.host n.image0 n.image1 n.events n.units in
+    let w' = world_of a.c f.new.host f.new.image0 f.new.image1 f.new.events f.new.units in (
       between_on 8 _ w n.known n.from n.rest n.tally (omega (arith, c.loop-rest-test.true)) n.invariant.0 w' f.result f.ensures
           (says_yes c.is_spent.result _ c.if-not-is_spent.false c.is_spent.ensures) f.auto.events,
       f.auto.host ∙ n.invariant.1,

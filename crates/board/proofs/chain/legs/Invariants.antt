@@ -3,14 +3,13 @@
 use lib.ListN.{length}
 use mathlib.Core.Path.{◌≡◌}
 use Rattle.board.specs.Chain.{fetched}
-use Rattle.board.specs.Records.{units_in}
 use Rattle.board.specs.Run.{world_of}
 use Rattle.board.proofs.Legs.{Between}
 use Rattle.board.proofs.chain.legs.Given as goal
 
 abbrev pub invariant-loop-rest : goal.invariant-loop-rest
-invariant-loop-rest l = Between (fetched l.left l.initial.tally l.at (world_of l.c l.initial.host l.initial.image0 l.initial.image1 l.initial.events l.initial.map0 l.initial.map1 (units_in l.initial.record0 l.initial.record1)))
-    (world_of l.c l.host l.image0 l.image1 l.events l.map0 l.map1 (units_in l.record0 l.record1)) l.known l.from l.rest l.tally ×
+invariant-loop-rest l = Between (fetched l.left l.initial.tally l.at (world_of l.c l.initial.host l.initial.image0 l.initial.image1 l.initial.events l.initial.units))
+    (world_of l.c l.host l.image0 l.image1 l.events l.units) l.known l.from l.rest l.tally ×
     (length l.host ≡ length l.initial.host) × (length l.image0 ≡ length l.initial.image0) × (length l.image1 ≡ length l.initial.image1) × (length l.events ≡ length l.initial.events)
 
 abbrev pub decreases-loop-rest : goal.decreases-loop-rest

@@ -1,5 +1,5 @@
--- The checks in their order, each by its law; then the chain, on the records as numbers.
--- A record comes back from its numbers, so the chain begins with the records that came and the outcome has those that it left.
+-- The checks in their order, each by its law; then the chain.
+-- What the chain ends with is what the run came to.
 use native.Mathlib.Omega.{arith}
 use Rattle.answers.specs.declared.RunAnswer.{RunAnswer}
 use Rattle.wire.proofs.Promises.{says_no, says_yes}
@@ -11,7 +11,7 @@ use Rattle.board.proofs.chain.run.Goals as goal
 pub returns-then-not-holds_entries : goal.returns-then-not-holds_entries
 returns-then-not-holds_entries c =
     let a = c.args in
-    let w = (world_of a.c a.host.now a.image0.now a.image1.now a.events.now a.map0.now a.map1.now a.units) in
+    let w = (world_of a.c a.host.now a.image0.now a.image1.now a.events.now a.units.now) in
     let room = c.holds_entries in
     let none = says_no room.result _ c.if-not-holds_entries.true room.ensures in
     rw c.refused.ensures
@@ -20,7 +20,7 @@ returns-then-not-holds_entries c =
 pub returns-then-not-is_allowance : goal.returns-then-not-is_allowance
 returns-then-not-is_allowance c =
     let a = c.args in
-    let w = (world_of a.c a.host.now a.image0.now a.image1.now a.events.now a.map0.now a.map1.now a.units) in
+    let w = (world_of a.c a.host.now a.image0.now a.image1.now a.events.now a.units.now) in
     let room = c.holds_entries in
     let allowed = c.is_allowance in
     rw c.refused-then-not-is_allowance.ensures
@@ -30,7 +30,7 @@ returns-then-not-is_allowance c =
 pub returns-then-not-holds_block : goal.returns-then-not-holds_block
 returns-then-not-holds_block c =
     let a = c.args in
-    let w = (world_of a.c a.host.now a.image0.now a.image1.now a.events.now a.map0.now a.map1.now a.units) in
+    let w = (world_of a.c a.host.now a.image0.now a.image1.now a.events.now a.units.now) in
     let room = c.holds_entries in
     let allowed = c.is_allowance in
     let held = c.holds_block in
@@ -41,8 +41,8 @@ returns-then-not-holds_block c =
     (says_yes allowed.result _ c.if-not-is_allowance.false allowed.ensures)
     (says_no held.result _ c.if-not-holds_block.true held.ensures)))
 
-pub legs-end-requires : goal.legs-end-requires
-legs-end-requires c =
+pub legs-requires : goal.legs-requires
+legs-requires c =
     let room = c.holds_entries in
     let allowed = c.is_allowance in
     let long = says_yes room.result _ c.if-not-holds_entries.false room.ensures in
@@ -52,16 +52,15 @@ legs-end-requires c =
 pub returns : goal.returns
 returns c =
     let a = c.args in
-    let w = (world_of a.c a.host.now a.image0.now a.image1.now a.events.now a.map0.now a.map1.now a.units) in
+    let w = (world_of a.c a.host.now a.image0.now a.image1.now a.events.now a.units.now) in
     let room = c.holds_entries in
     let allowed = c.is_allowance in
     let held = c.holds_block in
-    let f = c.legs-end in
-    rw (c.outcome_with.ensures, c.units_of.ensures)
+    let f = c.legs in
     (came_to _ _ f.result
     (ended_the_same _ _ _ f.result
     (ran_chain a.first a.allowance w
     (says_yes room.result _ c.if-not-holds_entries.false room.ensures)
     (says_yes allowed.result _ c.if-not-is_allowance.false allowed.ensures)
     (says_yes held.result _ c.if-not-holds_block.false held.ensures))
-    (rw (c.nothing.ensures, c.numbers-record0.ensures.1, c.numbers-record1.ensures.1) at f.ensures)))
+    (rw c.nothing.ensures at f.ensures)))

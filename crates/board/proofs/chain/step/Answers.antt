@@ -2,9 +2,6 @@
 -- What the block does there is its effect on the world, and what it tells of its unit is known from then on.
 use Rattle.unit.specs.declared.UnitNumber.{UnitNumber}
 use Rattle.block.specs.Steps.{three}
-use Rattle.board.specs.Records.{unit_in, units_in}
-use Rattle.block.specs.declared.Done.{Done}
-use Rattle.unit.specs.Standing.{by_value}
 use Rattle.board.proofs.Chains.{step_by, told_then}
 use Rattle.board.specs.Run.{world_of}
 use Rattle.board.proofs.chain.step.Goals as goal
@@ -12,27 +9,25 @@ use Rattle.board.proofs.chain.step.Goals as goal
 pub returns-in-Zero : goal.returns-in-Zero
 returns-in-Zero c =
     let a = c.args in
-    let w = (world_of a.c a.host.now a.image0.now a.image1.now a.events.now a.map0.now a.map1.now (units_in a.record0.now a.record1.now)) in
-    let block = c.work_on-told in
-    let done : Done = record { unit = by_value (unit_in block.new.held block.new.map); told = block.result } in
-    let told = told_then _ _ _ _ _ done block.ensures in
+    let w = (world_of a.c a.host.now a.image0.now a.image1.now a.events.now a.units.now) in
+    let block = c.run_block-told in
+    let told = told_then _ _ _ _ _ _ block.ensures in
     record {
       to =
           step_by w a.at a.i _ UnitNumber.Zero c.unit_at.ensures c.in-Zero.is
-          (three block.new.host block.new.image block.new.events) block.new.map done _ block.ensures;
+          (three block.new.host block.new.image block.new.events) block.new.unit block.result block.ensures;
       knows = (told, c.requires.1.1);
     }
 
 pub returns-in-One : goal.returns-in-One
 returns-in-One c =
     let a = c.args in
-    let w = (world_of a.c a.host.now a.image0.now a.image1.now a.events.now a.map0.now a.map1.now (units_in a.record0.now a.record1.now)) in
-    let block = c.work_on-told-in-One in
-    let done : Done = record { unit = by_value (unit_in block.new.held block.new.map); told = block.result } in
-    let told = told_then _ _ _ _ _ done block.ensures in
+    let w = (world_of a.c a.host.now a.image0.now a.image1.now a.events.now a.units.now) in
+    let block = c.run_block-told-in-One in
+    let told = told_then _ _ _ _ _ _ block.ensures in
     record {
       to =
           step_by w a.at a.i _ UnitNumber.One c.unit_at.ensures c.in-One.is
-          (three block.new.host block.new.image block.new.events) block.new.map done _ block.ensures;
+          (three block.new.host block.new.image block.new.events) block.new.unit block.result block.ensures;
       knows = (c.requires.1.0, told);
     }

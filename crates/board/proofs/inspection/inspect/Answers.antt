@@ -4,14 +4,13 @@ use Prim.Native.Nat.{◌^◌}
 use native.Mathlib.Omega.{arith}
 use Rattle.unit.specs.declared.UnitNumber.TheVariants.{Zero, One}
 use Rattle.board.proofs.Parts.{InItsImage, image_below, part_cut, part_lies, part_place}
-use Rattle.unit.specs.Standing.{unit_of}
 use Rattle.board.proofs.inspection.inspect.Goals as goal
 
 pub overflow_add-end : goal.overflow_add-end
 overflow_add-end c =
     let lies : let a = c.args in InItsImage a.image0.now a.image1.now c.part_of-part.result = let a = c.args in
     rw c.part_of-part.ensures
-    (part_lies a.image0.now a.image1.now (unit_of a.units.zero a.map0.now) (unit_of a.units.one a.map1.now) a.unit a.place) in
+    (part_lies a.image0.now a.image1.now a.units.now.zero a.units.now.one a.unit a.place) in
     let p = c.part_of-part.result in
     let a = c.args in
     let fits = image_below a.image0.now a.image1.now p.unit (2 ^ 64) (omega arith) (omega arith) in
@@ -21,7 +20,7 @@ pub slice_bounds-result-end : goal.slice_bounds-result-end
 slice_bounds-result-end c =
     let lies : let a = c.args in InItsImage a.image0.now a.image1.now c.part_of-part.result = let a = c.args in
     rw c.part_of-part.ensures
-    (part_lies a.image0.now a.image1.now (unit_of a.units.zero a.map0.now) (unit_of a.units.one a.map1.now) a.unit a.place) in
+    (part_lies a.image0.now a.image1.now a.units.now.zero a.units.now.one a.unit a.place) in
     rw c.in-Zero.is at lies
 
 pub returns-in-Zero : goal.returns-in-Zero
@@ -35,7 +34,7 @@ pub slice_bounds-result-end-in-One : goal.slice_bounds-result-end-in-One
 slice_bounds-result-end-in-One c =
     let lies : let a = c.args in InItsImage a.image0.now a.image1.now c.part_of-part.result = let a = c.args in
     rw c.part_of-part.ensures
-    (part_lies a.image0.now a.image1.now (unit_of a.units.zero a.map0.now) (unit_of a.units.one a.map1.now) a.unit a.place) in
+    (part_lies a.image0.now a.image1.now a.units.now.zero a.units.now.one a.unit a.place) in
     rw c.in-One.is at lies
 
 pub returns-in-One : goal.returns-in-One

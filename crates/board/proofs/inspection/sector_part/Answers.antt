@@ -7,7 +7,7 @@ use Rattle.geometry.specs.Drive.{need}
 use Rattle.geometry.proofs.Answers.{at_sector, no_sector}
 use Rattle.board.specs.Inspection.{Inspectable}
 use Rattle.board.proofs.Parts.{sector_not_there, sector_there}
-use Rattle.unit.specs.Standing.{geometry, unit_of}
+use Rattle.unit.specs.Standing.{geometry}
 use Rattle.geometry.specs.Answers.{sector_at}
 use Rattle.board.proofs.inspection.sector_part.Goals as goal
 
@@ -19,36 +19,36 @@ returns-then-not-counts_as_initialized c =
 
 pub returns-then-long-need : goal.returns-then-long-need
 returns-then-long-need c =
-    let needed : let a = c.args in c.need.result ≡ need (geometry (unit_of a.u a.table.now)) = rw c.geometry-g.ensures at c.need.ensures in
+    let needed : let a = c.args in c.need.result ≡ need (geometry a.u.now) = rw c.geometry-g.ensures at c.need.ensures in
     let all = needed in
     c.no_part-then-long-need.ensures ∙ sym (sector_not_there _ _ _ _ (λ there. omega (arith, there.image)))
 
-pub returns-in-At : goal.returns-in-At
-returns-in-At c =
-    let needed : let a = c.args in c.need.result ≡ need (geometry (unit_of a.u a.table.now)) = rw c.geometry-g.ensures at c.need.ensures in
+pub returns-in-Some : goal.returns-in-Some
+returns-in-Some c =
+    let needed : let a = c.args in c.need.result ≡ need (geometry a.u.now) = rw c.geometry-g.ensures at c.need.ensures in
     let sector_is : let a = c.args in
-    c.sector.result ≡ sector_at (geometry (unit_of a.u a.table.now)) a.place = rw c.geometry-g.ensures at c.sector.ensures in
+    c.sector.result ≡ sector_at (geometry a.u.now) a.place = rw c.geometry-g.ensures at c.sector.ensures in
     let a = c.args in
     let u = c.counts_as_initialized in
     let g = c.geometry-g in
     let all = needed in
     let found =
-    at_sector (geometry (unit_of a.u a.table.now)) a.place c.in-At.first c.in-At.mark
-    (sym sector_is ∙ c.in-At.is) in
-    let there : Inspectable (unit_of a.u a.table.now) a.long a.place =
+    at_sector (geometry a.u.now) a.place _
+    (sym sector_is ∙ c.in-Some.is) in
+    let there : Inspectable a.u.now a.long a.place =
     record {
       initialized = says_yes u.result _ c.if-not-counts_as_initialized.false u.ensures;
       inside = found.0;
       image = omega arith;
     } in
-    rw (found.1.0, c.bytes_a_sector-bytes.ensures, g.ensures) (sym (sector_there a.unit (unit_of a.u a.table.now) a.long a.place there))
+    rw (found.1.0, c.bytes_a_sector-bytes.ensures, g.ensures) (sym (sector_there a.unit a.u.now a.long a.place there))
 
-pub returns-in-Outside : goal.returns-in-Outside
-returns-in-Outside c =
+pub returns-in-None : goal.returns-in-None
+returns-in-None c =
     let sector_is : let a = c.args in
-    c.sector.result ≡ sector_at (geometry (unit_of a.u a.table.now)) a.place = rw c.geometry-g.ensures at c.sector.ensures in
+    c.sector.result ≡ sector_at (geometry a.u.now) a.place = rw c.geometry-g.ensures at c.sector.ensures in
     let a = c.args in
     let out =
-    no_sector (geometry (unit_of a.u a.table.now)) a.place
-    (sym sector_is ∙ c.in-Outside.is) in
-    c.no_part-in-Outside.ensures ∙ sym (sector_not_there _ _ _ _ (λ there. omega (arith, there.inside)))
+    no_sector (geometry a.u.now) a.place
+    (sym sector_is ∙ c.in-None.is) in
+    c.no_part-in-None.ensures ∙ sym (sector_not_there _ _ _ _ (λ there. omega (arith, there.inside)))

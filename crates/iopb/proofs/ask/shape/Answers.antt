@@ -1,8 +1,8 @@
 -- The test answers whether the UIB's 18 bytes lie in host memory, and on that the definition goes by cases.
 -- Denied, the UIB is misplaced; granted, the bytes may be read, and what is read is the definition's.
+use Rattle.std.proofs.Common.{Some}
 use mathlib.Core.Path.{◌∙◌, ap, sym}
 use native.Mathlib.Omega.{arith}
-use Rattle.request.specs.declared.Shape.{Shape}
 use Rattle.wire.specs.Memory.{InMemory}
 use Rattle.wire.proofs.Promises.{says_no, says_yes}
 use Rattle.iopb.proofs.Answers.{shape_at_inside, shape_at_outside}
@@ -22,4 +22,4 @@ uib-requires c =
 pub returns : goal.returns
 returns c =
     let h = c.holds_uib in
-    ap Shape.Given c.uib.ensures ∙ sym (shape_at_inside _ _ (says_yes h.result _ c.if-not-holds_uib.false h.ensures))
+    ap Some c.uib.ensures ∙ sym (shape_at_inside _ _ (says_yes h.result _ c.if-not-holds_uib.false h.ensures))

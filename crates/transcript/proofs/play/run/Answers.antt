@@ -31,7 +31,7 @@ put_run-next-requires c = omega (arith, c.requires.0.text)
 
 pub put_blocks-end-requires : goal.put_blocks-end-requires
 put_blocks-end-requires c =
-    let lent : SessionLent = lent_of c.args.host.now c.args.image0.now c.args.image1.now c.args.text.now c.args.map0.now c.args.map1.now in
+    let lent : SessionLent = lent_of c.args.host.now c.args.image0.now c.args.image1.now c.args.text.now c.args.units.now in
     let few : c.run-done.result.blocks ≤ 64 = blocks_few c.be32-first.result (get_or c.args.field.now 7 0) (held_in c.args.s lent) c.run-done.ensures in
     let r = c.run-done.result in
     let short = run_line_short c.number.result r.blocks r.sectors (omega arith) (omega arith) (omega arith) in (
@@ -41,13 +41,13 @@ put_blocks-end-requires c =
 
 pub returns : goal.returns
 returns c =
-    let lent : SessionLent = lent_of c.args.host.now c.args.image0.now c.args.image1.now c.args.text.now c.args.map0.now c.args.map1.now in
+    let lent : SessionLent = lent_of c.args.host.now c.args.image0.now c.args.image1.now c.args.text.now c.args.units.now in
     let few : c.run-done.result.blocks ≤ 64 = blocks_few c.be32-first.result (get_or c.args.field.now 7 0) (held_in c.args.s lent) c.run-done.ensures in
     let a = c.args in
     let run = c.run-done in
     let number = c.number in
     run_went a.s lent a.at c.requires.0 run.new.host run.new.image0 run.new.image1 run.new.events
-    run.new.map0 run.new.map1 run.result run.ensures run.auto.host run.auto.image0 run.auto.image1 number.ensures
+    run.new.units run.result run.ensures run.auto.host run.auto.image0 run.auto.image1 number.ensures
     (omega arith) few (omega arith) c.put_run-next.ensures
     c.put_blocks-end.ensures ∙
     ap (λ e. went (run_heard e) a.at lent)

@@ -4,18 +4,16 @@ use Prim.Native.Nat.{◌+◌}
 use mathlib.Core.Path.{◌≡◌, refl}
 use native.Mathlib.Omega.{arith}
 use lib.ListN.{length}
-use Rattle.unit.specs.Standing.{unit_of}
 use Rattle.transfer.specs.Runs.{behind, lent}
 use Rattle.transfer.proofs.Stores.{copied_run}
 use Rattle.transfer.proofs.Carrying.{carry_more, carry_none, on_here, run_held}
-use Rattle.unit.specs.Made.{bare}
 use Rattle.transfer.proofs.carry.carry_piece.Goals as goal
 
 pub loop-done-init : goal.loop-done-init
 loop-done-init c =
     let a = c.args in
     let pre = c.requires in
-    (omega arith, (refl, (refl, carry_none (unit_of a.u a.table.now) a.span a.to_host (behind (bare a.u) a.from) a.at _ a.from pre.on)))
+    (omega arith, (refl, (refl, carry_none a.u.now a.span a.to_host (behind a.u.now a.from) a.at _ a.from pre.on)))
 
 pub ready-r-requires : goal.ready-r-requires
 ready-r-requires c =
@@ -23,7 +21,7 @@ ready-r-requires c =
     let pre = c.requires in
     let inv = c.loop-done.invariant in
     let on = inv.1.1.1.on in
-    (pre.spans, (on_here (unit_of a.u a.table.now) a.span _ c.loop-done.c on, omega (arith, on.here, pre.bytes)))
+    (pre.spans, (on_here a.u.now a.span _ c.loop-done.c on, omega (arith, on.here, pre.bytes)))
 
 pub copy_run-requires : goal.copy_run-requires
 copy_run-requires c =
@@ -31,19 +29,19 @@ copy_run-requires c =
     let pre = c.requires in
     let inv = c.loop-done.invariant in
     let r = c.ready-r in
-    let n = c.lesser-bytes in (
+    let n = c.min-bytes in (
       omega (arith, pre.memory, inv),
       rw (← inv.1.1.0) at
-          (run_held (unit_of a.u a.table.now) a.span (length a.image.now) _ n.result r.result pre.held r.ensures (omega arith) (omega (arith, r.ensures.some))),
+          (run_held a.u.now a.span (length a.image.now) _ n.result r.result pre.held r.ensures (omega arith) (omega (arith, r.ensures.some))),
     )
 
 pub on-c-requires : goal.on-c-requires
 on-c-requires c =
     let a = c.args in
     let r = c.ready-r in
-    let n = c.lesser-bytes in
+    let n = c.min-bytes in
     let held =
-    run_held (unit_of a.u a.table.now) a.span (length a.image.now) _ n.result r.result c.requires.held r.ensures (omega arith)
+    run_held a.u.now a.span (length a.image.now) _ n.result r.result c.requires.held r.ensures (omega arith)
     (omega (arith, r.ensures.some)) in
     (omega arith, omega arith)
 
@@ -53,10 +51,10 @@ loop-done-preserved c =
     let pre = c.requires in
     let now = c.loop-done in
     let r = c.ready-r in
-    let n = c.lesser-bytes in
+    let n = c.min-bytes in
     let done = c.copy_run in
     let held =
-    run_held (unit_of a.u a.table.now) a.span (length a.image.now) _ n.result r.result pre.held r.ensures (omega arith)
+    run_held a.u.now a.span (length a.image.now) _ n.result r.result pre.held r.ensures (omega arith)
     (omega (arith, r.ensures.some)) in
     let both : lent done.new.host done.new.image ≡ copied_run a.to_host (lent now.host now.image) r.result.at (a.at + now.done) n.result =
     λ i. lent (done.ensures.to i) (done.ensures.from i) in (
@@ -66,7 +64,7 @@ loop-done-preserved c =
         (
           omega arith,
           rw (c.on-c.ensures, both)
-              (carry_more (unit_of a.u a.table.now) a.span a.to_host (behind (bare a.u) a.from) a.at (lent a.host.now a.image.now)
+              (carry_more a.u.now a.span a.to_host (behind a.u.now a.from) a.at (lent a.host.now a.image.now)
               now.done n.result (lent now.host now.image) now.c r.result now.invariant.1.1.1
               (rw now.invariant.1.1.1.on.here at r.ensures)
               (omega arith) (omega arith) (omega (arith, pre.memory))),

@@ -7,21 +7,20 @@ use Rattle.wire.proofs.Numbers.{product_below}
 use Rattle.geometry.proofs.Answers.{at_sector, no_sector}
 use Rattle.transfer.proofs.Cursors.{cursor_begins}
 use Rattle.transfer.proofs.Tracks.{run_inside}
-use Rattle.unit.specs.Standing.{geometry, unit_of}
+use Rattle.unit.specs.Standing.{geometry}
 use Rattle.geometry.specs.Answers.{sector_at}
 use Rattle.transfer.proofs.carry.next_run.Goals as goal
 
-pub returns-in_default : goal.returns-in_default
-returns-in_default c =
+pub unreachable-requires : goal.unreachable-requires
+unreachable-requires c =
     let sector_is : let a = c.args in
-    c.sector.result ≡ sector_at (geometry (unit_of a.u a.table.now)) c.run_at-run.result.place = rw c.geometry.ensures at c.sector.ensures in
+    c.sector.result ≡ sector_at (geometry a.u.now) c.run_at-run.result.place = rw c.geometry.ensures at c.sector.ensures in
     let a = c.args in
     let run = c.run_at-run in
-    absurd
     (omega (
       arith,
-      no_sector (geometry (unit_of a.u a.table.now)) run.result.place (sym sector_is ∙ c.in_default.is),
-      run_inside (unit_of a.u a.table.now) a.span.volume _ _ run.result (omega (arith, c.requires)) run.ensures,
+      no_sector (geometry a.u.now) run.result.place (sym sector_is ∙ c.in_default.is),
+      run_inside a.u.now a.span.volume _ _ run.result (omega (arith, c.requires)) run.ensures,
       run.ensures,
     ))
 
@@ -35,10 +34,10 @@ overflow_add-result c = omega (arith, c.run_at-run.ensures.asked, c.struct_known
 pub returns : goal.returns
 returns c =
     let sector_is : let a = c.args in
-    c.sector.result ≡ sector_at (geometry (unit_of a.u a.table.now)) c.run_at-run.result.place = rw c.geometry.ensures at c.sector.ensures in
+    c.sector.result ≡ sector_at (geometry a.u.now) c.run_at-run.result.place = rw c.geometry.ensures at c.sector.ensures in
     let a = c.args in
     let run = c.run_at-run in
     let pre = c.requires in
-    let at = at_sector (geometry (unit_of a.u a.table.now)) run.result.place c.in-At.first c.in-At.mark (sym sector_is ∙ c.in-At.is) in
+    let at = at_sector (geometry a.u.now) run.result.place _ (sym sector_is ∙ c.in-Some.is) in
     rw (at.1.0, c.bytes_a_sector.ensures, c.geometry-2.ensures)
-    (cursor_begins (unit_of a.u a.table.now) a.span a.next (a.span.count - a.next) run.result (omega (arith, pre)) run.ensures (omega (arith, pre)) (omega (arith, pre)))
+    (cursor_begins a.u.now a.span a.next (a.span.count - a.next) run.result (omega (arith, pre)) run.ensures (omega (arith, pre)) (omega (arith, pre)))

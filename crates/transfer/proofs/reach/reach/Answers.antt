@@ -11,15 +11,15 @@ use Rattle.transfer.specs.Runs.{reached}
 use Rattle.transfer.proofs.Rows.{row_comes}
 use Rattle.transfer.proofs.reach.reach.Goals as goal
 
-pub returns-in_default : goal.returns-in_default
-returns-in_default c =
+pub unreachable-requires : goal.unreachable-requires
+unreachable-requires c =
     let a = c.args in
-    absurd (omega (arith, no_sector a.g a.place (sym c.sector.ensures ∙ c.in_default.is)))
+    (omega (arith, no_sector a.g a.place (sym c.sector.ensures ∙ c.in_default.is)))
 
 pub readable-good-requires : goal.readable-good-requires
 readable-good-requires c =
     let a = c.args in
-    let is = (at_sector a.g a.place _ _ (sym c.sector.ensures ∙ c.in-At.is)).1.1 in
+    let is = (at_sector a.g a.place _ (sym c.sector.ensures ∙ c.in-Some.is)).1.1 in
     let last = (sector_in_image a.g (length a.image.now) (a.place + (a.n - 1)) (omega arith) (omega arith)).1 in
     omega (arith, is, last, marks_consecutive a.g a.place (a.n - 1))
 
@@ -31,5 +31,5 @@ returns c =
     ∙ ap (λ (p : Progress). reached p)
     (sym
     (row_comes a.image.now a.g a.heeds a.place a.n _
-    (at_sector a.g a.place _ _ (sym c.sector.ensures ∙ c.in-At.is)).1.1
+    (at_sector a.g a.place _ (sym c.sector.ensures ∙ c.in-Some.is)).1.1
     found.result found.ensures))

@@ -2,23 +2,22 @@
 -- Both are positive, so the run has a sector.
 use mathlib.Core.Path.{ap, sym, ◌∙◌}
 use native.Mathlib.Omega.{arith}
-use Rattle.unit.specs.Standing.{unit_of}
 use Rattle.unit.specs.declared.Spot.{Spot}
 use Rattle.unit.proofs.Answers.{at_landing, no_landing}
 use Rattle.unit.proofs.Laws.{spot_inside}
 use Rattle.transfer.proofs.reach.run_at.Goals as goal
 
-pub returns-in_default : goal.returns-in_default
-returns-in_default c =
+pub unreachable-requires : goal.unreachable-requires
+unreachable-requires c =
     let a = c.args in
-    absurd (omega (arith, no_landing (unit_of a.u a.table.now) a.v a.number (sym c.land.ensures ∙ c.in_default.is)))
+    (omega (arith, no_landing a.u.now a.v a.number (sym c.land.ensures ∙ c.in_default.is)))
 
 pub returns : goal.returns
 returns c =
     let a = c.args in
-    let spot = c.in-At.spot in
-    let landed = at_landing (unit_of a.u a.table.now) a.v a.number spot (sym c.land.ensures ∙ c.in-At.is) in
-    let inside = spot_inside (unit_of a.u a.table.now) a.v a.number (omega arith) in
+    let spot = c.in-Some.spot in
+    let landed = at_landing a.u.now a.v a.number spot (sym c.land.ensures ∙ c.in-Some.is) in
+    let inside = spot_inside a.u.now a.v a.number (omega arith) in
     let is = landed.1 in
     record {
       place = ap (λ (x : Spot). x.place) is;
