@@ -8,7 +8,6 @@ use native.Mathlib.Decide.{dec_lt}
 use native.Mathlib.Nat.{pow-suc}
 use native.Mathlib.Omega.{arith}
 use lib.ListN.{length, set, length-append}
-use lib.Seq.{length-sets}
 use Rattle.block.proofs.Entries.{written_row}
 use Rattle.wire.specs.Words.{be32}
 use Rattle.transcript.specs.Steps.{Appended}
@@ -41,11 +40,6 @@ put_word {xs = xs} word ys a b = rw append_assoc (put_then a b)
 pub byte_put : (text : List ℕ) (at byte : ℕ) → Appended text at (byte ∷ []) (set text at byte) (at + 1)
 unfolding written
 byte_put text at byte = record { stored = refl; after = refl }
-
--- No text changes its length.
-pub put_keeps_length : {text text' : List ℕ} {at next : ℕ} {xs : List ℕ} → Appended text at xs text' next → length text' ≡ length text
-unfolding written
-put_keeps_length {text} {text'} {at} {next} {xs} a = rw a.stored (length-sets text at xs)
 
 -- ---- decimal numbers
 
