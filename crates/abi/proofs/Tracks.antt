@@ -2,12 +2,11 @@
 -- A word more is one element more at the end of the list, and stores in a row are one store of the lists in a row.
 use Prim.Native.Nat.{ℕ, zero, suc, ◌+◌, ◌*◌, ◌^◌, ◌≤◌, ◌<◌}
 use mathlib.Core.List.{List, [], ◌∷◌, ◌++◌}
-use Rattle.std.proofs.lemmas.List.{append-nil}
 use mathlib.Core.Path.{◌≡◌, refl, sym, ap, ◌∙◌}
 use native.Mathlib.Nat.{add_assoc, add-zero, zero-add}
 use native.Mathlib.Omega.{arith}
-use lib.ListN.{drop, drop_of_length-le, get_or, length, set, take}
-use lib.Seq.{ext_get_or, get_or-append-add, get_or-set_other, length-take-le, set-get_or, sets-eq, take-suc}
+use lib.ListN.{drop, get_or, length, set, take}
+use lib.Seq.{ext_get_or, get_or-append-add, get_or-set_other, get_or-take, length-take-le, set-get_or, sets-eq, take-suc}
 use Rattle.wire.specs.Words.{be32, four_bytes, word}
 use Rattle.wire.proofs.Laws.{word_same}
 use Rattle.block.proofs.Entries.{with32_is, written_row}
@@ -62,15 +61,18 @@ words_past xs ys at (suc n) =
 
 -- ---- a table's tracks
 
--- The words in some bytes are so many tracks where each of them is.
+-- The words in some bytes are the first tracks of a table where each of them is.
 module _ (bytes ts : List ℕ) (m : ℕ) where
-  pub each_is_there : length ts ≡ m → ((k : ℕ) → k < m → be32 bytes (20 + 4 * k) ≡ get_or ts k 0) → words_from bytes 20 m ≡ ts
-  each_is_there many each =
-      let read = length_words bytes 20 m in
-      ext_get_or 0 (words_from bytes 20 m) ts (read ∙ sym many) (λ k less. word_at bytes 20 m k (omega arith) ∙ each k (omega arith))
+  pub each_is_there :
+      m ≤ length ts → ((k : ℕ) → k < m → be32 bytes (20 + 4 * k) ≡ get_or ts k 0) → words_from bytes 20 m ≡ take m ts
+  each_is_there room each =
+      let many = length_words bytes 20 m in
+      ext_get_or 0 (words_from bytes 20 m) (take m ts) (many ∙ sym (length-take-le m ts room))
+      (λ k less. word_at bytes 20 m k (omega arith) ∙ each k (omega arith) ∙ sym (get_or-take m ts k 0 (omega arith)))
 
-  pub there_is_each : words_from bytes 20 m ≡ ts → (k : ℕ) → k < m → be32 bytes (20 + 4 * k) ≡ get_or ts k 0
-  there_is_each there k less = sym (word_at bytes 20 m k less) ∙ ap (λ (l : List ℕ). get_or l k 0) there
+  pub there_is_each : words_from bytes 20 m ≡ take m ts → (k : ℕ) → k < m → be32 bytes (20 + 4 * k) ≡ get_or ts k 0
+  there_is_each there k less =
+      sym (word_at bytes 20 m k less) ∙ ap (λ (l : List ℕ). get_or l k 0) there ∙ get_or-take m ts k 0 less
 
 -- One track more is read into a table.
 pub one_more_read :
@@ -80,16 +82,6 @@ unfolding written
 one_more_read table bytes i =
     let row = written_row table 0 (words_from bytes 20 i) (be32 bytes (20 + 4 * i) ∷ []) in
     rw (words_more bytes 20 i) (rw (zero-add, length_words) at row)
-
--- Those that are read into the head of a table are read into the table.
-pub head_read :
-    (table bytes : List ℕ) (m : ℕ) → m ≤ length table →
-    written (take m table) 0 (words_from bytes 20 m) ++ drop m table ≡ written table 0 (words_from bytes 20 m)
-head_read table bytes m fits =
-    let words = words_from bytes 20 m in
-    let many = length_words bytes 20 m in
-    let none : drop m (take m table) ≡ [] = drop_of_length-le (take m table) (omega (arith, length-take-le m table fits)) in
-    rw (at_the_head (take m table) words (omega (arith, length-take-le m table fits)), at_the_head table words (omega arith), many, none, append-nil)
 
 -- What is stored of a table: four bytes for each track, those of more tracks after those of the first.
 pub length_tracks : (ts : List ℕ) → length (track_bytes ts) ≡ 4 * length ts

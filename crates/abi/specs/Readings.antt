@@ -45,6 +45,11 @@ reading bytes =
     ite (dec_lt (length bytes) record_length) (Err Record0Short)
     (ite (counts? (record_in bytes)) (Ok (read_in bytes)) (Err NotInitialized))
 
+-- A reading whose unit, where it counts, stands in a lent one.
+abbrev pub with_unit : Result (Unit {0}) CallRefusal → UnitRecord → Result UnitRecord CallRefusal
+with_unit (Ok _) u = Ok u
+with_unit (Err e) u = Err e
+
 -- The two ways of asking for a sector are those of `Places`.
 abbrev pub lands_as : Wanted → UnitRecord → Option Spot
 lands_as (Numbered volume number) u = numbered_in volume number u

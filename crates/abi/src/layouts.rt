@@ -2,8 +2,8 @@
 ghost use Rattle.std.specs.Prelude.{cond, [], ◌∷◌, ◌≡◌, ℕ, ◌+◌, ◌*◌, ◌≤◌, ◌<◌, min, get_or, length, take};
 ghost use Rattle.abi.specs.Calls.{record_left};
 ghost use Rattle.abi.specs.Layouts.{geometry_bytes, geometry_in, holder_in, opening_bytes, order_and_holder, order_byte, outcome_bytes, record_bytes, record_in, says_initialized, track_bytes, volume_bytes, volume_in, words_from};
-ghost use Rattle.abi.specs.Unread.{filled_in, known, read_in};
-ghost use Rattle.unit.specs.Standing.{by_value};
+ghost use Rattle.abi.specs.Unread.{filled_in, known, nothing_read, read_in};
+ghost use Rattle.unit.specs.Standing.{by_value, table};
 ghost use Rattle.wire.specs.Promise.{Says};
 ghost use Rattle.wire.specs.Storing.{written};
 
@@ -73,20 +73,29 @@ fn read_tracks(bytes: &[u8], pairs: u16, table: &mut [u32; 64])
     ensures { table.new ≡ written table.old 0 (words_from bytes.now 20 (2 * min pairs 32)) }
 {
     let count = 2 * spares::in_room(pairs);
-    for (i, track) in table[..count].iter_mut().enumerate() {
-        *track = wire::be32(bytes, 20 + 4 * i);
+    for i in 0..count {
+        table[i] = wire::be32(bytes, 20 + 4 * i);
     }
 }
 
-// The unit that stands in some bytes. Its tracks that count are read into a table of which nothing was read, and no other is looked at.
-pub(crate) fn unit_in(bytes: &[u8]) -> Unit
-    requires { 276 ≤ length bytes.now }
-    ensures { result ≡ read_in bytes.now }
+// A unit of which nothing was read.
+pub(crate) fn unread() -> Unit
+    ensures { table result ≡ nothing_read }
 {
-    let value = record(bytes);
-    let mut tracks = [UNREAD; 64];
-    read_tracks(bytes, value.pairs(), &mut tracks);
-    Unit { value, tracks }
+    Unit {
+        value: Record::blank(),
+        tracks: [UNREAD; 64],
+    }
+}
+
+// Reads the unit that stands in some bytes into one of which nothing was read, where it is lent from then on. Of its tracks those that count are read, and no
+// other is looked at.
+pub(crate) fn unit_in(bytes: &[u8], u: &mut Unit)
+    requires { (276 ≤ length bytes.now) × (table u.old ≡ nothing_read) }
+    ensures { u.new ≡ read_in bytes.now }
+{
+    u.value = record(bytes);
+    read_tracks(bytes, u.value.pairs(), &mut u.tracks);
 }
 
 // How many tracks at the head of a table are known: those of the pairs that count, and all of them once a block has cleared the table.
@@ -107,8 +116,8 @@ fn holds_tracks(bytes: &[u8], m: usize, table: &[u32; 64]) -> bool
     requires { (276 ≤ length bytes.now) × (m ≤ 64) }
     ensures { Says result (words_from bytes.now 20 m ≡ take m table.now) }
 {
-    for (k, track) in table[..m].iter().enumerate() {
-        if wire::be32(bytes, 20 + 4 * k) != *track {
+    for k in 0..m {
+        if wire::be32(bytes, 20 + 4 * k) != table[k] {
             return false;
         }
     }
@@ -188,8 +197,8 @@ fn put_tracks(bytes: &mut [u8], table: &[u32; 64], m: usize)
     requires { (276 ≤ length bytes.old) × (m ≤ 64) }
     ensures { bytes.new ≡ written bytes.old 20 (track_bytes (take m table.now)) }
 {
-    for (i, track) in table[..m].iter().enumerate() {
-        wire::put32(bytes, 20 + 4 * i, *track);
+    for i in 0..m {
+        wire::put32(bytes, 20 + 4 * i, table[i]);
     }
 }
 

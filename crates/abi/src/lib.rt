@@ -8,6 +8,8 @@ ghost use Rattle.abi.specs.Calls.{called, called_as, called_of, controller_of, i
 ghost use Rattle.abi.specs.Layouts.{outcome_length, record_length};
 ghost use Rattle.abi.specs.Readings.{Asked, code_of};
 ghost use Rattle.abi.specs.Stepping.{stepped_as};
+ghost use Rattle.abi.specs.Unread.{nothing_read};
+ghost use Rattle.unit.specs.Standing.{table};
 
 use board::Units;
 use unit::{Controller, UnitNumber};
@@ -66,6 +68,16 @@ pub extern "C" fn vsmd_outcome_len() -> usize
     OUTCOME_LEN
 }
 
+// Two units of which nothing was read: each is read where it then stands, so that no table is copied.
+pub(crate) fn unread_units() -> Units
+    ensures { (table result.zero ≡ nothing_read) × (table result.one ≡ nothing_read) }
+{
+    Units {
+        zero: layouts::unread(),
+        one: layouts::unread(),
+    }
+}
+
 // A run, once the buffers of the layouts are known to be long enough.
 fn run(
     host: &mut [u8],
@@ -86,9 +98,9 @@ fn run(
         record1.new outcome.new in
         called_of result after ≡ made c first allowance before }
 {
-    let zero = layouts::unit_in(record0);
-    let one = layouts::unit_in(record1);
-    let mut units = Units { zero, one };
+    let mut units = unread_units();
+    layouts::unit_in(record0, &mut units.zero);
+    layouts::unit_in(record1, &mut units.one);
     let done = board::run(
         host, image0, image1, events, &mut units, c, first, allowance,
     );
@@ -267,9 +279,10 @@ pub extern "C" fn vsmd_inspect(
     if record1.len() < RECORD_LEN {
         return CallRefusal::Record1Short.code();
     }
-    let zero = layouts::unit_in(record0);
-    let one = layouts::unit_in(record1);
-    let part = board::part_of(&Units { zero, one }, long0, long1, unit, place);
+    let mut units = unread_units();
+    layouts::unit_in(record0, &mut units.zero);
+    layouts::unit_in(record1, &mut units.one);
+    let part = board::part_of(&units, long0, long1, unit, place);
     *image = image_number(part.unit);
     *at = part.at;
     *bytes = part.bytes;

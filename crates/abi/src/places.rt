@@ -1,11 +1,14 @@
 // Where a sector of a unit stands in its image, and how long that image has to be, by the bytes of a record alone.
 // What counts as initialized and where a sector lands is unit's, what a place is in bytes geometry's: here a record is read and they are asked.
 // No image and no other unit is looked at. No byte of the record is stored, and a number of the caller's only where there is one to tell.
-ghost use Rattle.std.specs.Prelude.{◌≡◌, ◌<◌};
+ghost use Rattle.std.specs.Prelude.{◌≡◌, ◌≤◌, ◌<◌, length};
 ghost use Rattle.geometry.specs.Drive.{drive_sectors};
 ghost use Rattle.unit.specs.declared.Spot.{Spot};
 ghost use Rattle.abi.specs.Places.{addressed_by, located_of, locating, needed_of, needing, numbered_in, standing};
-ghost use Rattle.abi.specs.Readings.{lands_as, reading};
+ghost use Rattle.abi.specs.Readings.{lands_as, reading, with_unit};
+ghost use Rattle.abi.specs.Unread.{nothing_read};
+ghost use Rattle.unit.specs.Standing.{table};
+ghost use Rattle.wire.specs.Promise.{Says};
 
 use crate::{CallRefusal, RECORD_LEN, layouts};
 use geometry::{Address, Geometry, VolumeNumber};
@@ -18,16 +21,21 @@ pub(crate) enum Wanted {
     Addressed(Address),
 }
 
-// Reads a record, with its tracks that count: a unit that counts as initialized, or why there is none.
-fn read(record: &[u8]) -> Result<Unit, CallRefusal>
-    ensures { result ≡ reading «record».now }
+// Whether some bytes are as many as a record has.
+fn holds_record(record: &[u8]) -> bool
+    ensures { Says result (276 ≤ length «record».now) }
 {
-    if record.len() < RECORD_LEN {
-        return Err(CallRefusal::Record0Short);
-    }
-    let u = layouts::unit_in(record);
+    RECORD_LEN <= record.len()
+}
+
+// Reads a record that is long enough, with its tracks that count, into a unit of which nothing was read: one that counts as initialized, or why there is none.
+fn read(record: &[u8], u: &mut Unit) -> Result<(), CallRefusal>
+    requires { (276 ≤ length «record».now) × (table u.old ≡ nothing_read) }
+    ensures { with_unit result u.new ≡ reading «record».now }
+{
+    layouts::unit_in(record, u);
     if u.counts_as_initialized() {
-        Ok(u)
+        Ok(())
     } else {
         Err(CallRefusal::NotInitialized)
     }
@@ -84,8 +92,12 @@ fn locate(record: &[u8], wanted: Wanted, place: &mut u64, first: &mut u64, mark:
         locating (lands_as wanted) «record».now
         (located_of 0 place.old first.old mark.old) }
 {
-    match read(record) {
-        Ok(u) => stand(u.geometry(), lands(&u, wanted), place, first, mark),
+    if !holds_record(record) {
+        return CallRefusal::Record0Short.code();
+    }
+    let mut u = layouts::unread();
+    match read(record, &mut u) {
+        Ok(()) => stand(u.geometry(), lands(&u, wanted), place, first, mark),
         Err(refusal) => refusal.code(),
     }
 }
@@ -142,10 +154,15 @@ pub extern "C" fn vsmd_sector_at(
 pub extern "C" fn vsmd_image_need(record: &[u8], bytes: &mut u64) -> u32
     ensures { needed_of result bytes.new ≡ needing «record».now bytes.old }
 {
-    let u = match read(record) {
-        Ok(u) => u,
-        Err(refusal) => return refusal.code(),
-    };
-    *bytes = u.geometry().need();
-    0
+    if !holds_record(record) {
+        return CallRefusal::Record0Short.code();
+    }
+    let mut u = layouts::unread();
+    match read(record, &mut u) {
+        Ok(()) => {
+            *bytes = u.geometry().need();
+            0
+        }
+        Err(why) => why.code(),
+    }
 }

@@ -10,7 +10,7 @@ ghost use Rattle.abi.specs.Unread.{filled_in};
 ghost use Rattle.wire.proofs.Decided.{in_memory?};
 ghost use Rattle.wire.specs.Storing.{written};
 
-use crate::layouts;
+use crate::{layouts, unread_units};
 use answers::{Refusal, RunAnswer, block_number};
 use board::{Stepped, Units};
 use unit::Controller;
@@ -66,9 +66,9 @@ pub(crate) fn step(
         record1.new stepped.new in
         called_of result after ≡ ite (in_memory? host.old at 28) (stepped_once c at i before) (called_of block_bad before) }
 {
-    let zero = layouts::unit_in(record0);
-    let one = layouts::unit_in(record1);
-    let mut units = Units { zero, one };
+    let mut units = unread_units();
+    layouts::unit_in(record0, &mut units.zero);
+    layouts::unit_in(record1, &mut units.one);
     let done = board::run_one(host, image0, image1, events, &mut units, c, at, i);
     match done {
         Some(s) => {

@@ -12,7 +12,7 @@ pub use chain::{Count, Outcome, Stepped, run, run_one};
 pub use inspection::{Part, inspect, part_of};
 
 // The two units.
-#[derive(Drop)]
+#[derive(Clone, Copy)]
 pub struct Units {
     pub zero: Unit,
     pub one: Unit,

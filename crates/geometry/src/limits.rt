@@ -1,11 +1,17 @@
 // Whether a geometry is inside its limits: the one test of them.
 ghost use Rattle.std.specs.Prelude.{◌⊎◌, ◌≤◌};
 ghost use Rattle.geometry.specs.declared.VolumeNumber.TheVariants.{Zero, One};
-ghost use Rattle.geometry.specs.Drive.{end, start, volume};
+ghost use Rattle.geometry.specs.Drive.{B, C, S, end, start, volume};
 ghost use Rattle.geometry.specs.Limits.{SizesWithin, VolumesWithin, Within};
 ghost use Rattle.wire.specs.Promise.{Says};
 
 use crate::Geometry;
+
+fn lies_between(n: u16, least: u16, most: u16) -> bool
+    ensures { Says result ((least ≤ n) × (n ≤ most)) }
+{
+    (least..=most).contains(&n)
+}
 
 impl Geometry {
     // Every number that a record or a UIB can hold gets its answer.
@@ -18,10 +24,40 @@ impl Geometry {
     fn sizes_are_within(self) -> bool
         ensures { Says result (SizesWithin self) }
     {
-        (Geometry::CYLINDERS_LEAST..=Geometry::CYLINDERS_MOST).contains(&self.cylinders)
-            && (Geometry::SECTORS_LEAST..=Geometry::SECTORS_MOST).contains(&self.sectors_a_track)
-            && (Geometry::BYTES_LEAST..=Geometry::BYTES_MOST).contains(&self.bytes_a_sector)
+        self.cylinders_are_within()
+            && self.sectors_are_within()
+            && self.bytes_are_within()
             && self.bytes_a_sector % 2 == 0
+    }
+
+    fn cylinders_are_within(self) -> bool
+        ensures { Says result ((1 ≤ C self) × (C self ≤ 4096)) }
+    {
+        lies_between(
+            self.cylinders,
+            Geometry::CYLINDERS_LEAST,
+            Geometry::CYLINDERS_MOST,
+        )
+    }
+
+    fn sectors_are_within(self) -> bool
+        ensures { Says result ((1 ≤ S self) × (S self ≤ 255)) }
+    {
+        lies_between(
+            self.sectors_a_track,
+            Geometry::SECTORS_LEAST,
+            Geometry::SECTORS_MOST,
+        )
+    }
+
+    fn bytes_are_within(self) -> bool
+        ensures { Says result ((64 ≤ B self) × (B self ≤ 4096)) }
+    {
+        lies_between(
+            self.bytes_a_sector,
+            Geometry::BYTES_LEAST,
+            Geometry::BYTES_MOST,
+        )
     }
 
     #[tactic(auto, using(crate::proofs::Ends::within_of_parts, crate::proofs::Ends::parts_of_within))]

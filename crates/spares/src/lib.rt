@@ -48,7 +48,12 @@ fn is_one_of(table: &[u32; 64], m: usize, t: u32) -> bool
     requires { m ≤ 64 }
     ensures { Says result (OneOf m table.now t) }
 {
-    table[..m].iter().any(|&k| k == t)
+    for i in 0..m {
+        if table[i] == t {
+            return true;
+        }
+    }
+    false
 }
 
 // Whether no two of the first m tracks of a table are the same.
@@ -64,7 +69,7 @@ fn all_are_on_drive(table: &[u32; 64], m: usize, g: Geometry) -> bool
     requires { m ≤ 64 }
     ensures { Says result ((i : ℕ) → i < m → TrackOn g (get_or table.now i 0)) }
 {
-    table[..m].iter().all(|&t| is_on_drive(g, t))
+    (0..m).all(|i| is_on_drive(g, table[i]))
 }
 
 // Whether a table of so many pairs is good.

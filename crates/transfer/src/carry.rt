@@ -9,6 +9,7 @@ ghost use Rattle.unit.specs.Standing.{geometry};
 use crate::reach::run_at;
 use geometry::Sector;
 use unit::{Span, Unit};
+use wire::lesser;
 
 // Where a transfer stands on the disk: the image's byte, how many bytes follow in a row, and the sectors done with them.
 #[derive(Clone, Copy)]
@@ -94,7 +95,7 @@ fn carry_piece(
     let mut done = 0;
     while done < n {
         let r = ready(u, span, c);
-        let bytes = r.left.min((n - done) as u64);
+        let bytes = lesser(r.left, (n - done) as u64);
         copy_run(
             host,
             at + done,
@@ -139,12 +140,12 @@ pub(crate) fn carry(
         next: 0,
     };
     let mut done = 0;
-    for (bytes, at) in lengths.iter().zip(addresses) {
+    for i in 0..lengths.len() {
         if done == all {
             break;
         }
-        let n = u64::from(*bytes).min(all - done);
-        let at = *at as usize;
+        let n = lesser(u64::from(lengths[i]), all - done);
+        let at = addresses[i] as usize;
         c = carry_piece(host, image, u, span, to_host, c, at, n as usize);
         done += n;
     }

@@ -35,9 +35,9 @@ fn pieces_fit(lengths: &[u32], addresses: &[u32], long: u64, bytes: u64) -> bool
     ensures { Says result (PiecesFit long bytes lengths.now addresses.now) }
 {
     let mut left = bytes;
-    for (n, at) in lengths.iter().zip(addresses) {
-        let n = u64::from(*n);
-        if long < u64::from(*at) + n {
+    for i in 0..lengths.len() {
+        let n = u64::from(lengths[i]);
+        if long < u64::from(addresses[i]) + n {
             return false;
         }
         left = left.saturating_sub(n);

@@ -38,10 +38,12 @@ fn readable(image: &[u8], at: usize, n: usize, heeds: bool) -> usize
     if !heeds {
         return n;
     }
-    image[at..at + n]
-        .iter()
-        .position(|mark| *mark != 0)
-        .unwrap_or(n)
+    for i in 0..n {
+        if image[at + i] != 0 {
+            return i;
+        }
+    }
+    n
 }
 
 // What n sectors in a row come to, where so many of their marks let a transfer pass.

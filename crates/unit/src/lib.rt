@@ -93,8 +93,8 @@ pub struct Record {
     holder: Option<Controller>,
 }
 
-// A unit: its record, and its table of bad tracks, of which so many pairs count as the record says. It is lent and not copied: a table is long.
-#[derive(Drop)]
+// A unit: its record, and its table of bad tracks, of which so many pairs count as the record says. It is lent where it is used: a table is long.
+#[derive(Clone, Copy)]
 pub struct Unit {
     pub value: Record,
     pub tracks: [u32; 64],

@@ -52,8 +52,8 @@ pub fn put32(bytes: &mut [u8], at: usize, value: u32)
     bytes[at + 3] = last;
 }
 
-// Copies the n bytes of `bytes` from `from` on over those of `into` from `to` on. The optimizer moves many bytes a turn, by `memcpy`; the library's
-// `copy_from_slice` would want `memmove` of whoever links the archive, and does not compile for a processor of 32 bits.
+// Copies the n bytes of `bytes` from `from` on over those of `into` from `to` on. The loop has no test but its own, which is what the optimizer needs
+// to move many bytes a turn; the library's `copy_from_slice` would want `memmove` of whoever links the archive, and does not compile for a processor of 32 bits.
 pub fn copy(bytes: &[u8], from: usize, into: &mut [u8], to: usize, n: usize)
     requires { (from + n ≤ length bytes.now) × (to + n ≤ length into.old) }
     ensures { into.new ≡ copied bytes.now from into.old to n }

@@ -4,8 +4,11 @@ use Rattle.abi.proofs.Called.{made_is}
 use Rattle.abi.specs.Calls.{lent_of}
 use Rattle.abi.proofs.run.Goals as goal
 
-pub unit_in-one-requires : goal.unit_in-one-requires
-unit_in-one-requires c = c.requires.1.0
+pub unit_in-requires : goal.unit_in-requires
+unit_in-requires c = (c.requires.0, c.unread_units-units.ensures.0)
+
+pub unit_in-requires-2 : goal.unit_in-requires-2
+unit_in-requires-2 c = (c.requires.1.0, c.unread_units-units.ensures.1)
 
 pub leave_record-requires : goal.leave_record-requires
 leave_record-requires c = c.requires.0
@@ -22,5 +25,5 @@ returns c =
     rw c.from.ensures (
     made_is a.c a.first a.allowance
     (lent_of a.host.now a.image0.now a.image1.now a.events.now a.record0.now a.record1.now a.outcome.now)
-    (record { zero = c.unit_in-zero.result; one = c.unit_in-one.result }) c.unit_in-zero.ensures c.unit_in-one.ensures c.run-done.ensures c.leave_record.ensures c.leave_record-2.ensures
+    (record { zero = c.unit_in.new.u; one = c.unit_in-2.new.u }) c.unit_in.ensures c.unit_in-2.ensures c.run-done.ensures c.leave_record.ensures c.leave_record-2.ensures
     c.number-number.ensures c.put_outcome.ensures)

@@ -16,6 +16,12 @@ returns-then-record1-lt-RECORD_LEN c =
     let a = c.args in
     rw c.code-then-record1-lt-RECORD_LEN.ensures (sym (inspection_refused_1 a.record0.now a.record1.now a.long0 a.long1 a.unit a.place _ _ _ (omega arith) (omega arith)))
 
+pub unit_in-requires : goal.unit_in-requires
+unit_in-requires c = (omega arith, c.unread_units-units.ensures.0)
+
+pub unit_in-requires-2 : goal.unit_in-requires-2
+unit_in-requires-2 c = (omega arith, c.unread_units-units.ensures.1)
+
 pub returns : goal.returns
 returns c =
     let a = c.args in
@@ -24,7 +30,7 @@ returns c =
       inspection_made a.record0.now a.record1.now a.long0 a.long1 a.unit a.place a.image.now a.at.now a.bytes.now (omega arith) (omega arith),
       c.image_number.ensures,
       c.part_of-part.ensures,
-      c.unit_in-zero.ensures,
-      c.unit_in-one.ensures,
+      c.unit_in.ensures,
+      c.unit_in-2.ensures,
       part,
     )

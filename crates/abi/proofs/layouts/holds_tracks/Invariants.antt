@@ -6,4 +6,4 @@ use Rattle.wire.specs.Words.{be32}
 use Rattle.abi.proofs.layouts.holds_tracks.Given as goal
 
 abbrev pub invariant-loop-k : goal.invariant-loop-k
-invariant-loop-k l = (i : ℕ) → i < l.k → be32 l.bytes (20 + 4 * i) ≡ get_or l.track-items i 0
+invariant-loop-k l = (i : ℕ) → i < l.k → be32 l.bytes (20 + 4 * i) ≡ get_or l.table i 0

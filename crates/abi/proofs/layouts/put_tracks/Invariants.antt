@@ -6,4 +6,4 @@ use Rattle.wire.specs.Storing.{written}
 use Rattle.abi.proofs.layouts.put_tracks.Given as goal
 
 abbrev pub invariant-loop-i : goal.invariant-loop-i
-invariant-loop-i l = l.bytes ≡ written l.initial.bytes 20 (track_bytes (take l.i l.track-items))
+invariant-loop-i l = l.bytes ≡ written l.initial.bytes 20 (track_bytes (take l.i l.table))

@@ -4,9 +4,8 @@ use Prim.Native.Nat.{◌*◌, min}
 use mathlib.Core.Path.{◌≡◌, refl}
 use native.Mathlib.Numerals.{add-one}
 use native.Mathlib.Omega.{arith}
-use lib.ListN.{take}
 use Rattle.abi.specs.Layouts.{words_from}
-use Rattle.abi.proofs.Tracks.{head_read, one_more_read}
+use Rattle.abi.proofs.Tracks.{one_more_read}
 use Rattle.wire.specs.Storing.{written}
 use Rattle.abi.proofs.layouts.read_tracks.Goals as goal
 
@@ -18,11 +17,9 @@ pub loop-i-preserved : goal.loop-i-preserved
 loop-i-preserved c =
     let a = c.args in
     let now = c.loop-i in
-    rw (now.invariant, c.be32.ensures, add-one now.i) (one_more_read (take (2 * c.in_room-count.result) a.table.now) a.bytes.now now.i)
+    rw (now.invariant, c.be32.ensures, add-one now.i) (one_more_read a.table.now a.bytes.now now.i)
 
 pub returns : goal.returns
 returns c =
-    let a = c.args in
-    let done : c.loop-i.i ≡ 2 * min a.pairs 32 = omega arith in
-    let many : 2 * c.in_room-count.result ≡ 2 * min a.pairs 32 = omega arith in
-    rw (c.loop-i.invariant, done, many) (head_read a.table.now a.bytes.now (2 * min a.pairs 32) (omega arith))
+    let done : c.loop-i.i ≡ 2 * min c.args.pairs 32 = omega arith in
+    rw done at c.loop-i.invariant

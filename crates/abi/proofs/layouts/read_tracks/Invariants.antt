@@ -5,4 +5,4 @@ use Rattle.wire.specs.Storing.{written}
 use Rattle.abi.proofs.layouts.read_tracks.Given as goal
 
 abbrev pub invariant-loop-i : goal.invariant-loop-i
-invariant-loop-i l = l.track-items ≡ written l.initial.track-items 0 (words_from l.bytes 20 l.i)
+invariant-loop-i l = l.table ≡ written l.initial.table 0 (words_from l.bytes 20 l.i)

@@ -6,4 +6,4 @@ use Rattle.abi.proofs.layouts.unit_in.Goals as goal
 
 pub returns : goal.returns
 returns c =
-    read_is c.args.bytes.now (bare c.record-value.result) c.record-value.ensures c.pairs.ensures c.read_tracks.ensures
+    read_is c.args.bytes.now (bare c.record-u.result) c.record-u.ensures c.pairs.ensures (rw c.requires.1 at c.read_tracks.ensures)

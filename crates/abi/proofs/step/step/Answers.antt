@@ -4,8 +4,11 @@ use Rattle.abi.specs.Calls.{lent_of}
 use Rattle.abi.proofs.Stepping.{none_is, once_is}
 use Rattle.abi.proofs.step.step.Goals as goal
 
-pub unit_in-one-requires : goal.unit_in-one-requires
-unit_in-one-requires c = c.requires.1.0
+pub unit_in-requires : goal.unit_in-requires
+unit_in-requires c = (c.requires.0, c.unread_units-units.ensures.0)
+
+pub unit_in-requires-2 : goal.unit_in-requires-2
+unit_in-requires-2 c = (c.requires.1.0, c.unread_units-units.ensures.1)
 
 pub leave-requires : goal.leave-requires
 leave-requires c =
@@ -17,7 +20,7 @@ returns-in-Some c =
     let a = c.args in
     once_is a.c a.at a.i
     (lent_of a.host.now a.image0.now a.image1.now a.events.now a.record0.now a.record1.now a.stepped.now)
-    (record { zero = c.unit_in-zero.result; one = c.unit_in-one.result }) _ _ c.run_one-done.new.units c.unit_in-zero.ensures c.unit_in-one.ensures
+    (record { zero = c.unit_in.new.u; one = c.unit_in-2.new.u }) _ _ c.run_one-done.new.units c.unit_in.ensures c.unit_in-2.ensures
     c.in-Some.is c.run_one-done.ensures c.leave.ensures.zero c.leave.ensures.one c.leave.ensures.told
 
 pub returns-in-None : goal.returns-in-None
@@ -26,4 +29,4 @@ returns-in-None c =
     rw (c.from.ensures, c.number.ensures) (
     none_is a.c a.at a.i
     (lent_of a.host.now a.image0.now a.image1.now a.events.now a.record0.now a.record1.now a.stepped.now)
-    (record { zero = c.unit_in-zero.result; one = c.unit_in-one.result }) _ c.run_one-done.new.units c.requires.1.1.1 c.in-None.is c.run_one-done.ensures)
+    (record { zero = c.unit_in.new.u; one = c.unit_in-2.new.u }) _ c.run_one-done.new.units c.requires.1.1.1 c.in-None.is c.run_one-done.ensures)

@@ -29,7 +29,7 @@ copy_run-requires c =
     let pre = c.requires in
     let inv = c.loop-done.invariant in
     let r = c.ready-r in
-    let n = c.min-bytes in (
+    let n = c.lesser-bytes in (
       omega (arith, pre.memory, inv),
       rw (← inv.1.1.0) at
           (run_held a.u.now a.span (length a.image.now) _ n.result r.result pre.held r.ensures (omega arith) (omega (arith, r.ensures.some))),
@@ -39,7 +39,7 @@ pub on-c-requires : goal.on-c-requires
 on-c-requires c =
     let a = c.args in
     let r = c.ready-r in
-    let n = c.min-bytes in
+    let n = c.lesser-bytes in
     let held =
     run_held a.u.now a.span (length a.image.now) _ n.result r.result c.requires.held r.ensures (omega arith)
     (omega (arith, r.ensures.some)) in
@@ -51,7 +51,7 @@ loop-done-preserved c =
     let pre = c.requires in
     let now = c.loop-done in
     let r = c.ready-r in
-    let n = c.min-bytes in
+    let n = c.lesser-bytes in
     let done = c.copy_run in
     let held =
     run_held a.u.now a.span (length a.image.now) _ n.result r.result pre.held r.ensures (omega arith)
